@@ -42,9 +42,9 @@ def blocks_of(text):
 
 
 def told(command, shop):
-    """What a command prints, but for what `solve` says of the run that was first and its time."""
+    """What a command prints, but for what `solve` and `why` say of their runs and their time."""
     done = run(["sh", "-c", f"{{ {command}\n}} 2>&1"], shop)
-    return [line for line in done.out.splitlines() if not line.startswith("solve: ")]
+    return [line for line in done.out.splitlines() if not line.startswith(("solve: ", "why: "))]
 
 
 def try_console(tally, name, lines, shop):

@@ -108,7 +108,7 @@ def proved_try(shop):
     shop.note("./prove where a crate is not proved", is_said and not is_left, done)
     done = shop.prove()
     shop.note("./prove", done.status == 0 and not done.out and read(shop.program) == read(BBEQ)
-              and "bb_net is proved" in done.err and "bb_run_tests" not in done.err, done)
+              and "bb_net is proved" in done.err and "bb_test_runs" not in done.err, done)
     done = shop.bbeq()
     shop.note("./bbeq says nothing of a proved program", shop.is_answer(done), done)
     shop.note("./prove leaves no unproved program", shop.files() == (["prove.log", "proved"], []))

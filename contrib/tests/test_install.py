@@ -100,7 +100,7 @@ def build_part(tally, folder):
     done = run([install, prefix], env=env)
     tally.note("install proves what is not proved",
                done.status == 0 and done.out.split("\n")[0] == f"{program}-proved"
-               and "bb_net is proved" in done.err and "bb_run_tests" not in done.err, done.why())
+               and "bb_net is proved" in done.err and "bb_test_runs" not in done.err, done.why())
     done = run([install, prefix], env=env)
     tally.note("install takes what is proved",
                done.status == 0 and os.path.exists(program) and not done.err, done.why())

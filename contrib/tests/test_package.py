@@ -7,7 +7,7 @@ import unittest
 from tests.tries import HERE, TOP, Tries, read, run, script
 
 # Commands of those who change bbeq, which are not installed.
-OF_A_CHECKOUT = ("believed", "check", "edits", "lemmas", "minutes", "promises")
+OF_A_CHECKOUT = ("believed", "check", "crate-map", "edits", "lemmas", "minutes", "promises")
 PAGE = os.path.join(TOP, "docs", "bbeq-tools.1")
 
 

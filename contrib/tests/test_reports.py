@@ -1,6 +1,6 @@
 """Reports of small pairs against what `evaluate` finds by trying everything: the pairs by hand,
-which are rows of crates/bb_cases, and $CHECK_PAIRS pairs that are drawn. What the crates for tests
-have from `evaluate` is found anew."""
+which are rows of crates/bb_test_cases, and $CHECK_PAIRS pairs that are drawn. What the crates for
+tests have from `evaluate` is found anew."""
 import os
 import random
 import re
@@ -17,7 +17,7 @@ from tests.test_rows import all_rows
 from tests.tries import TOP, Tries, bbeq, example, is_told, read, run, script, write
 
 OR = "or with the tables "
-DESIGNS = os.path.join(TOP, "crates", "bb_design_tests", "src", "designs.rt")
+DESIGNS = os.path.join(TOP, "crates", "bb_test_designs", "src", "designs.rt")
 DRAWN = int(os.environ.get("CHECK_PAIRS", "300"))
 STATUSES = {"verdict repairable": 0, "verdict error": 1, "verdict open": 3}
 UNFINISHED = re.compile(r"^rung (\w+) (nodes|clauses)$", re.MULTILINE)

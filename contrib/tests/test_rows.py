@@ -1,4 +1,4 @@
-"""The rows of crates/bb_cases, each run with real files, and the texts of examples among them
+"""The rows of crates/bb_test_cases, each run with real files, and the texts of examples among them
 against the files of examples/.
 
 In the gate a program runs the same rows over files in memory. docs/ARCHITECTURE.md says how rows
@@ -9,7 +9,7 @@ import re
 
 from tests.tries import BBEQ, TOP, Tries, run
 
-CASES = os.path.join(TOP, "crates", "bb_cases")
+CASES = os.path.join(TOP, "crates", "bb_test_cases")
 PRINTED = re.compile(r"row ([^\n]*)\n(.*?)status (\d+)\n\n(?=row |\Z)", re.DOTALL)
 
 
@@ -52,7 +52,7 @@ def all_rows():
     rows = [row for place in read_exactly("args").split() for row in rows_of(place)]
     printed = PRINTED.findall(read_exactly("stdout"))
     if [row.name for row in rows] != [name for name, _, _ in printed]:
-        raise ValueError("the rows of crates/bb_cases/stdout are not those of data/")
+        raise ValueError("the rows of crates/bb_test_cases/stdout are not those of data/")
     for row, (_, report, status) in zip(rows, printed):
         row.report, row.status = report, int(status)
         row.files = {name: "\n".join(lines) for name, lines in row.files.items()}

@@ -18,7 +18,7 @@ ARM = re.compile(r"^(?:Err\()?[\w:]*(?:NoMemory|OutOfMemory)\)?(?: if [^|]*)? =>
 
 def sources():
     for crate in sorted(os.listdir(CRATES)):
-        if crate.endswith("_tests"):
+        if crate.startswith("bb_test_"):
             continue
         for below, _, names in os.walk(os.path.join(CRATES, crate, "src")):
             yield from (os.path.join(below, name) for name in sorted(names) if name.endswith(".rt"))

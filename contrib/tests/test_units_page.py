@@ -56,7 +56,7 @@ class Account(unittest.TestCase):
                          "try <code>--nodes &lt;1&gt;</code> <strong>now</strong>")
         self.assertEqual(without_references("4. Fewer outputs, see below."), "Fewer outputs.")
         self.assertIn("on line 4 no token", on_refusal("refused impl token line 4")[0])
-        for line, word in (("refused usage", "words"), ("unread spec", "read"),
+        for line, word in (("refused usage", "arguments"), ("unread spec", "read"),
                            ("refused pair port b", "port"), ("refused pair pins", "2,048"),
                            ("refused spec notop", "instantiated"), ("refused cnf count", "clauses"),
                            ("refused impl regtwice q", "text")):

@@ -17,10 +17,10 @@ TOP = CRATES / "bb_ladder" / "src" / "running.rt"
 OUTSIDE = CRATES / "bb_outside" / "src"
 LAW = re.compile(r"^pub fn \w+\(\)\n((?:    .*\n|\n)*?)(?=\{)", re.M)
 CLAUSE = re.compile(r"( *ensures (\w+) \{(.*?)\}\n)(?=\s*(?:ensures|\{|//|\n))", re.S)
-STATUSES = {"0": ["repairable", "fit"], "1": ["error", "fit"],
-            "2": ["refused", "stays_refused"], "3": ["left_open", "fit"],
+STATUSES = {"0": ["repairable", "fit"], "1": ["error", "fit", "shown"],
+            "2": ["refused", "stays_refused"], "3": ["left_open", "fit", "open_report"],
             "rup": ["refuted_yes", "refuted_no", "refuted"],
-            "answers": ["whole", "front", "decided", "stays_open", "open_compares", "given",
+            "answers": ["whole", "prefix", "decided", "stays_open", "open_compares", "given",
                         "reads_nothing"]}
 # What the program hands to `run`: two traits, and what the objects that it makes say of themselves.
 MAIN = {"files.rt": r"^pub trait Files .*?^}", "sink.rt": r"^pub trait Sink .*?^}",
@@ -65,7 +65,7 @@ def wrong_folders():
     walk, _ = walk_of([name for name, _, _ in clauses(TOP.read_text())])
     believed = {walk.files[module].path for module, blocks in walk.met.items() if blocks}
     rows = dict(line.split(":") for line in (CRATES.parent / "crates.txt").read_text().splitlines()
-                if line[0] != "#")
+                if line.strip() and line[0] != "#")
     crates = [CRATES / name for name in sorted(below("bbeq", rows))]
     laws = law_files(crates)
     for crate in crates:

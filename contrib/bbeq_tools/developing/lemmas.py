@@ -16,7 +16,7 @@ WORD = re.compile(r"[^\s(){}\[\],.:;]+|[(){}\[\],.:;]")
 BINDER = re.compile(r"[({]([^(){}:]+) : |λ ([^.(){}:]+)\.")
 CRATE = re.compile(r"\bbb_\w+")
 # Facts of these crates say nothing of designs: they are the place for what all may cite.
-BASE = ("bb_bits", "bb_lists")
+BASE = ("bb_bits", "bb_lemmas")
 NO_LEMMA = ("Goals.antt", "Given.antt", "Lib.antt", "Invariants.antt")
 
 
@@ -87,7 +87,7 @@ def all_lemmas(crates):
 def command():
     parser = Words(prog="lemmas", description=__doc__.split("\n\n")[0])
     parser.add_argument("--plain", action="store_true",
-                        help="only those of bits, lists and numbers, which bb_lists can have")
+                        help="only those of bits, lists and numbers, which bb_lemmas can have")
     parser.add_argument("--least", type=int, default=2, metavar="N",
                         help="only those in N crates or more (2)")
     words = parser.parse_args()

@@ -62,15 +62,24 @@ def on_repairable(words: Words, boxes: int) -> Advice:
                      "same words and ", code("--fill"), ".")])
 
 
+SEVERAL = ("No single vector shows it: at each the boxes could be right, and no one function of "
+           "their input pins is right at all.")
+UNSEEN = "The checks that show a vector were left out of this run, so a single vector may show it."
+
+
 def on_error(account: Account, words: Words, boxes: int) -> Advice:
     whose = "that are the same in all boxes of a module " if words.shared else ""
     if account.vectors:
-        _, named, _ = account.vectors[0]
+        check, named, _ = account.vectors[0]
         place = (joined(["at ", "the next state of " if named[0] == "next" else "output ",
                          code(named[1])]) if named else "at some output or next state")
         meaning = sentence("At the vector below the two designs differ ", place, ", whatever the "
                            "boxes contain." if boxes else ".")
-        steps = [sentence("Follow the red wires of the drawing back from the output: the mistake "
+        steps = [sentence("No wire is red, since the output depends on the boxes: it is wrong "
+                          "whatever they give, as where a signal of a box meets its own "
+                          "complement. Follow the dashed wires back to where they meet.")
+                 if check == "local" else
+                 sentence("Follow the red wires of the drawing back from the output: the mistake "
                           "is among the gates that they pass, or these read the wrong signal.")
                  if named else
                  sentence("Find the outputs that cannot be right together at this vector: ",
@@ -79,14 +88,16 @@ def on_error(account: Account, words: Words, boxes: int) -> Advice:
                           command("wave", words, words.spec, words.impl), ".")]
         return Advice("There is an error outside the boxes" if boxes else "The two designs differ",
                       [meaning], steps)
-    meaning = sentence(f"No contents {whose}make the two designs agree at all vectors. No single "
-                       "vector shows it: at each the boxes could be right, and no one function of "
-                       "their input pins is right at all.")
+    meaning = sentence(f"No contents {whose}make the two designs equivalent. "
+                       + (SEVERAL if "rung output none" in account.lines else UNSEEN))
     steps = [sentence("Most often a box lacks a pin: something that its output has to depend on "
                       "does not reach it. Compare what the outputs depend on with the pins of the "
                       "boxes, below."),
              sentence("Find the few outputs that already contradict each other: ",
                       command("why", words, words.spec, words.impl), ".")]
+    if "rung output none" not in account.lines:
+        steps.insert(0, sentence("Look for one vector: the same words with ", code("--to output"),
+                                 " and without ", code("--from"), "."))
     if words.shared:
         steps.insert(0, sentence("Run the same words without ", code("--shared"), ": if the "
                                  "verdict is then ", code("repairable"), ", boxes of one module "
@@ -115,7 +126,13 @@ def vectors_held(clauses: int, given: int) -> str:
     held = DEFAULT_CLAUSES // max(1, clauses)
     if given < 60 and held >= 2 ** given:
         return f"all {2 ** given:,} vectors"
-    return f"about {held:,} of 2^{given} vectors"
+    return f"{f'about {held:,}' if held else 'not one'} of 2^{given} vectors"
+
+
+def has_siblings(side: Side) -> bool:
+    """Whether two boxes are instances of one module, which --shared is for."""
+    modules = [box.module for box in side.flat.boxes]
+    return len(set(modules)) < len(modules)
 
 
 def on_undecided(account: Account, sides: List[Side]) -> Advice:
@@ -126,7 +143,9 @@ def on_undecided(account: Account, sides: List[Side]) -> Advice:
         meaning.append(size_of(sides[1]))
     meaning.append(sentence("What to do is from docs/REPORT.md, ",
                             "“Where the verdict is open”, which describes each."))
-    steps = [marked(text) for rung in rungs for text in on_open(rung)]
+    can_share = not sides or has_siblings(sides[1])
+    steps = [marked(text) for rung in rungs for text in on_open(rung)
+             if can_share or "`--shared`" not in text]
     steps += [marked(without_references(line[4:])) for line in account.head
               if line.startswith("try ")]
     return Advice("Open", meaning, steps)

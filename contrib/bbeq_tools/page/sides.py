@@ -110,7 +110,7 @@ class Side:
 
     def numbers(self) -> Numbers:
         flat, cells = self.flat, 0
-        clauses = 2 + len(self.given()) + len(flat.outputs)
+        clauses = 2 + len(self.given()) + len(flat.outputs) + len(flat.states)
         for source in [*flat.sources.values(), *(stored[2] for stored in flat.stored.values())]:
             if isinstance(source, Cell):
                 counts = source.counts()

@@ -62,7 +62,8 @@ class Cut:
             ports.append(name)
             lines.append(f"{direction} {shape}{name};")
 
-        stored = {name for name, _ in self.registers}
+        # In the order of the text, which `gates` chose: a set would vary from run to run.
+        stored = list(dict.fromkeys(name for name, _ in self.registers))
         for name in self.top.ports:
             net = self.top.nets[name]
             if net.direction == "input":
@@ -94,7 +95,7 @@ class Cut:
             self.output(name, index, stored, port, lines)
         return ports, lines
 
-    def output(self, name: str, index: Index, stored: Set[str], port: Callable[..., None],
+    def output(self, name: str, index: Index, stored: List[str], port: Callable[..., None],
                lines: List[str]) -> None:
         """An output of one bit. That of a register, or of a net without a range, is the net of that
         name itself."""

@@ -49,8 +49,11 @@ def no_vector(lines):
     """Why a report shows no vector."""
     if verdict(lines) != "error":
         return f"the verdict is {verdict(lines)}, so there is no wrong vector to show"
-    return ("the report shows no vector, since no single one is wrong whatever the boxes give: "
-            "`why` shows several that are wrong together")
+    if "rung output none" in lines:
+        return ("the report shows no vector, since no single one is wrong whatever the boxes give: "
+                "`why` shows several that are wrong together")
+    return ("the report shows no vector, since the checks that show one were left out: bbeq with "
+            "`--to output` may find one, and `why` shows vectors that are wrong together")
 
 
 class Side:

@@ -79,6 +79,8 @@ class Explained:
         self.vectors = least(self.vectors, lambda left: self.is_wrong(self.kept, left))
         for at in range(1, len(self.vectors)):
             self.draw_near(at)
+        self.vectors = least(self.vectors, lambda left: self.is_wrong(self.kept, left))
+        self.kept = least(self.kept, lambda left: self.is_wrong(left, self.vectors))
 
     def draw_near(self, at):
         """Makes a vector as like the first as it can be."""

@@ -1,5 +1,5 @@
--- What may stand on a written side (IEEE 1364-2005, A.8.5, in a profile): a net, one bit or some bits of a net, or such
--- things side by side.
+-- What may be assigned (IEEE 1364-2005, A.8.5, in a profile): a net, one bit or some bits of a net, or such things side
+-- by side.
 use Rattle.std.specs.Prelude.{Bool, true, false}
 use Rattle.std.specs.List.{list_all}
 use Rattle.bb_ast.specs.Syntax.{Expression}

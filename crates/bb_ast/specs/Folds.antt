@@ -1,5 +1,5 @@
--- Recursion over expressions, once for all. A definition that goes by the form of an expression is a record with one case
--- for each form, in which what the operands gave stands as plain lists, in text order.
+-- Recursion over expressions, once for all. A definition by the form of an expression is a record with one case for
+-- each form, which sees the results of the operands as plain lists, in text order.
 use Rattle.std.specs.Prelude.{ℕ, List, [], ◌∷◌, Bool}
 use Rattle.bb_ast.specs.declared.expr.Op.{Op}
 use Rattle.bb_ast.specs.declared.operators.WordOp.{WordOp}
@@ -21,7 +21,7 @@ pub record Cases (C A : Type 0) : Type 0 where
   pub concat : List C → A
   pub repeat : ℕ → List C → A
 
--- what an expression gives by the cases; an operand e that gives a is told to them as seen e a
+-- what an expression gives by the cases, which see an operand e with the result a as seen e a
 abbrev mutual
   pub fold_by : {C A : Type 0} → (Expression → A → C) → Cases C A → Expression → A
   fold_by seen cases (Net n) = cases.net n
@@ -53,7 +53,7 @@ abbrev mutual
   of_parts seen cases no_part = []
   of_parts seen cases (part e rest) = seen e (fold_by seen cases e) ∷ of_parts seen cases rest
 
--- what an expression gives by the cases, where these see of an operand what it gave
+-- what an expression gives by cases that see the results of operands alone
 abbrev pub fold_expression : {A : Type 0} → Cases A A → Expression → A
 fold_expression = fold_by (λ e a. a)
 

@@ -14,7 +14,7 @@ gate_bytes gates.Xnor = codes "xnor"
 gate_bytes gates.Buf = codes "buf"
 gate_bytes gates.Not = codes "not"
 
--- how many of so many terminals, from the first on, are outputs
+-- how many of n terminals, from the first on, are outputs
 abbrev pub output_count : Gate → ℕ → ℕ
 output_count gates.Buf n = n - 1
 output_count gates.Not n = n - 1

@@ -1,4 +1,4 @@
--- What stands in an expression: the names of nets in text order, also those of which bits are selected.
+-- The names of nets in an expression, in text order, also those of which bits are selected.
 use Rattle.std.specs.Prelude.{ℕ, List, [], ◌∷◌, ◌++◌}
 use Rattle.std.specs.List.{flat_map}
 use Rattle.bb_ast.specs.Syntax.{Expression}
@@ -20,6 +20,6 @@ naming = record {
   repeat = λ k all. flat_map (λ e. e) all;
 }
 
--- the names of an expression, each as often as it stands there
+-- the names of an expression, each as often as it is used there
 abbrev pub names_in : Expression → List (List ℕ)
 names_in = fold_expression naming

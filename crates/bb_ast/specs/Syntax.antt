@@ -1,7 +1,7 @@
--- The syntax of a text as plain data: names are lists of bytes, lists are lists, and nothing tells where a value lies
--- in memory. Two sources are the same exactly where these are equal. A sized number's bits go from the most significant
--- on, the parts of a concatenation too, and a range from the leftmost index to the rightmost (IEEE 1364-2005, 4.3.1, 5.1.14
--- and 7).
+-- The syntax of a text as plain data: names are lists of bytes, lists are lists, and nothing says where a value lies in
+-- memory. Two sources are the same exactly where these are equal. A sized number's bits go from the most significant
+-- on, the parts of a concatenation too, and a range from the leftmost index to the rightmost (IEEE 1364-2005, 4.3.1,
+-- 5.1.14 and 7).
 use Rattle.std.specs.Prelude.{ℕ, List, [], ◌∷◌, Option, Bool}
 use Rattle.bb_ast.specs.declared.expr.Op.{Op}
 use Rattle.bb_ast.specs.declared.operators.WordOp.{WordOp}
@@ -62,7 +62,7 @@ abbrev pub listed_parts : List Expression → Parts
 listed_parts [] = no_part
 listed_parts (x ∷ xs) = part x (listed_parts xs)
 
--- connections: by order, a place without an expression being open, or by the names of ports
+-- connections: by order, where none is an open connection, or by the names of ports
 pub data PlainConns : Type 0 where
   Order : List (Option Expression) → PlainConns
   Named : List (List ℕ × Option Expression) → PlainConns

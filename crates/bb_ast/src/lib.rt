@@ -1,5 +1,6 @@
-//! The syntax of a text: modules, their headers, declarations, gates, instances, registers and expressions.
-//! Types alone: how a text is read is told by the reader above.
+//! The syntax of a text: modules, headers, declarations, gates, instances, registers and expressions. Types and no
+//! reader: names, designs and everything above rest on this crate, so they are proved without the parser, and another
+//! reader of the same syntax, or syntax that is made, changes none of them.
 #![tactic(auto)]
 
 mod expr;

@@ -1,6 +1,7 @@
-//! The operators on words.
+//! The operators that take operands as words. Their levels of precedence (IEEE 1364-2005, table 5-4) are numbers, by
+//! which one rule of the grammar serves all levels.
 
-/// An operator on two words: `+ - == != < <= > >= << >> && ||`, all on unsigned operands.
+/// `+ - == != < <= > >= << >> && ||`, all on unsigned operands.
 #[derive(Clone, Copy, Debug, PartialEq, Eq)]
 pub enum WordOp {
     Plus,
@@ -17,7 +18,7 @@ pub enum WordOp {
     Either,
 }
 
-/// An operator on one word that gives one bit: `! & ~& | ~| ^ ~^`, the last one also written `^~`. `None` is `!`.
+/// `! & ~& | ~| ^ ~^`, the last also written `^~`, each with one bit as result. `None` is `!`: no bit is 1.
 #[derive(Clone, Copy, Debug, PartialEq, Eq)]
 pub enum FoldOp {
     None,

@@ -13,7 +13,7 @@ number_of-below [] = omega arith
 number_of-below (true ∷ bits) = omega (arith, number_of-below bits, pow-suc 2 (length bits))
 number_of-below (false ∷ bits) = omega (arith, number_of-below bits, pow-suc 2 (length bits))
 
--- a bit that is 1 weighs two to the number of bits behind it
+-- a bit that is 1 weighs two to the number of bits after it
 pub number_of-drop : (bits : List Bool) (i : ℕ) (d : Bool) → i < length bits → number_of (drop i bits) ≡ (if get_or bits i d then 2 ^ (length bits - 1 - i) + number_of (drop (i + 1) bits) else number_of (drop (i + 1) bits))
 number_of-drop bits i d h =
     let len : length (drop (i + 1) bits) ≡ length bits - 1 - i = omega (arith, length-drop (i + 1) bits) in
@@ -67,7 +67,7 @@ number_of-bits_of (suc n) number h = elim (cases_lt number (2 ^ n)) [
       rw e (omega (arith, r, len))
 ]
 
--- one more bit behind others
+-- one more bit after others
 pub number_of-push : (bits : List Bool) (b : Bool) → number_of (bits ++ b ∷ []) ≡ 2 * number_of bits + (if b then 1 else 0)
 number_of-push [] true = omega arith
 number_of-push [] false = omega arith

@@ -24,7 +24,7 @@ few_inputs inputs outputs h small = elim (cases_lt 24 inputs) [
   | inr few ↦ few
 ]
 
--- a row stands in the table
+-- a row is in the table
 pub row_within : (t : TableBits) (row : ℕ) → HasAllBits t → row < 2 ^ t.inputs → row * t.outputs + t.outputs ≤ length t.rows
 row_within t row whole h = let p = row_fits row t.outputs (2 ^ t.inputs) t.outputs h (omega arith) in omega (arith, p, whole)
 

@@ -49,7 +49,7 @@ subtable_at (suc j) m k (Halves lo hi) h l =
           (s.0, s.1, inr (inr s.2), s.3 ∙ (sym (block-second m j (k - 2 ^ j) (truth_bits lo) (truth_bits hi) long) ∙ ap (λ i. block m i (truth_bits lo ++ truth_bits hi)) e))
     ]
 
--- where a subtable stands
+-- where a subtable is
 pub record Place (v : ℕ) (b t : Truth) : Type 0 where
   pub m : ℕ
   pub j : ℕ

@@ -41,7 +41,7 @@ IsTruthTable-combined (suc v) op (Halves a b) (Halves c d) (Bit f) h k l = absur
 IsTruthTable-combined (suc v) op (Halves a b) (Halves c d) (Halves f g) h k l =
     (IsTruthTable-combined v op a c f h.0 k.0 l.0, IsTruthTable-combined v op b d g h.1 k.1 l.1)
 
--- variables in front, on which nothing depends
+-- variables before it, on which nothing depends
 pub IsTruthTable-lifted : (k v : ℕ) (t : Truth) → IsTruthTable v t → IsTruthTable (k + v) (lifted k t)
 IsTruthTable-lifted zero v t h = rw zero-add h
 IsTruthTable-lifted (suc k) v t h = rw suc-add (IsTruthTable-lifted k v t h, IsTruthTable-lifted k v t h)
@@ -55,7 +55,7 @@ IsTruthTable-variable zero v h = absurd (omega (arith, h))
 IsTruthTable-variable (suc n) zero h = (IsTruthTable-constant n false, IsTruthTable-constant n true)
 IsTruthTable-variable (suc n) (suc v) h = (IsTruthTable-variable n v (omega (arith, h)), IsTruthTable-variable n v (omega (arith, h)))
 
--- a variable more in front
+-- a variable more before it
 pub lifted-suc : (k : ℕ) (t : Truth) → lifted (suc k) t ≡ lifted k (Halves t t)
 lifted-suc zero t = refl
 lifted-suc (suc k) t = let e = lifted-suc k t in ap₂ Halves e e

@@ -1,6 +1,6 @@
 -- quantified variables, one of them and a block
 use Rattle.std.proofs.Common.{zero-add, suc-add, add-zero, ◌≡◌, ◌<◌, ◌↔◌, ◌⊎◌, ℕ, zero, suc, ◌+◌, Bool, true, false, List, [], ◌∷◌, ◌++◌, length, set, refl, sym, ap, ap₂, ◌∙◌, subst, inl, inr, arith}
-use Rattle.bb_bits.specs.Truth.{Truth, Bit, Halves, IsTruthTable, truth_at, lifted, joined, quantified, quantified_block}
+use Rattle.bb_bits.specs.Truth.{Truth, Bit, Halves, IsTruthTable, truth_at, lifted, joined_tables, quantified, quantified_block}
 use Rattle.bb_bits.proofs.TruthPoints.{IsTruthTable-combined, combined_at_point, lifted-suc}
 
 pub IsTruthTable-quantified : (n v : ℕ) (op : Bool → Bool → Bool) (t : Truth) → IsTruthTable n t → IsTruthTable n (quantified op v t)
@@ -27,23 +27,23 @@ quantified_at_point (suc n) (suc v) op (Halves lo hi) (true ∷ point) h k e =
     quantified_at_point n v op hi point (omega (arith, h)) k.1 (omega (arith, e))
 
 -- the join of a table with itself
-joined-self : (op : Bool → Bool → Bool) → ((b : Bool) → op b b ≡ b) → (t : Truth) → joined op t t ≡ t
-joined-self op same (Bit b) = ap Bit (same b)
-joined-self op same (Halves lo hi) = ap₂ Halves (joined-self op same lo) (joined-self op same hi)
+joined_tables-self : (op : Bool → Bool → Bool) → ((b : Bool) → op b b ≡ b) → (t : Truth) → joined_tables op t t ≡ t
+joined_tables-self op same (Bit b) = ap Bit (same b)
+joined_tables-self op same (Halves lo hi) = ap₂ Halves (joined_tables-self op same lo) (joined_tables-self op same hi)
 
 -- a variable before the first on which the table depends
 pub quantified-earlier : (op : Bool → Bool → Bool) → ((b : Bool) → op b b ≡ b) → (k v : ℕ) (t : Truth) → v < k → quantified op v (lifted k t) ≡ lifted k t
 quantified-earlier op same zero v t h = absurd (omega (arith, h))
-quantified-earlier op same (suc k) zero t h = let e = joined-self op same (lifted k t) in ap₂ Halves e e
+quantified-earlier op same (suc k) zero t h = let e = joined_tables-self op same (lifted k t) in ap₂ Halves e e
 quantified-earlier op same (suc k) (suc v) t h = let e = quantified-earlier op same k v t (omega (arith, h)) in ap₂ Halves e e
 
 pub quantified-lifted : (op : Bool → Bool → Bool) (k v : ℕ) (t : Truth) → quantified op (k + v) (lifted k t) ≡ lifted k (quantified op v t)
 quantified-lifted op zero v t = rw zero-add
 quantified-lifted op (suc k) v t = rw suc-add (rw (quantified-lifted op k v t))
 
-pub quantified-here : (op : Bool → Bool → Bool) (v : ℕ) (a b : Truth) → quantified op v (lifted v (Halves a b)) ≡ lifted (suc v) (joined op a b)
+pub quantified-here : (op : Bool → Bool → Bool) (v : ℕ) (a b : Truth) → quantified op v (lifted v (Halves a b)) ≡ lifted (suc v) (joined_tables op a b)
 quantified-here op v a b =
-    ap (λ i. quantified op i (lifted v (Halves a b))) (sym (add-zero v)) ∙ (quantified-lifted op v zero (Halves a b) ∙ sym (lifted-suc v (joined op a b)))
+    ap (λ i. quantified op i (lifted v (Halves a b))) (sym (add-zero v)) ∙ (quantified-lifted op v zero (Halves a b) ∙ sym (lifted-suc v (joined_tables op a b)))
 
 -- a block that begins after the first variable
 block-halves : (op : Bool → Bool → Bool) (v k : ℕ) (lo hi : Truth) → quantified_block op (suc v) k (Halves lo hi) ≡ Halves (quantified_block op v k lo) (quantified_block op v k hi)
@@ -66,11 +66,11 @@ block-first op n k lo hi b rest lo_size hi_size long =
     second : Truth
     second = quantified_block op zero k hi
 
-    either : (b : Bool) → truth_at (Halves (joined op first second) (joined op first second)) (b ∷ rest) ≡ truth_at (joined op first second) rest
+    either : (b : Bool) → truth_at (Halves (joined_tables op first second) (joined_tables op first second)) (b ∷ rest) ≡ truth_at (joined_tables op first second) rest
     either false = refl
     either true = refl
 
-    at_rest : truth_at (joined op first second) rest ≡ op (truth_at first rest) (truth_at second rest)
+    at_rest : truth_at (joined_tables op first second) rest ≡ op (truth_at first rest) (truth_at second rest)
     at_rest = let lo_table = IsTruthTable-block op n zero k lo lo_size in
         combined_at_point n (λ a b c. op a b) first second first rest lo_table (IsTruthTable-block op n zero k hi hi_size) lo_table long
 

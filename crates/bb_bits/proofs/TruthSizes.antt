@@ -9,7 +9,7 @@ use Rattle.std.proofs.lemmas.Grind.{in_remove}
 use Rattle.bb_bits.specs.Truth.{Truth}
 use Rattle.bb_bits.specs.TruthSets.{AreDistinct, HasSize, HasMoreThan, HasAtMost}
 
--- entries that all stand in a second list are at most as many as that has
+-- entries that all are in a second list are at most as many as that has
 pub length-le_from_entries : (ts us : List Truth) → AreDistinct ts → ((t : Truth) → Contains ts t → Contains us t) → length ts ≤ length us
 length-le_from_entries [] us d h = omega arith
 length-le_from_entries (t ∷ ts) us d h =

@@ -5,6 +5,6 @@ use Rattle.std.specs.Prelude.{ℕ, ◌-◌, Bool, not, if◌then◌else◌, List
 abbrev pub xor : Bool → Bool → Bool
 xor a b = if a then not b else b
 
--- so many low bits, where the most significant stands first
+-- the n low bits, where the most significant comes first
 abbrev pub low_bits : {A : Type 0} → ℕ → List A → List A
 low_bits n bits = drop (length bits - n) bits

@@ -1,4 +1,4 @@
--- Walks along steps, each from one thing to another; first things in a list, and lists in which nothing stands twice.
+-- Walks along steps, each from one thing to another; first things in a list, and lists without repetition.
 use Rattle.std.specs.Prelude.{◌≡◌, ◌≢◌, List, [], ◌∷◌, ◌++◌, AllPairs, Contains}
 
 -- one step or more lead from one thing to another: the least transitive relation that holds for each step of the list
@@ -10,19 +10,19 @@ pub data Leads {A : Type 0} (steps : List (A × A)) : A → A → Type 0 where
 pub record IsFirst {A : Type 0} (P : A → Type 0) (xs : List A) (x : A) : Type 0 where
   pub before : List A
   pub after : List A
-  pub stands : xs ≡ before ++ x ∷ after
+  pub occurs : xs ≡ before ++ x ∷ after
   pub holds : P x
   pub earlier : (y : A) → Contains before y → P y → ⊥
 
--- x is the first in the list that stands there already
+-- x is the first in the list that is in it already
 pub record IsFirstRepeat {A : Type 0} (xs : List A) (x : A) : Type 0 where
   pub before : List A
   pub after : List A
-  pub stands : xs ≡ before ++ x ∷ after
+  pub occurs : xs ≡ before ++ x ∷ after
   pub again : Contains before x
   pub earlier : AllPairs ◌≢◌ before
 
--- nothing stands twice: no element stands behind itself
+-- without repetition: no element is among those after it
 abbrev pub IsDistinct : {A : Type 0} → List A → Type 0
 IsDistinct [] = Unit {0}
 IsDistinct (x ∷ xs) = (Contains xs x → ⊥) × IsDistinct xs

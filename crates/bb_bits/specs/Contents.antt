@@ -1,6 +1,6 @@
--- Contents of boxes: for the path text of each box, a list of bytes, a list of rows. A box with k input pins and m output
--- pins has 2^k rows of m bits, first output pin first. Input bits choose the
--- row whose number they spell in binary, the first input pin as the most significant bit.
+-- Contents of boxes: for the path text of each box, a list of bytes, a list of rows. A box with k input pins and m
+-- output pins has 2^k rows of m bits, first output pin first. Input bits choose the row whose number they spell in
+-- binary, the first input pin as the most significant bit.
 use Rattle.std.specs.Prelude.{◌≡◌, ℕ, ◌^◌, Bool, false, List, [], length, All}
 use Rattle.std.specs.List.{slice_index_or}
 use Rattle.bb_bits.specs.Numbers.{number_of}
@@ -9,7 +9,7 @@ use Rattle.bb_bits.specs.Numbers.{number_of}
 abbrev pub Contents : Type 0
 Contents = List ℕ → List (List Bool)
 
--- the rows fit a box with so many input and output pins
+-- the rows fit a box with these numbers of input and output pins
 pub record HasShape (inputs outputs : ℕ) (rows : List (List Bool)) : Type 0 where
   pub count : length rows ≡ 2 ^ inputs
   pub widths : All (λ row. length row ≡ outputs) rows

@@ -1,4 +1,4 @@
--- Lists of which each element is looked at together with those before it.
+-- Lists in which each element is seen together with those before it.
 use Rattle.std.specs.Prelude.{ℕ, List, [], ◌∷◌, ◌++◌, Bool, not}
 use Rattle.std.specs.List.{filter, list_any}
 use Rattle.bb_bits.specs.Names.{same_name}
@@ -14,7 +14,7 @@ each_after gives xs = each_from gives [] xs
 abbrev pub has_name : List ℕ → List (List ℕ) → Bool
 has_name n names = list_any (same_name n) names
 
--- each name where it stands first
+-- each name at its first occurrence
 abbrev pub once : List (List ℕ) → List (List ℕ)
 once [] = []
 once (n ∷ ns) = n ∷ filter (λ m. not (same_name n m)) (once ns)

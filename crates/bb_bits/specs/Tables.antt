@@ -1,6 +1,6 @@
--- A table of bits: what a combinational block with some input and output pins gives for each list of input bits. A row is
--- the list of output bits, first pin first. Input bits choose the row whose
--- number they spell in binary, the first pin as the most significant bit. The rows stand one after another, row 0 first.
+-- A table of bits: what a combinational block with some input and output pins gives for each list of input bits. A row
+-- is the list of output bits, first pin first. Input bits choose the row whose number they spell in binary, the first
+-- pin as the most significant bit. The rows are one after another, row 0 first.
 use Rattle.std.specs.Prelude.{◌≡◌, ℕ, ◌+◌, ◌*◌, ◌≤◌, ◌^◌, Bool, false, List, length, map, take, drop, replicate}
 use Rattle.std.specs.List.{range_with_len, slice_index_or}
 

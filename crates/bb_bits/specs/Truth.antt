@@ -10,7 +10,7 @@ pub data Truth : Type 0 where
   Bit : Bool → Truth
   Halves : Truth → Truth → Truth
 
--- it is a table of so many variables
+-- it is a table of v variables
 abbrev pub IsTruthTable : ℕ → Truth → Type 0
 IsTruthTable zero (Bit b) = Unit {0}
 IsTruthTable zero (Halves lo hi) = ⊥
@@ -28,7 +28,7 @@ truth_at (Bit b) point = b
 truth_at (Halves lo hi) [] = false
 truth_at (Halves lo hi) (x ∷ point) = if x then truth_at hi point else truth_at lo point
 
--- the table with so many more variables in front, on which nothing depends
+-- the table with k more variables before its own, on which nothing depends
 abbrev pub lifted : ℕ → Truth → Truth
 lifted zero t = t
 lifted (suc k) t = Halves (lifted k t) (lifted k t)
@@ -50,12 +50,12 @@ combined op (Halves a0 a1) (Halves b0 b1) (Halves c0 c1) = Halves (combined op a
 combined op t u w = t
 
 -- at each point, the operation of the bits that two tables have there
-abbrev pub joined : (Bool → Bool → Bool) → Truth → Truth → Truth
-joined op t u = combined (λ a b c. op a b) t u t
+abbrev pub joined_tables : (Bool → Bool → Bool) → Truth → Truth → Truth
+joined_tables op t u = combined (λ a b c. op a b) t u t
 
 -- at each point, the other bit
-abbrev pub complement : Truth → Truth
-complement t = combined (λ a b c. not a) t t t
+abbrev pub complement_of_table : Truth → Truth
+complement_of_table t = combined (λ a b c. not a) t t t
 
 -- if c then t else e, at each point
 abbrev pub chosen : Truth → Truth → Truth → Truth
@@ -64,7 +64,7 @@ chosen c t e = combined (λ a b d. if a then b else d) c t e
 -- the table of the same variables in which both halves at the variable v are their join: "for all" with "and", "exists" with "or"
 abbrev pub quantified : (Bool → Bool → Bool) → ℕ → Truth → Truth
 quantified op v (Bit b) = Bit b
-quantified op zero (Halves lo hi) = Halves (joined op lo hi) (joined op lo hi)
+quantified op zero (Halves lo hi) = Halves (joined_tables op lo hi) (joined_tables op lo hi)
 quantified op (suc v) (Halves lo hi) = Halves (quantified op v lo) (quantified op v hi)
 
 -- the same for k variables, from v on, the last one first

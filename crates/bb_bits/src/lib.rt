@@ -1,4 +1,5 @@
-//! Bits: names as lists of bytes, tables of bits, and the definitions that speak of bits and numbers alone.
+//! Bits, names and tables, with the definitions of truth tables and of contents of boxes. Nothing here knows of
+//! circuits, so a reader can believe these definitions before any netlist is defined.
 #![tactic(auto)]
 
 mod name;

@@ -1,4 +1,6 @@
-//! Names, which are lists of bytes.
+//! Names as lists of bytes. A name copies its bytes, so that it outlives the text that it was read from; it compares,
+//! orders and hashes by its bytes, so that maps by names are maps by lists of bytes, which is what the definitions
+//! speak of.
 
 ghost use Rattle.std.specs.Prelude.{◌≡◌, ℕ, List, IfOk, IsTrue, ◌↔◌};
 ghost use Rattle.std.proofs.Common.{rules};
@@ -15,7 +17,7 @@ use std::cmp::Ordering;
 use std::hash::{Hash, Hasher};
 use std::marker::Model;
 
-/// A name: a list of bytes, compared, ordered and hashed by its bytes.
+/// Ordered as in a dictionary, byte by byte; a prefix comes first.
 #[derive(Debug, Drop)]
 pub struct Name {
     bytes: Vec<u8>,
@@ -28,7 +30,7 @@ impl Model for Name {
 }
 
 impl Name {
-    /// The name with these bytes, which are copied.
+    /// The bytes are copied; any bytes make a name, printable or not.
     pub fn of(alloc: Global, bytes: &[u8]) -> Result<Name, NoMemory>
         ensures ok { IfOk result (λ name. name ≡ bytes.now) }
     {
@@ -36,7 +38,7 @@ impl Name {
         Ok(Name { bytes })
     }
 
-    /// The bytes of the name, in order.
+    /// Without a backslash, also where the name was an escaped identifier.
     pub fn bytes(&self) -> &[u8]
         ensures bytes { result.now ≡ self.now }
     {
@@ -102,7 +104,7 @@ impl Hash for Name {
     }
 }
 
-/// Names compare as equal exactly where their lists of bytes are equal.
+/// Lets a proof replace the test by equality of lists.
 pub fn same_name_is_equality()
     ensures { (a b : List ℕ) → IsTrue (same_name a b) ↔ (a ≡ b) }
 {}

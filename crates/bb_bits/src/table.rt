@@ -1,4 +1,6 @@
-//! Tables of bits, and how they are the contents of a box.
+//! Tables of bits, and how they are the contents of a box. Rows are one after another in one vector, row 0 first. What
+//! a report prints is bounded at 2^24 bits, and this type alone has that bound: definitions speak of tables of any
+//! size.
 
 ghost use Rattle.std.specs.Prelude.{◌≡◌, ℕ, ◌+◌, ◌*◌, ◌<◌, ◌≤◌, ◌^◌, Bool, List, length, take, drop, slice_set, IfOk, All};
 ghost use Rattle.bb_bits.specs.Numbers.{number_of};
@@ -10,7 +12,7 @@ use crate::number::number;
 use std::alloc::Global;
 use std::marker::Model;
 
-/// A table of bits with a row of `outputs` bits for each list of `inputs` bits.
+/// A row of `outputs` bits for each list of `inputs` bits.
 ///
 /// Input bits choose the row whose number they spell in binary, the first pin as the most significant bit.
 #[derive(Debug, Drop)]
@@ -31,7 +33,7 @@ impl Model for Table {
 }
 
 impl Table {
-    /// The table whose bits are all 0. It has at most 2^24 bits; without outputs there may be any number of inputs.
+    /// All bits are 0. There are at most 2^24 bits; without outputs there may be any number of inputs.
     pub fn zeros(alloc: Global, inputs: u32, outputs: u32) -> Result<Table, NoMemory>
         requires { outputs * 2 ^ inputs ≤ 2 ^ 24 }
         ensures ok { IfOk result (λ table. table ≡ zero_table inputs outputs) }
@@ -44,7 +46,7 @@ impl Table {
         })
     }
 
-    /// The number of input pins.
+    /// Input pins; at most 24 if there is an output, else any number.
     pub fn inputs(&self) -> u32
         ensures inputs { result ≡ self.now.inputs }
         ensures kept { IsTable self.now }
@@ -52,7 +54,7 @@ impl Table {
         self.inputs
     }
 
-    /// The number of output pins.
+    /// Output pins, which may be none.
     pub fn outputs(&self) -> u32
         ensures outputs { result ≡ self.now.outputs }
         ensures kept { IsTable self.now }
@@ -60,25 +62,26 @@ impl Table {
         self.outputs
     }
 
-    // What the type keeps.
+    // Hands out the invariant of one table, for `tables_have_all_bits`.
     fn keeps_its_bits(&self)
         ensures { IsTable self.now }
     {
         let _ = &self.rows;
     }
 
-    /// Writes the row of the input bits `ins`.
+    /// Writes the row that the input bits `ins` choose, the first output pin first.
     pub fn row(&self, ins: &[bool], out: &mut [bool])
         requires inputs { length ins.now ≡ self.now.inputs }
         requires outputs { length out.old ≡ self.now.outputs }
         ensures row { out.new ≡ row_of self.now (number_of ins.now) }
     {
+        // Without outputs there is nothing to write, and the inputs may be too many to spell a number of 32 bits.
         if self.outputs > 0 {
             copy_row(&self.rows, number(ins), out);
         }
     }
 
-    /// Sets the bit of a row at an output pin.
+    /// `row` and `pin` count from 0.
     pub fn set(&mut self, row: u32, pin: u32, bit: bool)
         requires row { row < 2 ^ self.old.inputs }
         requires pin { pin < self.old.outputs }
@@ -88,7 +91,7 @@ impl Table {
         self.rows[place] = bit;
     }
 
-    /// The bit of a row at an output pin.
+    /// `row` and `pin` count from 0.
     pub fn bit(&self, row: u32, pin: u32) -> bool
         requires row { row < 2 ^ self.now.inputs }
         requires pin { pin < self.now.outputs }
@@ -98,7 +101,6 @@ impl Table {
     }
 }
 
-// Copies the row with a number out of the rows.
 fn copy_row(rows: &[bool], row: usize, out: &mut [bool])
     requires { row * length out.old + length out.old ≤ length rows.now }
     ensures { out.new ≡ take (length out.old) (drop (row * length out.old) rows.now) }
@@ -107,14 +109,13 @@ fn copy_row(rows: &[bool], row: usize, out: &mut [bool])
     out.copy_from_slice(&rows[start..start + out.len()]);
 }
 
-// Where a bit stands among the rows.
 fn place_of(outputs: u32, row: u32, pin: u32) -> usize
     ensures { result ≡ row * outputs + pin }
 {
     row as usize * outputs as usize + pin as usize
 }
 
-// How many bits a table has.
+// Without outputs the shift is not made: `inputs` may be more than a word has bits.
 fn bit_count(inputs: u32, outputs: u32) -> usize
     requires { outputs * 2 ^ inputs ≤ 2 ^ 24 }
     ensures { result ≡ outputs * 2 ^ inputs }
@@ -126,7 +127,7 @@ fn bit_count(inputs: u32, outputs: u32) -> usize
     }
 }
 
-/// Each table of a list has all its bits: with k inputs and m outputs exactly m * 2^k.
+/// With k inputs and m outputs exactly m * 2^k.
 pub fn tables_have_all_bits(tables: &[Table])
     ensures { All IsTable tables.now }
 {
@@ -135,24 +136,24 @@ pub fn tables_have_all_bits(tables: &[Table])
     }
 }
 
-/// A table with an output has at most 24 inputs.
+/// From the bound of 2^24 bits: so a row's number fits into 32 bits.
 #[tactic(auto, using(crate::proofs::TableLemmas::few_inputs))]
 pub fn tables_have_few_inputs()
     ensures { (t : TableBits) → IsTable t → 0 < t.outputs → t.inputs ≤ 24 }
 {}
 
-/// The rows of a table fit a box with its numbers of pins.
+/// So a table can be put into a box by its rows, without a look at them.
 pub fn rows_have_shape()
     ensures { RowsHaveShape }
 {}
 
-/// Among the rows of a table, input bits choose the one with their number, and an output pin gives its bit of it.
+/// Ties the two ways to say a bit: by a row's number and a place in the table, and by input bits and a pin of the box.
 pub fn rows_are_chosen()
     ensures row { RowsAreChosen }
     ensures bit { BitsAreChosen }
 {}
 
-/// Rows that fit a box are the rows of a table with its numbers of pins, and of one alone.
+/// So tables and contents of a box say the same, and a verdict on tables is one on contents.
 pub fn rows_are_tables()
     ensures found { RowsHaveTable }
     ensures unique { RowsFixTable }

@@ -3,7 +3,7 @@ use Rattle.std.proofs.Common.{◌≡◌, ℕ, zero, suc, ◌+◌, ◌-◌, ◌<�
 use Rattle.std.specs.Prelude.{min}
 use Rattle.std.specs.List.{range_with_len}
 use Rattle.std.proofs.lemmas.List.Elements.{All-head, All-tail}
-use Rattle.bb_blast.specs.Inside.Counting.{capped, behind}
+use Rattle.bb_blast.specs.Inside.Counting.{capped, after}
 
 min_first : (m a b : ℕ) → min (min a m + b) m ≡ min (a + b) m
 min_first m a b = omega arith
@@ -33,14 +33,14 @@ pub capped_small : (n : ℕ) → n < 2 ^ 32 → capped n ≡ n
 unfolding capped
 capped_small n lt = min_small (2 ^ 32 - 1) n lt
 
--- two sums one behind the other
-pub behind_first : (a b c : ℕ) → behind (behind a b) c ≡ behind a (b + c)
-behind_first a b c = capped_first (a + b) c ∙ ap capped (omega arith)
+-- two sums one after the other
+pub after_first : (a b c : ℕ) → after (after a b) c ≡ after a (b + c)
+after_first a b c = capped_first (a + b) c ∙ ap capped (omega arith)
 
-pub behind_second : (a b c : ℕ) → behind a (behind b c) ≡ behind a (b + c)
-behind_second a b c = capped_second a (b + c)
+pub after_second : (a b c : ℕ) → after a (after b c) ≡ after a (b + c)
+after_second a b c = capped_second a (b + c)
 
-pub moved_small : (base : ℕ) (numbers : List ℕ) → All (λ i. base + i < 2 ^ 32) numbers → map (behind base) numbers ≡ map (λ i. base + i) numbers
+pub moved_small : (base : ℕ) (numbers : List ℕ) → All (λ i. base + i < 2 ^ 32) numbers → map (after base) numbers ≡ map (λ i. base + i) numbers
 moved_small base [] few = refl
 moved_small base (n ∷ numbers) few =
     ap₂ ◌∷◌ (capped_small (base + n) (All-head (λ i. base + i < 2 ^ 32) n numbers few)) (moved_small base numbers (All-tail (λ i. base + i < 2 ^ 32) n numbers few))

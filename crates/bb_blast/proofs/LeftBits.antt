@@ -19,12 +19,12 @@ use Rattle.bb_names.specs.Inside.Checked.{ModuleFacts, syntax, HasNets}
 use Rattle.bb_names.specs.Nets.{nets_of}
 use Rattle.bb_names.specs.Ranges.{range_width}
 use Rattle.bb_expr.specs.Inside.Fit.{HasNet, IsFit, AreFit, ranges_in}
-use Rattle.bb_expr.specs.Inside.Standing.{gathering, expressions_in}
+use Rattle.bb_expr.specs.Inside.Occurrences.{gathering, expressions_in}
 use Rattle.bb_design.specs.Hierarchy.{Scope}
 use Rattle.bb_design.specs.NetBits.{Bit as NetBit, bits_from, bits_of_net, assigned, written_bits}
-use Rattle.bb_blast.specs.Inside.Outlines.{AreBitsIn, net_start}
+use Rattle.bb_blast.specs.Inside.ModuleTemplates.{AreBitsIn, net_start}
 use Rattle.bb_bits.specs.Inside.Places.{AreAt}
-use Rattle.bb_blast.specs.Inside.Outlining.{AreStarts}
+use Rattle.bb_blast.specs.Inside.BitBlasting.{AreStarts}
 use Rattle.bb_blast.proofs.NetNumbers.{at_both, run_at, net_fits}
 
 module _ (m : ModuleFacts) (starts : List ℕ) (nets : HasNets m) (are : AreStarts m.nets starts) (n : List ℕ) (has : HasNet m n) (k : ℕ) (kept : lookup (same_name n) m.index ≡ Some k) where
@@ -73,11 +73,11 @@ flat-mapped g v (x ∷ xs) = ap (λ l. g (v x) ++ l) (flat-mapped g v xs)
 pub written-concat : (s : Scope) (all : List Expression) → written_bits s (Concat (listed_parts all)) ≡ flat_map (written_bits s) all
 written-concat s all = ap (flat_map (λ bits. bits)) (sees_parts (λ x a. a) (assigned s) all) ∙ flat-mapped (λ bits. bits) (written_bits s) all
 
--- what stands in a concatenation is fit
+-- what is in a concatenation is fit
 module _ (m : ModuleFacts) where
-  front : (xs ys : List Expression) → AllByRecursion (IsFit m) (xs ++ ys) → AllByRecursion (IsFit m) xs
-  front [] ys h = tt
-  front (x ∷ xs) ys h = (h.0, front xs ys h.1)
+  prefix : (xs ys : List Expression) → AllByRecursion (IsFit m) (xs ++ ys) → AllByRecursion (IsFit m) xs
+  prefix [] ys h = tt
+  prefix (x ∷ xs) ys h = (h.0, prefix xs ys h.1)
 
   back : (xs ys : List Expression) → AllByRecursion (IsFit m) (xs ++ ys) → AllByRecursion (IsFit m) ys
   back [] ys h = h
@@ -88,7 +88,7 @@ module _ (m : ModuleFacts) where
 
   parts_each : (xs : List Expression) → AllByRecursion (IsFit m) (flat_map (λ e. e) (of_parts (λ x all. x ∷ all) gathering (listed_parts xs))) → AllByRecursion (AreFit m) xs
   parts_each [] h = tt
-  parts_each (x ∷ xs) h = (record { each = All-from_recursion (IsFit m) (expressions_in x) (front (expressions_in x) _ h) }, parts_each xs (back (expressions_in x) _ h))
+  parts_each (x ∷ xs) h = (record { each = All-from_recursion (IsFit m) (expressions_in x) (prefix (expressions_in x) _ h) }, parts_each xs (back (expressions_in x) _ h))
 
   pub fit_parts : (xs : List Expression) → AreFit m (Concat (listed_parts xs)) → All (AreFit m) xs
   fit_parts xs fit = All-from_recursion (AreFit m) xs (parts_each xs (recursion_from_All (IsFit m) (expressions_in (Concat (listed_parts xs))) fit.each).1)

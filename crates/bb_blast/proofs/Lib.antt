@@ -17,7 +17,7 @@ pub mod MakeableConstructs
 pub mod ModuleItems
 pub mod ModulePlaces
 pub mod NetNumbers
-pub mod OutlinedDesigns
+pub mod TemplatedDesigns
 pub mod PlacesInRow
 pub mod PortNets
 pub mod RegisterItems

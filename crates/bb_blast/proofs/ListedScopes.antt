@@ -5,22 +5,22 @@ use Rattle.std.specs.List.{AllZip, fold}
 use Rattle.std.specs.Option.{option_map_or}
 use Rattle.bb_names.specs.Nets.{nets_of}
 use Rattle.bb_expr.specs.Laws.FitLaws.{NetNamesDiffer}
-use Rattle.bb_blast.specs.declared.outline.Outline.{Outline}
+use Rattle.bb_blast.specs.declared.template.ModuleTemplate.{ModuleTemplate}
 use Rattle.bb_blast.specs.declared.placed.Placed.{Placed}
 use Rattle.bb_design.specs.Hierarchy.{Design, Scope, scopes}
 use Rattle.bb_design.specs.NetBits.{Bit, scope_bits, net_order}
 use Rattle.bb_design.specs.Constructs.{Construct, GateInstance, BoxContents, body_constructs, constructs_at, parts}
-use Rattle.bb_blast.specs.Inside.Counting.{behind}
+use Rattle.bb_blast.specs.Inside.Counting.{after}
 use Rattle.bb_blast.specs.Inside.Listing.{bit_count, site_of}
 use Rattle.bb_design.specs.Inside.Allowed.{IsBounded}
-use Rattle.bb_blast.specs.Inside.Outlines.{IsOutline, IsPartOf}
-use Rattle.bb_blast.specs.Inside.Placements.{ArePlaced, AreOutlined, IsScopeAt}
-use Rattle.bb_cells.specs.Places.{NetBit, Numbering, Lowering}
+use Rattle.bb_blast.specs.Inside.ModuleTemplates.{IsModuleTemplate, IsPartOf}
+use Rattle.bb_blast.specs.Inside.Placements.{ArePlaced, AreTemplated, IsScopeAt}
+use Rattle.bb_implements.specs.Places.{NetBit, Numbering, Lowering}
 use Rattle.bb_blast.proofs.BitNumbers.{bit_number, held_bits, site_is}
 use Rattle.bb_blast.proofs.ListedBlocks.{nowhere, blocks_in, blocks_of, IsBlockOf}
 use Rattle.bb_blast.proofs.ListedBoxes.{IsBoxedSo}
 use Rattle.bb_blast.proofs.WholeParts.{HasInputs}
-use Rattle.bb_lists.proofs.Zips.{zip_append}
+use Rattle.bb_lemmas.proofs.Zips.{zip_append}
 use Rattle.bb_design.specs.Laws.DesignLaws.{DesignLaws}
 
 zip_flat : {A B C D : Type 0} (R : C → D → Type 0) (f : A → List C) (g : B → List D) (xs : List A) (ys : List B) → length xs ≡ length ys → ((i : ℕ) (x : A) (y : B) → slice_get xs i ≡ Some x → slice_get ys i ≡ Some y → AllZip R (f x) (g y))
@@ -43,15 +43,15 @@ module _ (of_designs : DesignLaws) where
   has_inputs d bounded s (GateInstance gate outs ins) has = let wired = (of_designs.wired d bounded).gates s gate outs ins has in (wired.0, wired.1)
   has_inputs d bounded s c has = tt
 
-module _ (of_designs : DesignLaws) (names : NetNamesDiffer) (d : Design) (bounded : IsBounded d) (placed : List Placed) (are : ArePlaced d placed) (outlines : List Outline) (outlined : AreOutlined d placed outlines) where
-  scope_blocks : (k : ℕ) (s : Scope) (p : Placed) → slice_get placed k ≡ Some p → IsScopeAt d k s → AllZip (IsBlockOf d) (blocks_of placed outlines p) (map (λ c. (s, c)) (constructs_at d.text s))
+module _ (of_designs : DesignLaws) (names : NetNamesDiffer) (d : Design) (bounded : IsBounded d) (placed : List Placed) (are : ArePlaced d placed) (templates : List ModuleTemplate) (templated : AreTemplated d placed templates) where
+  scope_blocks : (k : ℕ) (s : Scope) (p : Placed) → slice_get placed k ≡ Some p → IsScopeAt d k s → AllZip (IsBlockOf d) (blocks_of placed templates p) (map (λ c. (s, c)) (constructs_at d.text s))
   scope_blocks k s p has at =
-      subst (λ b. AllZip (IsBlockOf d) (blocks_of placed outlines p) (map {B = Scope × Construct} (λ c. (s, c)) (if b then BoxContents ∷ [] else flat_map (λ item. body_constructs d.text item.body) s.source.items))) (are.each k s p at has).boxed (by p.boxed)
+      subst (λ b. AllZip (IsBlockOf d) (blocks_of placed templates p) (map {B = Scope × Construct} (λ c. (s, c)) (if b then BoxContents ∷ [] else flat_map (λ item. body_constructs d.text item.body) s.source.items))) (are.each k s p at has).boxed (by p.boxed)
     where
-      o : (o : Outline) × (slice_get outlines p.module ≡ Some o) × IsOutline d.text s.source o
-      o = outlined k s p at has
+      o : (o : ModuleTemplate) × (slice_get templates p.module ≡ Some o) × IsModuleTemplate d.text s.source o
+      o = templated k s p at has
 
-      by : (b : Bool) → AllZip (IsBlockOf d) (if b then record { site = nowhere; item = None } ∷ [] else blocks_in placed p (slice_get outlines p.module))
+      by : (b : Bool) → AllZip (IsBlockOf d) (if b then record { site = nowhere; item = None } ∷ [] else blocks_in placed p (slice_get templates p.module))
           (map {B = Scope × Construct} (λ c. (s, c)) (if b then BoxContents ∷ [] else flat_map (λ item. body_constructs d.text item.body) s.source.items))
       by true = (refl, tt)
       by false =
@@ -59,32 +59,32 @@ module _ (of_designs : DesignLaws) (names : NetNamesDiffer) (d : Design) (bounde
           (zip_maps {D = Scope × Construct} (IsPartOf d.text s.source) (IsBlockOf d) (λ q. record { site = site_of placed p o.0; item = Some q }) (λ c. (s, c)) o.0.parts.items (flat_map (λ item. body_constructs d.text item.body) s.source.items) o.2.parts
           (λ q c is. (site_is of_designs names d bounded placed are k s p o.0 at has o.2, is)))
 
-  pub blocks_are : AllZip (IsBlockOf d) (flat_map (blocks_of placed outlines) placed) (parts d)
-  blocks_are = zip_flat {D = Scope × Construct} (IsBlockOf d) (blocks_of placed outlines) (λ s. map (λ c. (s, c)) (constructs_at d.text s)) placed (scopes d) are.count (λ k p s has at. scope_blocks k s p has at)
+  pub blocks_are : AllZip (IsBlockOf d) (flat_map (blocks_of placed templates) placed) (parts d)
+  blocks_are = zip_flat {D = Scope × Construct} (IsBlockOf d) (blocks_of placed templates) (λ s. map (λ c. (s, c)) (constructs_at d.text s)) placed (scopes d) are.count (λ k p s has at. scope_blocks k s p has at)
 
-  pub boxes_are : (lowering : Lowering) (number : Numbering) (nets start : ℕ) (net_places : (b : Bit) → number (NetBit b) ≡ behind nets (bit_number d b)) (all : List Scope) (pins_stand : _) (few : _) (few_pins : _)
-      (k : ℕ) (s : Scope) (p : Placed) → IsScopeAt d k s → slice_get placed k ≡ Some p → IsBoxedSo d lowering number nets start net_places outlines all pins_stand few few_pins s p
-  boxes_are lowering number nets start net_places all pins_stand few few_pins k s p at has =
-      let o = outlined k s p at has in
+  pub boxes_are : (lowering : Lowering) (number : Numbering) (nets start : ℕ) (net_places : (b : Bit) → number (NetBit b) ≡ after nets (bit_number d b)) (all : List Scope) (pins_occur : _) (few : _) (few_pins : _)
+      (k : ℕ) (s : Scope) (p : Placed) → IsScopeAt d k s → slice_get placed k ≡ Some p → IsBoxedSo d lowering number nets start net_places templates all pins_occur few few_pins s p
+  boxes_are lowering number nets start net_places all pins_occur few few_pins k s p at has =
+      let o = templated k s p at has in
       record {
         boxed = (are.each k s p at has).boxed;
-        outline = o.0;
+        template = o.0;
         found = o.1;
         pins = record { own = held_bits of_designs names d bounded placed are k s p at has; inputs = o.2.inputs s.path; outputs = o.2.outputs s.path };
       }
 
-  counts_from : (ss : List Scope) (ps : List Placed) (n : ℕ) → length ps ≡ length ss → ((i : ℕ) (s : Scope) (p : Placed) → slice_get ss i ≡ Some s → slice_get ps i ≡ Some p → option_map_or (λ o. o.bits) (slice_get outlines p.module) 0 ≡ length (scope_bits s))
-      → fold (λ n p. n + option_map_or (λ o. o.bits) (slice_get outlines p.module) 0) n ps ≡ n + length (flat_map scope_bits ss)
+  counts_from : (ss : List Scope) (ps : List Placed) (n : ℕ) → length ps ≡ length ss → ((i : ℕ) (s : Scope) (p : Placed) → slice_get ss i ≡ Some s → slice_get ps i ≡ Some p → option_map_or (λ o. o.bits) (slice_get templates p.module) 0 ≡ length (scope_bits s))
+      → fold (λ n p. n + option_map_or (λ o. o.bits) (slice_get templates p.module) 0) n ps ≡ n + length (flat_map scope_bits ss)
   counts_from [] [] n long each = omega arith
   counts_from [] (p ∷ ps) n long each = absurd (omega (arith, long))
   counts_from (s ∷ ss) [] n long each = absurd (omega (arith, long))
   counts_from (s ∷ ss) (p ∷ ps) n long each =
-      counts_from ss ps (n + option_map_or (λ (o : Outline). o.bits) (slice_get outlines p.module) 0) (omega (arith, long)) (λ i t q e f. each (suc i) t q e f)
+      counts_from ss ps (n + option_map_or (λ (o : ModuleTemplate). o.bits) (slice_get templates p.module) 0) (omega (arith, long)) (λ i t q e f. each (suc i) t q e f)
       ∙ omega (arith, each 0 s p refl refl, length-append (scope_bits s) (flat_map scope_bits ss))
 
   -- all bits of the design are counted
-  pub counted : bit_count placed outlines ≡ length (net_order d)
+  pub counted : bit_count placed templates ≡ length (net_order d)
   counted =
-      counts_from (scopes d) placed 0 are.count (λ k s p at has. let o = outlined k s p at has in
-      ap (λ z. option_map_or (λ (o : Outline). o.bits) z 0) o.1 ∙ o.2.bits ∙ sym (of_designs.net_bits s.path (nets_of s.source)))
+      counts_from (scopes d) placed 0 are.count (λ k s p at has. let o = templated k s p at has in
+      ap (λ z. option_map_or (λ (o : ModuleTemplate). o.bits) z 0) o.1 ∙ o.2.bits ∙ sym (of_designs.net_bits s.path (nets_of s.source)))
       ∙ omega arith

@@ -1,4 +1,4 @@
--- Cells put behind others, with the places of a list that stand for them: the steps of expressions.
+-- Cells put after others, with the places of a list that implement them: the steps of expressions.
 use Rattle.std.proofs.Common.{◌≡◌, ℕ, suc, ◌+◌, ◌<◌, Bool, List, [], ◌∷◌, ◌++◌, map, flat_map, take, length, All, Contains, refl, sym, ap, ap₂, ◌∙◌, subst, arith, length-append, append_assoc, append-nil}
 use Rattle.std.specs.List.{cons_option, filter_map, fold, enumerate_from, range_with_len}
 use Rattle.std.specs.Option.{option_map}
@@ -9,23 +9,23 @@ use Rattle.bb_names.specs.Nets.{nets_of}
 use Rattle.bb_expr.specs.declared.step.BitStep.{BitStep}
 use Rattle.bb_expr.specs.declared.step.BitStep.TheVariants as steps
 use Rattle.bb_expr.specs.declared.step.Lowered.{Lowered}
-use Rattle.bb_expr.specs.Lowered.{Reads}
+use Rattle.bb_expr.specs.Lowered.{ReadsEarlier}
 use Rattle.bb_net.specs.declared.loose.LooseCell.{LooseCell}
 use Rattle.bb_net.specs.declared.loose.LooseCell.TheVariants as cell
 use Rattle.bb_design.specs.Hierarchy.{Scope}
-use Rattle.bb_blast.specs.Inside.Counting.{capped, behind}
+use Rattle.bb_blast.specs.Inside.Counting.{capped, after}
 use Rattle.bb_blast.specs.Inside.Listing.{Terminals}
 use Rattle.bb_blast.specs.Inside.Logic.{Kept, constant_place, net_bit_place, operand_in, operand_place, operator_of, result_of, with_step}
 use Rattle.bb_blast.proofs.LogicSteps.{as_cell, cell_of, operator_next, own_place, put_cell, result_here, results_kept, step_place, with_cell, with_steps}
-use Rattle.bb_cells.specs.Places.{Constant, Step, Numbering, Lowering, Steps, step_cell, IsStepAt, net_place, step_cells, terminal_place}
-use Rattle.bb_lists.proofs.Members.{contains_here, contains_there}
+use Rattle.bb_implements.specs.Places.{Constant, Step, Numbering, Lowering, Steps, step_cell, IsStepAt, net_place, step_cells, terminal_place}
+use Rattle.bb_lemmas.proofs.Members.{contains_here, contains_there}
 use Rattle.bb_blast.proofs.PlacesInRow.{Entry, AreInRow, both_rows, no_row, one_row, cells_in}
 use Rattle.bb_blast.proofs.WholeParts.{step_terminal}
 
 module _ (lowering : Lowering) (number : Numbering) (k : ℕ) (s : Scope) (start bits : ℕ) (starts : List ℕ) (constants : (b : Bool) → number (Constant b) ≡ constant_place b)
-    (nets : (n i : ℕ) → Reads (nets_of s.source) 0 (steps.Net n i) → number (net_place s n i) ≡ net_bit_place bits starts n i) where
+    (nets : (n i : ℕ) → ReadsEarlier (nets_of s.source) 0 (steps.Net n i) → number (net_place s n i) ≡ net_bit_place bits starts n i) where
   -- a step as a cell, where those before it have their numbers
-  same_cell : (at to : ℕ → ℕ) (place : ℕ) → ((a : ℕ) → a < place → at a ≡ to a) → (step : BitStep) → Reads (nets_of s.source) place step → step_cell at step ≡ step_cell to step
+  same_cell : (at to : ℕ → ℕ) (place : ℕ) → ((a : ℕ) → a < place → at a ≡ to a) → (step : BitStep) → ReadsEarlier (nets_of s.source) place step → step_cell at step ≡ step_cell to step
   same_cell at to place same (steps.Const b) reads = refl
   same_cell at to place same (steps.Net n i) reads = refl
   same_cell at to place same (steps.Not a) reads = ap (λ x. Some (cell.Not x)) (same a reads)
@@ -35,18 +35,18 @@ module _ (lowering : Lowering) (number : Numbering) (k : ℕ) (s : Scope) (start
   same_cell at to place same (steps.Mux c t e) reads =
       ap (λ x. Some (cell.Mux x (at t) (at e))) (same c reads.0) ∙ ap₂ (λ x y. Some (cell.Mux (to c) x y)) (same t reads.1) (same e reads.2)
 
-  -- a step that is no operator stands where it has to
-  stands_at : (step : BitStep) (place first next own : ℕ) → Reads (nets_of s.source) place step → own ≡ operand_place bits starts first (result_of next step) → IsStepAt number s step own
-  stands_at (steps.Const b) place first next own reads is = is ∙ sym (constants b)
-  stands_at (steps.Net n i) place first next own reads is = is ∙ sym (nets n i reads)
-  stands_at (steps.Not a) place first next own reads is = tt
-  stands_at (steps.And a b) place first next own reads is = tt
-  stands_at (steps.Or a b) place first next own reads is = tt
-  stands_at (steps.Xor a b) place first next own reads is = tt
-  stands_at (steps.Mux c t e) place first next own reads is = tt
+  -- a step that is no operator is where it has to
+  occurs_at : (step : BitStep) (place first next own : ℕ) → ReadsEarlier (nets_of s.source) place step → own ≡ operand_place bits starts first (result_of next step) → IsStepAt number s step own
+  occurs_at (steps.Const b) place first next own reads is = is ∙ sym (constants b)
+  occurs_at (steps.Net n i) place first next own reads is = is ∙ sym (nets n i reads)
+  occurs_at (steps.Not a) place first next own reads is = tt
+  occurs_at (steps.And a b) place first next own reads is = tt
+  occurs_at (steps.Or a b) place first next own reads is = tt
+  occurs_at (steps.Xor a b) place first next own reads is = tt
+  occurs_at (steps.Mux c t e) place first next own reads is = tt
 
-  abbrev pub StandsWell : ℕ → ℕ × BitStep → Type 0
-  StandsWell x y = IsStepAt number s y.1 (number (Step k x y.0))
+  abbrev pub OccursWell : ℕ → ℕ × BitStep → Type 0
+  OccursWell x y = IsStepAt number s y.1 (number (Step k x y.0))
 
   abbrev entry : ℕ → ℕ × BitStep → Option Entry
   entry x y = option_map (λ c. (Step k x y.0, c)) (step_cell (λ a. number (Step k x a)) y.1)
@@ -55,22 +55,22 @@ module _ (lowering : Lowering) (number : Numbering) (k : ℕ) (s : Scope) (start
   operators x i all = filter_map (entry x) (enumerate_from i all)
 
   -- the steps of an expression from a number on lead from cells to others
-  pub record StepsFit (x i : ℕ) (before after : List LooseCell) (all : List BitStep) : Type 0 where
-    pub cells : after ≡ before ++ cells_in (operators x i all)
+  pub record StepsFit (x i : ℕ) (before afterwards : List LooseCell) (all : List BitStep) : Type 0 where
+    pub cells : afterwards ≡ before ++ cells_in (operators x i all)
     pub row : AreInRow number (start + length before) (operators x i all)
-    pub steps : All (StandsWell x) (enumerate_from i all)
+    pub steps : All (OccursWell x) (enumerate_from i all)
 
-  -- one more step in front of them
-  one_step : (x i : ℕ) (step : BitStep) (all : List BitStep) (before after : List LooseCell) (o : Option LooseCell) → step_cell (λ a. number (Step k x a)) step ≡ o
-      → ((c : LooseCell) → o ≡ Some c → number (Step k x i) ≡ behind start (length before)) → StandsWell x (i, step) → StepsFit x (i + 1) (with_cell before o) after all → StepsFit x i before after (step ∷ all)
-  one_step x i step all before after None is next well rest =
+  -- one more step before them
+  one_step : (x i : ℕ) (step : BitStep) (all : List BitStep) (before afterwards : List LooseCell) (o : Option LooseCell) → step_cell (λ a. number (Step k x a)) step ≡ o
+      → ((c : LooseCell) → o ≡ Some c → number (Step k x i) ≡ after start (length before)) → OccursWell x (i, step) → StepsFit x (i + 1) (with_cell before o) afterwards all → StepsFit x i before afterwards (step ∷ all)
+  one_step x i step all before afterwards None is next well rest =
       let same : operators x i (step ∷ all) ≡ operators x (i + 1) all = ap (λ (o : Option LooseCell). cons_option (option_map {U = Entry} (λ c. (Step k x i, c)) o) (operators x (i + 1) all)) is in
       record {
         cells = rest.cells ∙ ap (λ l. before ++ cells_in l) (sym same);
         row = subst (AreInRow number (start + length before)) (sym same) rest.row;
-        steps = All-cons (StandsWell x) (i, step) (enumerate_from (i + 1) all) well rest.steps;
+        steps = All-cons (OccursWell x) (i, step) (enumerate_from (i + 1) all) well rest.steps;
       }
-  one_step x i step all before after (Some c) is next well rest =
+  one_step x i step all before afterwards (Some c) is next well rest =
       let others = operators x (i + 1) all in
       let own : Entry = (Step k x i, c) in
       let same : operators x i (step ∷ all) ≡ own ∷ others = ap (λ (o : Option LooseCell). cons_option (option_map {U = Entry} (λ c. (Step k x i, c)) o) others) is in
@@ -79,41 +79,41 @@ module _ (lowering : Lowering) (number : Numbering) (k : ℕ) (s : Scope) (start
         cells = rest.cells ∙ append_assoc before (c ∷ []) (cells_in others) ∙ ap (λ l. before ++ cells_in l) (sym same);
         row = subst (AreInRow number (start + length before)) (sym same)
             (both_rows number (start + length before) (own ∷ []) others (one_row number (start + length before) own (next c refl)) (subst (λ n. AreInRow number n others) (omega (arith, long)) rest.row));
-        steps = All-cons (StandsWell x) (i, step) (enumerate_from (i + 1) all) well rest.steps;
+        steps = All-cons (OccursWell x) (i, step) (enumerate_from (i + 1) all) well rest.steps;
       }
 
   module _ (x : ℕ) (cells : List LooseCell) where
-    abbrev after : Kept → List LooseCell
-    after kept = cells ++ map (cell_of start bits starts cells) kept.operators
+    abbrev afterwards : Kept → List LooseCell
+    afterwards kept = cells ++ map (cell_of start bits starts cells) kept.operators
 
     steps_fit : (i : ℕ) (all : List BitStep) (kept : Kept) → length kept.results ≡ i → ((j : ℕ) → number (Step k x j) ≡ own_place start bits starts cells (operand_in (fold with_step kept all).results j))
-        → ((y : ℕ × BitStep) → Contains (enumerate_from i all) y → Reads (nets_of s.source) y.0 y.1) → StepsFit x i (after kept) (after (fold with_step kept all)) all
-    steps_fit i [] kept long stands reads = record { cells = sym (append-nil (after kept)); row = no_row number (start + length (after kept)); steps = All-nil (StandsWell x) }
-    steps_fit i (step ∷ all) kept long stands reads =
-        one_step x i step all (after kept) (after (fold with_step kept (step ∷ all))) (option_map (cell_of start bits starts cells) (operator_of (operand_in kept.results) step)) here
+        → ((y : ℕ × BitStep) → Contains (enumerate_from i all) y → ReadsEarlier (nets_of s.source) y.0 y.1) → StepsFit x i (afterwards kept) (afterwards (fold with_step kept all)) all
+    steps_fit i [] kept long occurs reads = record { cells = sym (append-nil (afterwards kept)); row = no_row number (start + length (afterwards kept)); steps = All-nil (OccursWell x) }
+    steps_fit i (step ∷ all) kept long occurs reads =
+        one_step x i step all (afterwards kept) (afterwards (fold with_step kept (step ∷ all))) (option_map (cell_of start bits starts cells) (operator_of (operand_in kept.results) step)) here
         (λ c is. own ∙ operator_next start bits starts cells kept.operators (operand_in kept.results) step c is)
-        (stands_at step i (behind start (length cells)) (capped (length kept.operators)) (number (Step k x i)) (reads (i, step) (contains_here (i, step) (enumerate_from (i + 1) all))) own)
-        (subst (λ b. StepsFit x (i + 1) b (after (fold with_step kept (step ∷ all))) all) (sym (put_cell start bits starts cells kept.operators (operator_of (operand_in kept.results) step)))
-        (steps_fit (i + 1) all (with_step kept step) (length-append kept.results (_ ∷ []) ∙ ap (λ m. m + 1) long) stands (λ y has. reads y (contains_there (i, step) (enumerate_from (i + 1) all) y has))))
+        (occurs_at step i (after start (length cells)) (capped (length kept.operators)) (number (Step k x i)) (reads (i, step) (contains_here (i, step) (enumerate_from (i + 1) all))) own)
+        (subst (λ b. StepsFit x (i + 1) b (afterwards (fold with_step kept (step ∷ all))) all) (sym (put_cell start bits starts cells kept.operators (operator_of (operand_in kept.results) step)))
+        (steps_fit (i + 1) all (with_step kept step) (length-append kept.results (_ ∷ []) ∙ ap (λ m. m + 1) long) occurs (λ y has. reads y (contains_there (i, step) (enumerate_from (i + 1) all) y has))))
       where
         own : number (Step k x i) ≡ own_place start bits starts cells (result_of (capped (length kept.operators)) step)
-        own = stands i ∙ ap (λ j. own_place start bits starts cells (operand_in (fold with_step kept (step ∷ all)).results j)) (sym long) ∙ ap (own_place start bits starts cells) (result_here all kept step)
+        own = occurs i ∙ ap (λ j. own_place start bits starts cells (operand_in (fold with_step kept (step ∷ all)).results j)) (sym long) ∙ ap (own_place start bits starts cells) (result_here all kept step)
 
         here : step_cell (λ a. number (Step k x a)) step ≡ option_map (cell_of start bits starts cells) (operator_of (operand_in kept.results) step)
         here = same_cell (λ a. number (Step k x a)) (λ a. own_place start bits starts cells (operand_in kept.results a)) i
-            (λ a fits. stands a ∙ ap (own_place start bits starts cells) (results_kept (step ∷ all) kept a (omega (arith, fits, long)))) step (reads (i, step) (contains_here (i, step) (enumerate_from (i + 1) all)))
+            (λ a fits. occurs a ∙ ap (own_place start bits starts cells) (results_kept (step ∷ all) kept a (omega (arith, fits, long)))) step (reads (i, step) (contains_here (i, step) (enumerate_from (i + 1) all)))
             ∙ as_cell start bits starts cells kept.results step
 
-  -- an expression that is lowered so has these numbers where it stands behind these cells
+  -- an expression that is lowered so has these numbers where it follows these cells
   pub record IsLoweredAt (x : ℕ) (cells : List LooseCell) (l : Lowered) : Type 0 where
     pub is : lowering k x ≡ record { all = l.steps.items; bits = l.bits.items }
-    pub stands : (j : ℕ) → number (Step k x j) ≡ step_place start bits starts cells l j
-    pub earlier : All (λ y. Reads (nets_of s.source) y.0 y.1) (enumerate_from 0 l.steps.items)
+    pub occurs : (j : ℕ) → number (Step k x j) ≡ step_place start bits starts cells l j
+    pub earlier : All (λ y. ReadsEarlier (nets_of s.source) y.0 y.1) (enumerate_from 0 l.steps.items)
 
   pub expression_fits : (x : ℕ) (cells : List LooseCell) (l : Lowered) → IsLoweredAt x cells l → StepsFit x 0 cells (with_steps start bits starts cells l) (lowering k x).all
   expression_fits x cells l low =
       subst (λ (z : Steps). StepsFit x 0 cells (with_steps start bits starts cells l) z.all) (sym low.is)
-      (subst (λ before. StepsFit x 0 before (with_steps start bits starts cells l) l.steps.items) (append-nil cells) (steps_fit x cells 0 l.steps.items (record { operators = []; results = [] }) refl low.stands (λ y has. All-contains (λ (y : ℕ × BitStep). Reads (nets_of s.source) y.0 y.1) (enumerate_from 0 l.steps.items) y low.earlier has)))
+      (subst (λ before. StepsFit x 0 before (with_steps start bits starts cells l) l.steps.items) (append-nil cells) (steps_fit x cells 0 l.steps.items (record { operators = []; results = [] }) refl low.occurs (λ y has. All-contains (λ (y : ℕ × BitStep). ReadsEarlier (nets_of s.source) y.0 y.1) (enumerate_from 0 l.steps.items) y low.earlier has)))
 
   -- the inputs of a gate from one on
   abbrev pub terminal_at : ℕ → ℕ
@@ -122,18 +122,18 @@ module _ (lowering : Lowering) (number : Numbering) (k : ℕ) (s : Scope) (start
   abbrev pub steps_from : ℕ → ℕ → List Entry
   steps_from x n = flat_map (step_cells lowering number k) (range_with_len x n)
 
-  abbrev pub AllStandWell : ℕ → Type 0
-  AllStandWell x = All (StandsWell x) (enumerate_from 0 (lowering k x).all)
+  abbrev pub AllOccurWell : ℕ → Type 0
+  AllOccurWell x = All (OccursWell x) (enumerate_from 0 (lowering k x).all)
 
-  pub record TerminalsFit (t after : Terminals) (x n : ℕ) : Type 0 where
-    pub cells : after.cells ≡ t.cells ++ cells_in (steps_from x n)
-    pub places : after.places ≡ t.places ++ map terminal_at (range_with_len x n)
+  pub record TerminalsFit (t afterwards : Terminals) (x n : ℕ) : Type 0 where
+    pub cells : afterwards.cells ≡ t.cells ++ cells_in (steps_from x n)
+    pub places : afterwards.places ≡ t.places ++ map terminal_at (range_with_len x n)
     pub row : AreInRow number (start + length t.cells) (steps_from x n)
-    pub steps : All AllStandWell (range_with_len x n)
+    pub steps : All AllOccurWell (range_with_len x n)
 
   pub terminals_fit : (ls : List Lowered) (x : ℕ) (t : Terminals) → ((i : ℕ) (l : Lowered) → slice_get ls i ≡ Some l → IsLoweredAt (x + i) (fold (step_terminal start bits starts) t (take i ls)).cells l)
       → TerminalsFit t (fold (step_terminal start bits starts) t ls) x (length ls)
-  terminals_fit [] x t low = record { cells = sym (append-nil t.cells); places = sym (append-nil t.places); row = no_row number (start + length t.cells); steps = All-nil AllStandWell }
+  terminals_fit [] x t low = record { cells = sym (append-nil t.cells); places = sym (append-nil t.places); row = no_row number (start + length t.cells); steps = All-nil AllOccurWell }
   terminals_fit (l ∷ ls) x t low =
       build (terminals_fit ls (x + 1) (step_terminal start bits starts t l)
       (λ i m e. subst (λ y. IsLoweredAt y (fold (step_terminal start bits starts) (step_terminal start bits starts t l) (take i ls)).cells m) (omega arith) (low (suc i) m e)))
@@ -148,7 +148,7 @@ module _ (lowering : Lowering) (number : Numbering) (k : ℕ) (s : Scope) (start
       long = omega (arith, ap length here.cells ∙ length-append t.cells (cells_in (step_cells lowering number k x)) ∙ ap (λ n. length t.cells + n) (length-map {B = LooseCell} (step_cells lowering number k x) (λ (e : Entry). e.1)))
 
       place : terminal_at x ≡ step_place start bits starts t.cells l (slice_index l.bits.items 0)
-      place = lowest.stands (slice_index (lowering k x).bits 0) ∙ ap (λ (z : Steps). step_place start bits starts t.cells l (slice_index z.bits 0)) lowest.is
+      place = lowest.occurs (slice_index (lowering k x).bits 0) ∙ ap (λ (z : Steps). step_place start bits starts t.cells l (slice_index z.bits 0)) lowest.is
 
       build : TerminalsFit (step_terminal start bits starts t l) (fold (step_terminal start bits starts) (step_terminal start bits starts t l) ls) (x + 1) (length ls)
           → TerminalsFit t (fold (step_terminal start bits starts) (step_terminal start bits starts t l) ls) x (suc (length ls))
@@ -159,5 +159,5 @@ module _ (lowering : Lowering) (number : Numbering) (k : ℕ) (s : Scope) (start
             ∙ ap (λ p. t.places ++ p ∷ map terminal_at (range_with_len (x + 1) (length ls))) (sym place);
         row = both_rows number (start + length t.cells) (step_cells lowering number k x) (steps_from (x + 1) (length ls)) here.row
             (subst (λ n. AreInRow number n (steps_from (x + 1) (length ls))) long rest.row);
-        steps = All-cons AllStandWell x (range_with_len (x + 1) (length ls)) here.steps rest.steps;
+        steps = All-cons AllOccurWell x (range_with_len (x + 1) (length ls)) here.steps rest.steps;
       }

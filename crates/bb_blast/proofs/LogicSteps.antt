@@ -13,12 +13,12 @@ use Rattle.bb_blast.specs.declared.logic.Operand.{Operand}
 use Rattle.bb_blast.specs.declared.logic.Operand.TheVariants as operand
 use Rattle.bb_blast.specs.declared.logic.Operator.{Operator}
 use Rattle.bb_blast.specs.declared.logic.Logic.{Logic}
-use Rattle.bb_cells.specs.Places.{step_cell}
-use Rattle.bb_lists.proofs.LowBits.{low-map}
-use Rattle.bb_lists.proofs.Maps.{map-twice}
-use Rattle.bb_blast.specs.Inside.Counting.{capped, behind}
+use Rattle.bb_implements.specs.Places.{step_cell}
+use Rattle.bb_lemmas.proofs.LowBits.{low-map}
+use Rattle.bb_lemmas.proofs.Maps.{map-twice}
+use Rattle.bb_blast.specs.Inside.Counting.{capped, after}
 use Rattle.bb_blast.specs.Inside.Logic.{Kept, kept_of, with_step, result_of, operand_in, operator_of, with_operator, operand_place, operator_cell, with_logic, logic_places, IsOperandBelow, IsOperatorBelow, IsLogicAmong, IsLogicOf}
-use Rattle.bb_blast.proofs.CappedNumbers.{capped_second, behind_first}
+use Rattle.bb_blast.proofs.CappedNumbers.{capped_second, after_first}
 
 -- later steps change no result
 pub results_kept : (all : List BitStep) (k : Kept) (j : ℕ) → j < length k.results → operand_in (fold with_step k all).results j ≡ operand_in k.results j
@@ -36,15 +36,15 @@ abbrev pub with_cell : List LooseCell → Option LooseCell → List LooseCell
 with_cell cells None = cells
 with_cell cells (Some c) = cells ++ c ∷ []
 
--- where what is kept is put behind these cells
+-- where what is kept is put after these cells
 module _ (start bits : ℕ) (starts : List ℕ) (cells : List LooseCell) where
   abbrev pub own_place : Operand → ℕ
-  own_place = operand_place bits starts (behind start (length cells))
+  own_place = operand_place bits starts (after start (length cells))
 
   abbrev pub cell_of : Operator → LooseCell
   cell_of = operator_cell own_place
 
-  -- the cells with those of an expression behind them, and the places of its steps and bits
+  -- the cells with those of an expression after them, and the places of its steps and bits
   abbrev pub with_steps : Lowered → List LooseCell
   with_steps l = cells ++ map cell_of (kept_of l.steps.items).operators
 
@@ -74,19 +74,19 @@ module _ (start bits : ℕ) (starts : List ℕ) (cells : List LooseCell) where
   put_cell operators None = refl
   put_cell operators (Some o) = append_assoc cells (map cell_of operators) (cell_of o ∷ []) ∙ ap (λ l. cells ++ l) (sym (map-append cell_of operators (o ∷ [])))
 
-  -- an operator stands behind those before it
+  -- an operator follows those before it
   pub operator_next : (operators : List Operator) (at : ℕ → Operand) (step : BitStep) (c : LooseCell) → option_map cell_of (operator_of at step) ≡ Some c
-      → own_place (result_of (capped (length operators)) step) ≡ behind start (length (cells ++ map cell_of operators))
+      → own_place (result_of (capped (length operators)) step) ≡ after start (length (cells ++ map cell_of operators))
   operator_next operators at step c is = by step is
     where
-      next : behind (behind start (length cells)) (capped (length operators)) ≡ behind start (length (cells ++ map cell_of operators))
+      next : after (after start (length cells)) (capped (length operators)) ≡ after start (length (cells ++ map cell_of operators))
       next =
           let one : start + length (cells ++ map cell_of operators) ≡ (start + length cells) + length operators =
           omega (arith, length-append cells (map cell_of operators), length-map operators cell_of) in
           let two : (start + length cells) + capped (length operators) ≡ start + (length cells + capped (length operators)) = omega arith in
-          sym (ap capped one ∙ sym (capped_second (start + length cells) (length operators)) ∙ ap capped two ∙ sym (behind_first start (length cells) (capped (length operators))))
+          sym (ap capped one ∙ sym (capped_second (start + length cells) (length operators)) ∙ ap capped two ∙ sym (after_first start (length cells) (capped (length operators))))
 
-      by : (step : BitStep) → option_map cell_of (operator_of at step) ≡ Some c → own_place (result_of (capped (length operators)) step) ≡ behind start (length (cells ++ map cell_of operators))
+      by : (step : BitStep) → option_map cell_of (operator_of at step) ≡ Some c → own_place (result_of (capped (length operators)) step) ≡ after start (length (cells ++ map cell_of operators))
       by (steps.Const b) e = absurd (grind (arith, e))
       by (steps.Net n i) e = absurd (grind (arith, e))
       by (steps.Not a) e = next

@@ -1,4 +1,4 @@
--- The module at a place of a checked text, and expressions that stand in it.
+-- The module at a place of a checked text, and expressions that are in it.
 use Rattle.std.proofs.Common.{◌≡◌, ℕ, ◌≤◌, List, [], length, Option, Some, None, refl, sym, ap, ◌∙◌, subst, arith}
 use Rattle.std.specs.Prelude.{IsSomeAnd, max, slice_get}
 use Rattle.std.specs.Option.{option_and_then, option_map_or}
@@ -12,16 +12,16 @@ use Rattle.bb_names.specs.Widths.{Ranges, own_width}
 use Rattle.bb_expr.specs.declared.step.Lowered.{Lowered}
 use Rattle.bb_expr.specs.Cells.{made, cell_count}
 use Rattle.bb_expr.specs.Inside.Fit.{AreFit}
-use Rattle.bb_expr.specs.Laws.FitLaws.{StandingIsFit}
+use Rattle.bb_expr.specs.Laws.FitLaws.{OccurrencesAreFit}
 use Rattle.bb_expr.specs.Laws.{CellsAreCounted}
 use Rattle.bb_expr.specs.Lowered.{IsLowered}
-use Rattle.bb_expr.specs.Inside.Standing.{StandsAt, nets_at, ranges_at}
+use Rattle.bb_expr.specs.Inside.Occurrences.{OccursAt, nets_at, ranges_at}
 use Rattle.bb_design.specs.Hierarchy.{Scope}
 use Rattle.bb_design.specs.NetBits.{Bit, scope_bits}
 use Rattle.bb_design.specs.Contexts.{width_of, context_width}
-use Rattle.bb_blast.specs.Inside.Outlines.{AreBitsIn, IsMadeIn}
+use Rattle.bb_blast.specs.Inside.ModuleTemplates.{AreBitsIn, IsMadeIn}
 use Rattle.bb_bits.specs.Inside.Places.{AreAt}
-use Rattle.bb_blast.specs.Inside.Outlining.{module_in, scope_of}
+use Rattle.bb_blast.specs.Inside.BitBlasting.{module_in, scope_of}
 use Rattle.bb_blast.proofs.LeftBits.{fit_here}
 
 pub some_and : {A : Type 0} (P : A → Type 0) (o : Option A) → IsSomeAnd o P → (x : A) × (o ≡ Some x) × P x
@@ -44,10 +44,10 @@ module _ (checked : List ModuleFacts) (k : ℕ) (f : ModuleFacts) (there : slice
   pub nets-are : IsChecked checked → nets_at checked k ≡ nets_of (module_in checked k)
   nets-are ok = ap (λ o. option_map_or (λ (m : ModuleFacts). m.nets) o []) there ∙ (has_nets ok).nets ∙ ap nets_of (sym module-is)
 
-  -- what stands there is no wider than a net may be
-  pub standing_bounded : StandingIsFit → IsChecked checked → (e : Expression) → StandsAt checked k e → own_width (ranges_at checked k) e ≤ widest
-  standing_bounded law ok e stands =
-      let fit = at_some (λ m. AreFit m e) (slice_get checked k) f there (law checked k e ok stands) in
+  -- what is there is no wider than a net may be
+  pub occurring_bounded : OccurrencesAreFit → IsChecked checked → (e : Expression) → OccursAt checked k e → own_width (ranges_at checked k) e ≤ widest
+  occurring_bounded law ok e occurs =
+      let fit = at_some (λ m. AreFit m e) (slice_get checked k) f there (law checked k e ok occurs) in
       subst (λ (r : Ranges). own_width r e ≤ widest) (sym (ranges-are ∙ ap range_of module-is)) (fit_here f e fit).bounded
 
   pub cells_few : CellsAreCounted → (e : Expression) (least w most : ℕ) → w ≡ max least (own_width (ranges_at checked k) e) → length (made (range_of (module_in checked k)) e (max least (width_of (scope_of (module_in checked k)) e))).cells ≤ most

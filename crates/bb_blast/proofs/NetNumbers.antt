@@ -1,4 +1,4 @@
--- The bits of a scope by numbers: those of a net stand side by side behind those of the nets before it.
+-- The bits of a scope by numbers: those of a net are side by side after those of the nets before it.
 use Rattle.std.proofs.Common.{◌≡◌, ◌⊎◌, ℕ, zero, suc, ◌+◌, ◌<◌, ◌≤◌, Bool, true, false, cond, List, [], ◌∷◌, ◌++◌, map, length, take, get_or, Some, refl, sym, ap, ◌∙◌, subst, inl, inr, arith, length-append, append-nil}
 use Rattle.std.specs.Prelude.{slice_get, filter}
 use Rattle.std.specs.List.{flat_map, range_with_len, slice_index_or}
@@ -12,11 +12,11 @@ use Rattle.bb_names.specs.declared.net.NetInfo.{NetInfo}
 use Rattle.bb_names.specs.Ranges.{range_width}
 use Rattle.bb_design.specs.Hierarchy.{Path}
 use Rattle.bb_design.specs.NetBits.{Bit, bits_from, bits_of_net}
-use Rattle.bb_blast.specs.Inside.Outlines.{net_start}
+use Rattle.bb_blast.specs.Inside.ModuleTemplates.{net_start}
 use Rattle.bb_bits.specs.Inside.Places.{AreAt}
-use Rattle.bb_blast.specs.Inside.Outlining.{AreStarts, bit_count}
-use Rattle.bb_lists.proofs.Orders.{less_or_same}
-use Rattle.bb_lists.proofs.Places.{got_flat, got_left, got_right}
+use Rattle.bb_blast.specs.Inside.BitBlasting.{AreStarts, bit_count}
+use Rattle.bb_lemmas.proofs.Orders.{less_or_same}
+use Rattle.bb_lemmas.proofs.Places.{got_flat, got_left, got_right}
 
 pub got_run : {A : Type 0} (f : ℕ → A) (a n k : ℕ) → k < n → slice_get (map f (range_with_len a n)) k ≡ Some (f (a + k))
 got_run f a zero k lt = absurd (omega (arith, lt))

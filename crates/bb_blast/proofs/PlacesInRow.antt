@@ -1,4 +1,4 @@
--- Places of a list that stand in a row, and what is made of lists place by place.
+-- Places of a list that are in a row, and what is made of lists place by place.
 use Rattle.std.proofs.Common.{◌≡◌, ℕ, zero, suc, ◌+◌, false, List, [], ◌∷◌, ◌++◌, map, drop, length, get_or, All, Some, refl, sym, ap, ap₂, ◌∙◌, arith, length-append}
 use Rattle.std.specs.Prelude.{slice_get}
 use Rattle.std.specs.List.{AllZip, enumerate_from, range_with_len}
@@ -7,17 +7,17 @@ use Rattle.std.proofs.lemmas.List.FromFn.{get_or-range_with_len}
 use Rattle.bb_net.specs.declared.loose.LooseCell.{LooseCell}
 use Rattle.bb_net.specs.declared.loose.LooseCell.TheVariants as cell
 use Rattle.bb_net.specs.Loose.{LooseList, loose_at}
-use Rattle.bb_blast.specs.Inside.Counting.{capped, behind}
-use Rattle.bb_cells.specs.Places.{Place, Numbering}
+use Rattle.bb_blast.specs.Inside.Counting.{capped, after}
+use Rattle.bb_implements.specs.Places.{CellPlace, Numbering}
 
 pub map-same : {A B : Type 0} (f g : A → B) → ((x : A) → f x ≡ g x) → (xs : List A) → map f xs ≡ map g xs
 map-same f g same [] = refl
 map-same f g same (x ∷ xs) = ap₂ ◌∷◌ (same x) (map-same f g same xs)
 
 abbrev pub Entry : Type 0
-Entry = Place × LooseCell
+Entry = CellPlace × LooseCell
 
--- places that stand in a row from a number on, as far as 32 bits tell
+-- places that are in a row from a number on, as far as 32 bits say
 pub record AreInRow (number : Numbering) (at : ℕ) (all : List Entry) : Type 0 where
   pub row : map (λ (x : Entry). number x.0) all ≡ map capped (range_with_len at (length all))
 
@@ -57,11 +57,11 @@ pub numbers_from : {A B : Type 0} (f : ℕ → B) (a : ℕ) (xs : List A) → ma
 numbers_from f a [] = refl
 numbers_from f a (x ∷ xs) = ap (λ l. f a ∷ l) (numbers_from f (a + 1) xs)
 
-pub moved_row : (at a n : ℕ) → map (behind at) (range_with_len a n) ≡ map capped (range_with_len (at + a) n)
+pub moved_row : (at a n : ℕ) → map (after at) (range_with_len a n) ≡ map capped (range_with_len (at + a) n)
 moved_row at a zero = refl
-moved_row at a (suc n) = ap (λ l. behind at a ∷ l) (moved_row at (a + 1) n ∙ ap (λ m. map capped (range_with_len m n)) (omega arith))
+moved_row at a (suc n) = ap (λ l. after at a ∷ l) (moved_row at (a + 1) n ∙ ap (λ m. map capped (range_with_len m n)) (omega arith))
 
-pub row_of : {A : Type 0} (f : A → ℕ) (xs : List A) (at : ℕ) → ((k : ℕ) (x : A) → slice_get xs k ≡ Some x → f x ≡ behind at k) → map f xs ≡ map capped (range_with_len at (length xs))
+pub row_of : {A : Type 0} (f : A → ℕ) (xs : List A) (at : ℕ) → ((k : ℕ) (x : A) → slice_get xs k ≡ Some x → f x ≡ after at k) → map f xs ≡ map capped (range_with_len at (length xs))
 row_of f [] at each = refl
 row_of f (x ∷ xs) at each = ap₂ ◌∷◌ (each 0 x refl ∙ ap capped (omega arith)) (row_of f xs (at + 1) (λ k y e. each (suc k) y e ∙ ap capped (omega arith)))
 
@@ -71,9 +71,9 @@ same_zipped R f g [] (y ∷ ys) all each = absurd all
 same_zipped R f g (x ∷ xs) [] all each = absurd all
 same_zipped R f g (x ∷ xs) (y ∷ ys) all each = ap₂ ◌∷◌ (each x y all.0) (same_zipped R f g xs ys all.1 each)
 
--- where places stand in a row from 0 on, each cell stands at its place
-pub cells_stand : (number : Numbering) (all : List Entry) (l : LooseList) → map (λ (x : Entry). number x.0) all ≡ range_with_len 0 (length all) → l.cells ≡ cells_in all → All (λ (x : Entry). loose_at l (number x.0) ≡ x.1) all
-cells_stand number all l row cells k x fits =
+-- where places are in a row from 0 on, each cell is at its place
+pub cells_occur : (number : Numbering) (all : List Entry) (l : LooseList) → map (λ (x : Entry). number x.0) all ≡ range_with_len 0 (length all) → l.cells ≡ cells_in all → All (λ (x : Entry). loose_at l (number x.0) ≡ x.1) all
+cells_occur number all l row cells k x fits =
     let at : number (get_or all k x).0 ≡ k =
     sym (get_or-map (λ (e : Entry). number e.0) all k x 0 fits) ∙ ap (λ z. get_or z k 0) row ∙ get_or-range_with_len 0 (length all) k 0 fits ∙ omega arith in
     ap (loose_at l) at ∙ ap (λ c. get_or c k (cell.Const false)) cells ∙ get_or-map (λ (e : Entry). e.1) all k x (cell.Const false) fits

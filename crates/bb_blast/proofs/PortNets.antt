@@ -11,9 +11,9 @@ use Rattle.bb_names.specs.Inside.Checked.{ModuleFacts, syntax, HasNets}
 use Rattle.bb_names.specs.Declarations.{direction_of, port_direction}
 use Rattle.bb_names.specs.Nets.{net_names, net_of}
 use Rattle.bb_expr.specs.Inside.Fit.{HasNet}
-use Rattle.bb_lists.proofs.Names.{place-holds, same_equal, same_self}
-use Rattle.bb_lists.proofs.Places.{got-map}
-use Rattle.bb_lists.proofs.Members.{contains-map, contains_cases, none_in_nil, from_find}
+use Rattle.bb_lemmas.proofs.Names.{place-holds, same_equal, same_self}
+use Rattle.bb_lemmas.proofs.Places.{got-map}
+use Rattle.bb_lemmas.proofs.Members.{contains-map, contains_cases, none_in_nil, from_find}
 use Rattle.bb_design.specs.Laws.DesignLaws.{DesignLaws}
 
 names-named : (m : PlainModule) (names : List (List ℕ)) → map (λ (net : NetInfo). net.name) (map (net_of m) names) ≡ names

@@ -9,8 +9,8 @@ use Rattle.bb_ast.specs.Syntax.{Expression, Net, Bit, Part, Sized, Plain, Not, F
 use Rattle.bb_names.specs.Declarations.{range_of}
 use Rattle.bb_names.specs.Ranges.{distance, range_width, place_of}
 use Rattle.bb_design.specs.NetBits.{assigned, written_bits, Bit as NetBit}
-use Rattle.bb_lists.proofs.Members.{each_of}
-use Rattle.bb_lists.proofs.Ranges.{length-run}
+use Rattle.bb_lemmas.proofs.Members.{each_of}
+use Rattle.bb_lemmas.proofs.Ranges.{length-run}
 use Rattle.bb_blast.specs.Laws.ModuleLaws.{LeftHasBits, HasBits}
 
 abbrev pub HasClock : PlainBody → Type 0

@@ -1,4 +1,4 @@
--- Parts as they were before steps were let go: what a part puts behind others is what all steps of its expressions would put there.
+-- Parts as they were before steps were let go: what a part puts after others is what all steps of its expressions would put there.
 use Rattle.std.proofs.Common.{◌≡◌, ◌∙◌, ◌-◌, ◌≤◌, ℕ, List, [], ◌∷◌, ◌++◌, map, flat_map, drop, length, All, refl, sym, ap, ap₂, arith}
 use Rattle.std.specs.Prelude.{slice_index}
 use Rattle.std.specs.List.{AllZip, fold}
@@ -10,16 +10,16 @@ use Rattle.bb_bits.specs.Bits.{low_bits}
 use Rattle.bb_expr.specs.declared.step.Lowered.{Lowered}
 use Rattle.bb_blast.specs.declared.logic.Logic.{Logic}
 use Rattle.bb_blast.specs.declared.logic.Operand.{Operand}
-use Rattle.bb_blast.specs.declared.outline.Part.{Part}
-use Rattle.bb_blast.specs.declared.outline.Part.TheVariants as part
+use Rattle.bb_blast.specs.declared.template.Part.{Part}
+use Rattle.bb_blast.specs.declared.template.Part.TheVariants as part
 use Rattle.bb_net.specs.declared.loose.LooseCell.{LooseCell}
 use Rattle.bb_design.specs.NetBits.{written_bits}
 use Rattle.bb_design.specs.Contexts.{width_of, context_width}
 use Rattle.bb_design.specs.Constructs.{Construct, Assignment, GateInstance, Register, SupplyNet, InputConnection, OutputConnection}
-use Rattle.bb_blast.specs.Inside.Counting.{behind}
-use Rattle.bb_blast.specs.Inside.Listing.{Site, Sheet, Terminals, beside, driven_by, gate_on, giving, giving_next, with_part, with_terminal}
+use Rattle.bb_blast.specs.Inside.Counting.{after}
+use Rattle.bb_blast.specs.Inside.Listing.{Site, CellList, Terminals, beside, driven_by, gate_on, giving, giving_next, with_part, with_terminal}
 use Rattle.bb_blast.specs.Inside.Logic.{kept_of, operand_in, operand_place}
-use Rattle.bb_blast.specs.Inside.Outlines.{AreBitsIn, IsMadeIn, IsPartOf, IsPinIn, IsWholeIn}
+use Rattle.bb_blast.specs.Inside.ModuleTemplates.{AreBitsIn, IsMadeIn, IsPartOf, IsPinIn, IsWholeIn}
 use Rattle.bb_blast.proofs.LogicSteps.{with_steps, step_place, bit_places, cells_same, places_same}
 
 -- a part with all steps of its expressions, or one without expressions
@@ -30,11 +30,11 @@ pub data Whole : Type 0 where
   Connected : ℕ → List ℕ → Lowered → Whole
   Other : Part → Whole
 
-abbrev pub with_expression : ℕ → ℕ → List ℕ → Sheet → Lowered → Sheet
-with_expression start bits starts sheet l = record {
-  cells = with_steps start bits starts sheet.cells l;
-  sources = sheet.sources;
-  next = sheet.next;
+abbrev pub with_expression : ℕ → ℕ → List ℕ → CellList → Lowered → CellList
+with_expression start bits starts cell_list l = record {
+  cells = with_steps start bits starts cell_list.cells l;
+  sources = cell_list.sources;
+  next = cell_list.next;
 }
 
 abbrev after_terminal : Terminals → List LooseCell → ℕ → Terminals
@@ -47,17 +47,17 @@ step_terminal start bits starts t l =
 abbrev pub step_terminals : ℕ → ℕ → List ℕ → List LooseCell → List Lowered → Terminals
 step_terminals start bits starts cells ins = fold (step_terminal start bits starts) (record { cells = cells; places = [] }) ins
 
-abbrev pub with_whole : ℕ → ℕ → Site → Sheet → Whole → Sheet
-with_whole nets start s sheet (Assigned left right) =
-    giving (with_expression start (behind nets s.first) s.starts sheet right) (beside s.first left (low_bits (length left) (bit_places start (behind nets s.first) s.starts sheet.cells right)))
-with_whole nets start s sheet (Clocked left right) =
-    giving_next (with_expression start (behind nets s.first) s.starts sheet right) (beside s.first left (low_bits (length left) (bit_places start (behind nets s.first) s.starts sheet.cells right)))
-with_whole nets start s sheet (Gated gate outs ins) = driven_by sheet (gate_on start gate (step_terminals start (behind nets s.first) s.starts sheet.cells ins)) s.first outs
-with_whole nets start s sheet (Connected instance pin value) =
-    giving (with_expression start (behind nets s.first) s.starts sheet value) (beside (s.inner instance) pin (bit_places start (behind nets s.first) s.starts sheet.cells value))
-with_whole nets start s sheet (Other q) = with_part nets start s sheet q
+abbrev pub with_whole : ℕ → ℕ → Site → CellList → Whole → CellList
+with_whole nets start s cell_list (Assigned left right) =
+    giving (with_expression start (after nets s.first) s.starts cell_list right) (beside s.first left (low_bits (length left) (bit_places start (after nets s.first) s.starts cell_list.cells right)))
+with_whole nets start s cell_list (Clocked left right) =
+    giving_next (with_expression start (after nets s.first) s.starts cell_list right) (beside s.first left (low_bits (length left) (bit_places start (after nets s.first) s.starts cell_list.cells right)))
+with_whole nets start s cell_list (Gated gate outs ins) = driven_by cell_list (gate_on start gate (step_terminals start (after nets s.first) s.starts cell_list.cells ins)) s.first outs
+with_whole nets start s cell_list (Connected instance pin value) =
+    giving (with_expression start (after nets s.first) s.starts cell_list value) (beside (s.inner instance) pin (bit_places start (after nets s.first) s.starts cell_list.cells value))
+with_whole nets start s cell_list (Other q) = with_part nets start s cell_list q
 
--- it stands for a construct of a module
+-- it implements a construct of a module
 abbrev pub IsWholeOf : List PlainModule → PlainModule → Whole → Construct → Type 0
 IsWholeOf text m (Assigned left right) (Assignment l r) = AreBitsIn m left (λ s. written_bits s l) × IsMadeIn m right r (λ s. context_width s l r)
 IsWholeOf text m (Clocked left right) (Register r) = AreBitsIn m left (λ s. written_bits s r.left) × IsMadeIn m right r.right (λ s. context_width s r.left r.right)
@@ -92,7 +92,7 @@ terminal_same m g e is one start bits starts t =
     let result = operand_in (kept_of is.0.steps.items).results in
     let bit : operand_in g.bits.items 0 ≡ result (slice_index is.0.bits.items 0) =
     ap (λ l. operand_in l 0) (is.2.bits ∙ ap (map result) (low_whole width is.0.bits.items (sym is.1.width))) ∙ first_of result is.0.bits.items (is.1.width ∙ one) in
-    ap₂ (after_terminal t) (cells_same start bits starts t.cells width is.0 g is.2) (ap (operand_place bits starts (behind start (length t.cells))) bit)
+    ap₂ (after_terminal t) (cells_same start bits starts t.cells width is.0 g is.2) (ap (operand_place bits starts (after start (length t.cells))) bit)
 
 record AreInputsOf (m : PlainModule) (gs : List Logic) (es : List Expression) : Type 0 where
   lowereds : List Lowered
@@ -117,45 +117,45 @@ inputs_of m (g ∷ gs) (e ∷ es) all narrow =
 -- what is kept of a part does what all of it did
 pub record IsWhole (text : List PlainModule) (m : PlainModule) (q : Part) (c : Construct) : Type 0 where
   pub whole : Whole
-  pub stands : IsWholeOf text m whole c
-  pub puts : (nets start : ℕ) (s : Site) (sheet : Sheet) → with_part nets start s sheet q ≡ with_whole nets start s sheet whole
+  pub occurs : IsWholeOf text m whole c
+  pub puts : (nets start : ℕ) (s : Site) (cell_list : CellList) → with_part nets start s cell_list q ≡ with_whole nets start s cell_list whole
 
-put_by : (f : Sheet → List (ℕ × ℕ) → Sheet) (sheet : Sheet) (first : ℕ) (left : List ℕ) (cells others : List LooseCell) (places more : List ℕ) → cells ≡ others → places ≡ more
-    → f (record { cells = cells; sources = sheet.sources; next = sheet.next }) (beside first left places) ≡ f (record { cells = others; sources = sheet.sources; next = sheet.next }) (beside first left more)
-put_by f sheet first left cells others places more p q =
-    ap₂ (λ (c : List LooseCell) (l : List ℕ). f (record { cells = c; sources = sheet.sources; next = sheet.next }) (beside first left l)) p q
+put_by : (f : CellList → List (ℕ × ℕ) → CellList) (cell_list : CellList) (first : ℕ) (left : List ℕ) (cells others : List LooseCell) (places more : List ℕ) → cells ≡ others → places ≡ more
+    → f (record { cells = cells; sources = cell_list.sources; next = cell_list.next }) (beside first left places) ≡ f (record { cells = others; sources = cell_list.sources; next = cell_list.next }) (beside first left more)
+put_by f cell_list first left cells others places more p q =
+    ap₂ (λ (c : List LooseCell) (l : List ℕ). f (record { cells = c; sources = cell_list.sources; next = cell_list.next }) (beside first left l)) p q
 
 pub whole_of : (text : List PlainModule) (m : PlainModule) (q : Part) (c : Construct) → IsPartOf text m q c → HasInputs m c → IsWhole text m q c
 whole_of text m (part.Assignment left right) (Assignment l r) is some = record {
   whole = Assigned left.items is.1.0;
-  stands = (is.0, is.1.1);
-  puts = λ nets start s sheet. put_by giving sheet s.first left.items _ _ _ _ (cells_same start (behind nets s.first) s.starts sheet.cells (length left.items) is.1.0 right is.1.2)
-      (places_same start (behind nets s.first) s.starts sheet.cells (length left.items) is.1.0 right is.1.2);
+  occurs = (is.0, is.1.1);
+  puts = λ nets start s cell_list. put_by giving cell_list s.first left.items _ _ _ _ (cells_same start (after nets s.first) s.starts cell_list.cells (length left.items) is.1.0 right is.1.2)
+      (places_same start (after nets s.first) s.starts cell_list.cells (length left.items) is.1.0 right is.1.2);
 }
 whole_of text m (part.Gate gate outs ins) (GateInstance g os es) is some =
     let inputs = inputs_of m ins.items es is.2 some.1 in
     record {
       whole = Gated gate outs.items inputs.lowereds;
-      stands = (is.0, is.1, inputs.made);
-      puts = λ nets start s sheet. ap (λ (t : Terminals). driven_by sheet (gate_on start gate t) s.first outs.items)
-          (inputs.same start (behind nets s.first) s.starts (record { cells = sheet.cells; places = [] }));
+      occurs = (is.0, is.1, inputs.made);
+      puts = λ nets start s cell_list. ap (λ (t : Terminals). driven_by cell_list (gate_on start gate t) s.first outs.items)
+          (inputs.same start (after nets s.first) s.starts (record { cells = cell_list.cells; places = [] }));
     }
 whole_of text m (part.Register left right clock falling) (Register r) is some = record {
   whole = Clocked left.items is.1.0;
-  stands = (is.0, is.1.1);
-  puts = λ nets start s sheet. put_by giving_next sheet s.first left.items _ _ _ _ (cells_same start (behind nets s.first) s.starts sheet.cells (length left.items) is.1.0 right is.1.2)
-      (places_same start (behind nets s.first) s.starts sheet.cells (length left.items) is.1.0 right is.1.2);
+  occurs = (is.0, is.1.1);
+  puts = λ nets start s cell_list. put_by giving_next cell_list s.first left.items _ _ _ _ (cells_same start (after nets s.first) s.starts cell_list.cells (length left.items) is.1.0 right is.1.2)
+      (places_same start (after nets s.first) s.starts cell_list.cells (length left.items) is.1.0 right is.1.2);
 }
-whole_of text m (part.Supply high bits) (SupplyNet h n) is some = record { whole = Other (part.Supply high bits); stands = is; puts = λ nets start s sheet. refl }
+whole_of text m (part.Supply high bits) (SupplyNet h n) is some = record { whole = Other (part.Supply high bits); occurs = is; puts = λ nets start s cell_list. refl }
 whole_of text m (part.Input instance pin value) (InputConnection i port e) is some = record {
   whole = Connected instance pin.items is.1.0;
-  stands = (is.0, is.1.1);
-  puts = λ nets start s sheet.
+  occurs = (is.0, is.1.1);
+  puts = λ nets start s cell_list.
       let width = width_of (record { path = []; source = m }) e in
-      let place = step_place start (behind nets s.first) s.starts sheet.cells is.1.0 in
-      put_by giving sheet (s.inner instance) pin.items _ _ _ _ (cells_same start (behind nets s.first) s.starts sheet.cells width is.1.0 value is.1.2)
-      (places_same start (behind nets s.first) s.starts sheet.cells width is.1.0 value is.1.2
+      let place = step_place start (after nets s.first) s.starts cell_list.cells is.1.0 in
+      put_by giving cell_list (s.inner instance) pin.items _ _ _ _ (cells_same start (after nets s.first) s.starts cell_list.cells width is.1.0 value is.1.2)
+      (places_same start (after nets s.first) s.starts cell_list.cells width is.1.0 value is.1.2
       ∙ low_whole width (map place is.1.0.bits.items) (sym (length-map is.1.0.bits.items place ∙ is.1.1.width)));
 }
-whole_of text m (part.Output instance pin left) (OutputConnection i port e) is some = record { whole = Other (part.Output instance pin left); stands = is; puts = λ nets start s sheet. refl }
+whole_of text m (part.Output instance pin left) (OutputConnection i port e) is some = record { whole = Other (part.Output instance pin left); occurs = is; puts = λ nets start s cell_list. refl }
 whole_of text m q c is some = absurd is

@@ -1,7 +1,7 @@
--- What the code says to itself: no clause of the top call rests on it.
+-- What the functions of this crate say to each other: no clause of the top call rests on it.
 pub mod Counting
 pub mod Logic
 pub mod Listing
-pub mod Outlines
-pub mod Outlining
+pub mod ModuleTemplates
+pub mod BitBlasting
 pub mod Placements

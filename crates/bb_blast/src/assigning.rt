@@ -1,26 +1,28 @@
-//! The parts of assignments, registers and supply nets.
+//! The template parts of assignments, registers and supply nets.
+//!
+//! A right side is lowered at the wider of its own width and that of the left side (IEEE 1364-2005, 5.4.1) and
+//! truncated only then: a bit that is cut off may still be shifted into one that is kept.
 
 ghost use Rattle.std.specs.Prelude.{◌++◌, List, All, map, IfOk, OnOk};
 ghost use Rattle.std.specs.List.{AllZip, flat_map};
 ghost use Rattle.bb_ast.specs.Syntax.{Net};
 ghost use Rattle.bb_ast.specs.Inside.Views.{expression, always_view, arm_view, named_view};
 ghost use Rattle.bb_names.specs.Nets.{nets_of};
-ghost use Rattle.bb_expr.specs.Inside.Standing.{StandsAt};
+ghost use Rattle.bb_expr.specs.Inside.Occurrences.{OccursAt};
 ghost use Rattle.bb_design.specs.Constructs.{Construct, Assignment, Register, SupplyNet, initial_construct};
-ghost use Rattle.bb_blast.specs.Inside.Outlining.{AreStarts, IsMakeable, IsPartAt, module_in};
+ghost use Rattle.bb_blast.specs.Inside.BitBlasting.{AreStarts, IsMakeable, IsPartAt, module_in};
 
 use crate::expression_steps::{scope_at, steps_beside};
 use crate::left_bits::{left_bits, net_bits};
 use crate::logic::logic_of;
 use crate::module_context::ModuleContext;
-use crate::outline::Part;
+use crate::template::Part;
 use bb_ast::{Always, Expr};
 use bb_bits::{Name, NoMemory};
-use bb_expr::laws::standing_is_fit;
+use bb_expr::laws::occurrences_are_fit;
 use bb_expr::own_width;
 use std::alloc::Global;
 
-// An assignment.
 fn assignment(
     alloc: Global,
     context: ModuleContext<'_>,
@@ -28,11 +30,11 @@ fn assignment(
     right: &Expr,
 ) -> Result<Part, NoMemory>
     requires starts { AreStarts (nets_of (module_in context.checked.now context.«module»)) context.starts.now }
-    requires stands { StandsAt context.checked.now context.«module» (expression left.now) }
+    requires occurs { OccursAt context.checked.now context.«module» (expression left.now) }
     requires makeable { IsMakeable context.checked.now context.«module» (Assignment (expression left.now) (expression right.now)) }
     ensures part { IfOk result (λ part. IsPartAt context.entry.checked.now context.entry.«module» part (Assignment (expression left.now) (expression right.now))) }
 {
-    standing_is_fit();
+    occurrences_are_fit();
     let scope = scope_at(context.checked, context.module);
     let bits = left_bits(alloc, scope, context.starts, left)?;
     let least = own_width(context.checked, context.module, left);
@@ -41,7 +43,6 @@ fn assignment(
     Ok(Part::Assignment { left: bits, right })
 }
 
-// The assignment of a declared wire.
 fn declared_assignment(
     alloc: Global,
     context: ModuleContext<'_>,
@@ -60,7 +61,6 @@ fn declared_assignment(
     Ok(Part::Assignment { left, right })
 }
 
-/// Adds assignments.
 pub(crate) fn add_assignments(
     alloc: Global,
     context: ModuleContext<'_>,
@@ -68,7 +68,7 @@ pub(crate) fn add_assignments(
     parts: &mut Vec<Part>,
 ) -> Result<(), NoMemory>
     requires starts { AreStarts (nets_of (module_in context.checked.now context.«module»)) context.starts.now }
-    requires stands { All (λ x. StandsAt context.checked.now context.«module» x.0) (map arm_view all.now) }
+    requires occurs { All (λ x. OccursAt context.checked.now context.«module» x.0) (map arm_view all.now) }
     requires makeable { All (λ x. IsMakeable context.checked.now context.«module» (Assignment x.0 x.1)) (map arm_view all.now) }
     ensures parts { (before : List Construct) → AllZip (IsPartAt context.entry.checked.now context.entry.«module») parts.old.items before
         → OnOk result (AllZip (IsPartAt context.entry.checked.now context.entry.«module») parts.new.items (before ++ map (λ x. Assignment x.0 x.1) (map arm_view all.now))) }
@@ -79,7 +79,6 @@ pub(crate) fn add_assignments(
     Ok(())
 }
 
-// Adds the assignment of a declared wire, if it has one.
 fn add_declared(
     alloc: Global,
     context: ModuleContext<'_>,
@@ -97,7 +96,6 @@ fn add_declared(
     Ok(())
 }
 
-/// Adds the assignments of declared wires.
 pub(crate) fn add_all_declared(
     alloc: Global,
     context: ModuleContext<'_>,
@@ -115,7 +113,6 @@ pub(crate) fn add_all_declared(
     Ok(())
 }
 
-/// Adds supply nets.
 pub(crate) fn add_supplies(
     alloc: Global,
     context: ModuleContext<'_>,
@@ -136,7 +133,7 @@ pub(crate) fn add_supplies(
     Ok(())
 }
 
-/// Registers.
+/// The clock is one bit: it is a net or a bit of one, and a wider net is refused before.
 pub(crate) fn register(
     alloc: Global,
     context: ModuleContext<'_>,
@@ -146,7 +143,7 @@ pub(crate) fn register(
     requires makeable { IsMakeable context.checked.now context.«module» (Register (always_view always.now)) }
     ensures part { IfOk result (λ part. IsPartAt context.entry.checked.now context.entry.«module» part (Register (always_view always.now))) }
 {
-    standing_is_fit();
+    occurrences_are_fit();
     let scope = scope_at(context.checked, context.module);
     let left = left_bits(alloc, scope, context.starts, &always.left)?;
     let least = own_width(context.checked, context.module, &always.left);

@@ -1,24 +1,24 @@
-//! The parts of the connections of instances.
+//! The template parts of port connections. A place in a list by order is looked up in the header, so both forms of
+//! connections are made by the name of the port.
 
 ghost use Rattle.std.specs.Prelude.{◌≡◌, ◌<◌, ◌+◌, ◌++◌, ◌^◌, ℕ, List, All, length, map, option_to_list, Some, IfOk, OnOk};
 ghost use Rattle.std.specs.List.{AllZip, flat_map};
 ghost use Rattle.bb_ast.specs.Syntax.{Order, Named};
 ghost use Rattle.bb_ast.specs.Inside.Views.{optional_view, named_view, conns_view, call_view};
 ghost use Rattle.bb_names.specs.Inside.Checked.{syntax};
-ghost use Rattle.bb_names.specs.Spots.{module_named, pin_at};
+ghost use Rattle.bb_names.specs.Sites.{module_named, pin_at};
 ghost use Rattle.bb_design.specs.Constructs.{Construct, connection, connections};
 ghost use Rattle.bb_design.specs.Hierarchy.{Instance, instance_of};
-ghost use Rattle.bb_blast.specs.Inside.Outlining.{IsStarted, IsStartedModule, IsCallAt, AreCallsAt, IsMakeable, IsPartAt, module_in};
+ghost use Rattle.bb_blast.specs.Inside.BitBlasting.{IsStarted, IsStartedModule, IsCallAt, AreCallsAt, IsMakeable, IsPartAt, module_in};
 
 use crate::connecting::connected;
 use crate::expression_steps::scope_at;
 use crate::module_context::{InstanceContext, ModuleContext, Targets};
-use crate::outline::Part;
+use crate::template::Part;
 use bb_ast::{Call, Conns, Expr};
 use bb_bits::{Name, NoMemory};
 use std::alloc::Global;
 
-// Adds a part, if there is one.
 fn add_part(parts: &mut Vec<Part>, part: Option<Part>) -> Result<(), NoMemory>
     ensures added { OnOk result (parts.new.items ≡ parts.old.items ++ option_to_list part) }
 {
@@ -28,7 +28,7 @@ fn add_part(parts: &mut Vec<Part>, part: Option<Part>) -> Result<(), NoMemory>
     Ok(())
 }
 
-// What stands at a place of a list of connections by order, where there is such a port and the place is not left open.
+// None where there is no such port, or the place is left open.
 fn ordered(
     alloc: Global,
     context: ModuleContext<'_>,
@@ -52,7 +52,6 @@ fn ordered(
     }
 }
 
-// Adds connections by order.
 fn add_ordered(
     alloc: Global,
     context: ModuleContext<'_>,
@@ -73,7 +72,6 @@ fn add_ordered(
     Ok(())
 }
 
-// Adds connections by the names of ports.
 fn add_named(
     alloc: Global,
     context: ModuleContext<'_>,
@@ -94,7 +92,6 @@ fn add_named(
     Ok(())
 }
 
-// Adds the connections of an instance.
 fn add_conns(
     alloc: Global,
     context: ModuleContext<'_>,
@@ -114,7 +111,7 @@ fn add_conns(
     }
 }
 
-/// Adds the connections of instances of one module, of which the first has a number in the module where they stand.
+/// `first` is the number of the first of these instances among those of the module.
 pub(crate) fn add_calls(
     alloc: Global,
     context: ModuleContext<'_>,

@@ -1,27 +1,27 @@
-//! The parts of connections: what is connected to a port of an instance.
+//! A port connection is an assignment between two scopes: into the bits of an input port, out of those of an output
+//! port.
 
 ghost use Rattle.std.specs.Prelude.{◌≡◌, ◌<◌, ℕ, List, All, None, map, option_to_list, Some, IfOk, IfSome};
 ghost use Rattle.std.specs.List.{AllZip};
 ghost use Rattle.bb_ast.specs.Inside.Views.{optional_view};
 ghost use Rattle.bb_names.specs.Inside.Checked.{module_facts, syntax, HasNets};
 ghost use Rattle.bb_names.specs.Declarations.{port_direction};
-ghost use Rattle.bb_names.specs.Spots.{pin_named};
+ghost use Rattle.bb_names.specs.Sites.{pin_named};
 ghost use Rattle.bb_expr.specs.Inside.Fit.{HasNet};
 ghost use Rattle.bb_design.specs.Constructs.{connection, connections};
 ghost use Rattle.bb_design.specs.Hierarchy.{Instance};
-ghost use Rattle.bb_blast.specs.Inside.Outlining.{IsStartedModule, IsCallAt, IsMakeable, IsPartAt, module_in};
+ghost use Rattle.bb_blast.specs.Inside.BitBlasting.{IsStartedModule, IsCallAt, IsMakeable, IsPartAt, module_in};
 
 use crate::expression_steps::{logic_alone, scope_at};
 use crate::left_bits::{left_bits, net_bits};
 use crate::module_context::{InstanceContext, ModuleContext};
-use crate::outline::Part;
+use crate::template::Part;
 use bb_ast::{Dir, Expr};
 use bb_bits::{Name, NoMemory};
 use bb_design::laws::laws_of_designs;
 use bb_names::CheckedModule;
 use std::alloc::Global;
 
-// The direction of the port of that name, where it is one with a direction.
 fn port_direction(scope: &CheckedModule, name: &Name) -> Option<Dir>
     requires nets { HasNets (module_facts scope.now) }
     ensures direction { result ≡ port_direction (syntax (module_facts scope.now)) name.now }
@@ -34,7 +34,7 @@ fn port_direction(scope: &CheckedModule, name: &Name) -> Option<Dir>
     }
 }
 
-/// What is connected to the port of that name of an instance, where it is a port and not left open.
+/// None where the place is left open, or the name is not that of a port with a direction.
 pub(crate) fn connected(
     alloc: Global,
     context: ModuleContext<'_>,

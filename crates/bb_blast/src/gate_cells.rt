@@ -1,10 +1,13 @@
-//! The cells of gates.
+//! The cells of gates: each input is joined to those before it by one operator, and a gate that inverts ends with one
+//! complement. So a nand of three inputs is the complement of their conjunction, and not a nand of a nand (IEEE
+//! 1364-2005, 7.2).
 //!
-//! An input is joined to those before it by an operator each, and a gate that inverts ends with a complement.
+//! That a gate has an input comes from the grammar, so laws about the list of cells ask for a well-formed text beside
+//! one without faults.
 
 ghost use Rattle.std.specs.Prelude.{◌≡◌, All, length, IfOk, OnOk};
 ghost use Rattle.bb_design.specs.GateFunctions.{inverts};
-ghost use Rattle.bb_cells.specs.Places.{join_cell};
+ghost use Rattle.bb_implements.specs.Places.{join_cell};
 ghost use Rattle.bb_blast.specs.Inside.Listing.{with_terminals, joined, inverted, with_gate};
 ghost use Rattle.bb_blast.specs.Inside.Logic.{IsLogicAmong};
 
@@ -15,7 +18,7 @@ use bb_ast::Gate;
 use bb_bits::NoMemory;
 use bb_net::LooseCell;
 
-// The operator that joins the inputs of a gate; buf and not have none to join.
+// `buf` and `not` have one input, so their operator is never used.
 fn join_cell(gate: &Gate, a: u32, b: u32) -> LooseCell
     ensures cell { result ≡ join_cell gate.now a b }
 {
@@ -27,14 +30,12 @@ fn join_cell(gate: &Gate, a: u32, b: u32) -> LooseCell
     }
 }
 
-// Whether a gate inverts.
 fn inverts(gate: &Gate) -> bool
     ensures inverts { result ≡ inverts gate.now }
 {
     matches!(gate, Gate::Nand | Gate::Nor | Gate::Xnor | Gate::Not)
 }
 
-// Puts the cells of the inputs of a gate behind others, and notes the places of the inputs.
 fn add_terminals(
     spot: Spot<'_>,
     ins: &[Logic],
@@ -52,7 +53,7 @@ fn add_terminals(
     Ok(())
 }
 
-// Joins the inputs at these places, and gives the place of all of them together.
+// Without inputs, which the grammar excludes, the place is that of the constant 0.
 fn add_joins(
     start: u32,
     gate: &Gate,
@@ -74,7 +75,6 @@ fn add_joins(
     Ok(place)
 }
 
-// Puts the complement behind the cells of a gate that inverts, and gives the place of the gate.
 fn add_inverter(
     start: u32,
     gate: &Gate,
@@ -92,8 +92,7 @@ fn add_inverter(
     Ok(next)
 }
 
-/// Puts the cells of a gate after others, and gives its place. The places of its inputs go into a list that is there to be
-/// used again.
+/// Returns the gate's place. `places` is scratch for those of its inputs, passed in so that its memory is used again.
 pub(crate) fn add_gate(
     spot: Spot<'_>,
     gate: &Gate,

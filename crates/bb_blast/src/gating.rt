@@ -1,26 +1,26 @@
-//! The parts of gates.
+//! The template parts of gates: terminals are parted into outputs and inputs (IEEE 1364-2005, 7.2 and 7.3).
 
 ghost use Rattle.std.specs.Prelude.{◌≡◌, ◌≤◌, ◌<◌, ◌++◌, List, All, length, map, min, IfOk, OnOk};
 ghost use Rattle.std.specs.List.{AllZip};
 ghost use Rattle.bb_ast.specs.Gates.{output_count};
 ghost use Rattle.bb_ast.specs.Inside.Views.{expression, gate_view};
 ghost use Rattle.bb_names.specs.Nets.{nets_of};
-ghost use Rattle.bb_expr.specs.Inside.Standing.{StandsAt};
+ghost use Rattle.bb_expr.specs.Inside.Occurrences.{OccursAt};
 ghost use Rattle.bb_design.specs.Contexts.{width_of, made_in};
 ghost use Rattle.bb_design.specs.Constructs.{Construct, gate_construct};
-ghost use Rattle.bb_blast.specs.Inside.Outlines.{IsWholeIn};
-ghost use Rattle.bb_blast.specs.Inside.Outlining.{AreStarts, IsMakeable, IsPartAt, module_in, scope_of};
+ghost use Rattle.bb_blast.specs.Inside.ModuleTemplates.{IsWholeIn};
+ghost use Rattle.bb_blast.specs.Inside.BitBlasting.{AreStarts, IsMakeable, IsPartAt, module_in, scope_of};
 
 use crate::expression_steps::{logic_alone, scope_at};
 use crate::left_bits::lefts_bits;
 use crate::logic::Logic;
 use crate::module_context::ModuleContext;
-use crate::outline::Part;
+use crate::template::Part;
 use bb_ast::{Expr, Gate, GateCall};
 use bb_bits::NoMemory;
 use std::alloc::Global;
 
-// How many of the terminals of a gate, from the first on, are outputs.
+// `buf` and `not` have one input, which is last; the other gates have one output, which is first.
 fn output_count(gate: Gate, count: usize) -> usize
     ensures outputs { result ≡ min (output_count gate count) count }
     ensures within { result ≤ count }
@@ -31,13 +31,12 @@ fn output_count(gate: Gate, count: usize) -> usize
     }
 }
 
-// The inputs of a gate.
 fn gate_inputs(
     alloc: Global,
     context: ModuleContext<'_>,
     terms: &[Expr],
 ) -> Result<Vec<Logic>, NoMemory>
-    requires stands { All (StandsAt context.checked.now context.«module») (map expression terms.now) }
+    requires occurs { All (OccursAt context.checked.now context.«module») (map expression terms.now) }
     requires few { All (λ e. length (made_in (scope_of (module_in context.checked.now context.«module»)) e (width_of (scope_of (module_in context.checked.now context.«module»)) e)).cells ≤ 2000000) (map expression terms.now) }
     ensures made { IfOk result (λ ins. AllZip (IsWholeIn (module_in context.entry.checked.now context.entry.«module»)) ins.items (map expression terms.now)) }
 {
@@ -48,7 +47,6 @@ fn gate_inputs(
     Ok(ins)
 }
 
-// A gate.
 fn gate_part(
     alloc: Global,
     context: ModuleContext<'_>,
@@ -67,7 +65,6 @@ fn gate_part(
     Ok(Part::Gate { gate, outs, ins })
 }
 
-/// Adds gates of one function.
 pub(crate) fn add_gates(
     alloc: Global,
     context: ModuleContext<'_>,

@@ -2,7 +2,7 @@
 
 ghost use Rattle.bb_blast.specs.Laws.ModuleLaws.{ModuleLaws};
 
-/// The laws of modules by numbers on which elaboration rests, as one.
+/// One record, which a lemma takes as one argument instead of each law by itself.
 pub fn laws_of_modules()
     ensures { ModuleLaws }
 {}

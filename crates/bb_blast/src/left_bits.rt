@@ -1,4 +1,7 @@
-//! The bits of a left side by their numbers, the most significant first.
+//! The bit numbers of a left side, most significant first.
+//!
+//! The checks have made sure that it is a net, a select in range, or a concatenation of these: so its bits are looked
+//! up, and no cell is made.
 
 ghost use Rattle.std.specs.Prelude.{◌≡◌, ◌≤◌, ◌+◌, ◌++◌, List, All, Some, true, map, IfOk, OnOk};
 ghost use Rattle.std.specs.List.{flat_map};
@@ -10,8 +13,8 @@ ghost use Rattle.bb_names.specs.Ranges.{range_width, place_of, has_bits, distanc
 ghost use Rattle.bb_expr.specs.Inside.Fit.{HasNet, AreFit, ranges_in};
 ghost use Rattle.bb_design.specs.Hierarchy.{Scope};
 ghost use Rattle.bb_design.specs.NetBits.{Bit, bits_from, bits_named, written_bits};
-ghost use Rattle.bb_blast.specs.Inside.Outlines.{AreBitsIn};
-ghost use Rattle.bb_blast.specs.Inside.Outlining.{AreStarts};
+ghost use Rattle.bb_blast.specs.Inside.ModuleTemplates.{AreBitsIn};
+ghost use Rattle.bb_blast.specs.Inside.BitBlasting.{AreStarts};
 
 use crate::net_starts::{add_run, range_width};
 use bb_ast::{Expr, Range};
@@ -19,7 +22,6 @@ use bb_bits::{Name, NoMemory};
 use bb_names::CheckedModule;
 use std::alloc::Global;
 
-/// The place of the net of that name among the nets of the module.
 pub(crate) fn net_place(scope: &CheckedModule, name: &Name) -> u32
     requires has { HasNet (module_facts scope.now) name.now }
     ensures place { lookup (same_name name.now) scope.now.index.entries ≡ Some result }
@@ -27,7 +29,6 @@ pub(crate) fn net_place(scope: &CheckedModule, name: &Name) -> u32
     scope.index.get(name).copied().unwrap()
 }
 
-// The range of the net of that name, if it has one.
 fn net_range(scope: &CheckedModule, name: &Name) -> Option<Range>
     requires has { HasNet (module_facts scope.now) name.now }
     ensures range { result ≡ ranges_in (module_facts scope.now) name.now }
@@ -35,7 +36,7 @@ fn net_range(scope: &CheckedModule, name: &Name) -> Option<Range>
     scope.nets[net_place(scope, name) as usize].range
 }
 
-// The place of an index of a net among its bits, from the leftmost on.
+// Counted from the leftmost bit, for ranges in either direction; a net without a range has one bit.
 fn place_of(range: Option<Range>, index: u32) -> u32
     ensures place { result ≡ place_of range index }
 {
@@ -45,7 +46,6 @@ fn place_of(range: Option<Range>, index: u32) -> u32
     }
 }
 
-// Puts so many bits of a net, from a place on, behind others.
 fn add_bits(
     scope: &CheckedModule,
     starts: &[u32],
@@ -65,7 +65,6 @@ fn add_bits(
     add_run(numbers, starts[net as usize] + place, count)
 }
 
-// Puts all bits of a net behind others.
 fn add_net(
     scope: &CheckedModule,
     starts: &[u32],
@@ -82,7 +81,6 @@ fn add_net(
     add_bits(scope, starts, name, 0, count, numbers)
 }
 
-// Puts the bits of a net from an index to another behind others.
 fn add_selected(
     scope: &CheckedModule,
     starts: &[u32],
@@ -105,7 +103,7 @@ fn add_selected(
     add_bits(scope, starts, name, place, count, numbers)
 }
 
-// Puts the bits of a left side behind others. Recursion goes as deep as the expression nests.
+// Recursion goes as deep as the expression nests.
 #[cycle(left)]
 fn add_left(
     scope: &CheckedModule,
@@ -124,12 +122,11 @@ fn add_left(
         Expr::Bit(name, index) => add_selected(scope, starts, name, *index, *index, numbers),
         Expr::Part(name, left, right) => add_selected(scope, starts, name, *left, *right, numbers),
         Expr::Concat(all) => add_lefts(scope, starts, all, numbers),
-        // Nothing else may stand there.
+        // No other expression is a left side.
         _ => Ok(()),
     }
 }
 
-// Puts the bits of left sides that stand side by side behind others.
 #[cycle(left)]
 fn add_lefts(
     scope: &CheckedModule,
@@ -149,7 +146,7 @@ fn add_lefts(
     Ok(())
 }
 
-/// The bits of a net, from the leftmost on.
+/// From the leftmost bit on, which is the most significant.
 pub(crate) fn net_bits(
     alloc: Global,
     scope: &CheckedModule,
@@ -166,7 +163,7 @@ pub(crate) fn net_bits(
     Ok(numbers)
 }
 
-/// The bits of left sides that stand side by side.
+/// In the order of the left sides; for the outputs of a gate.
 pub(crate) fn lefts_bits(
     alloc: Global,
     scope: &CheckedModule,
@@ -183,7 +180,7 @@ pub(crate) fn lefts_bits(
     Ok(numbers)
 }
 
-/// The bits of a left side.
+/// Most significant first.
 pub(crate) fn left_bits(
     alloc: Global,
     scope: &CheckedModule,

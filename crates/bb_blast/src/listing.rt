@@ -1,46 +1,50 @@
-//! The list of cells of a design.
+//! The unordered list of all cells of a design.
 //!
-//! Constants and inputs stand first, then a copy for each bit of a net, then the pins of boxes, and then what the constructs
-//! make, scope by scope. Since the places of the first two are known beforehand, what gives each bit is noted while the others
-//! are made, and the copies are made last.
+//! Constants and inputs come first, then a buffer for each bit of a net, then the pins of boxes, and then what the
+//! constructs make, scope by scope. The places of the first three groups follow from counts, so a construct may read a
+//! bit before its driver is met: what drives each bit is noted while the later cells are made, and the buffers are made
+//! last.
 
 ghost use Rattle.std.specs.Prelude.{All, ◌≡◌, ◌<◌, None, length, replicate, IfOk};
 ghost use Rattle.bb_blast.specs.Inside.Counting.{capped};
-ghost use Rattle.bb_blast.specs.Inside.Listing.{IsScopeAmong, sheet_view, boxed_view, first_sources, input_numbers, bit_count, boxed_in, cells_before, outs_of, finished, listed};
+ghost use Rattle.bb_blast.specs.Inside.Listing.{IsScopeAmong, cell_list_view, boxed_view, first_sources, input_numbers, bit_count, boxed_in, cells_before, outs_of, finished, listed};
 ghost use Rattle.bb_design.specs.Hierarchy.{Design};
 ghost use Rattle.bb_design.specs.Inside.Allowed.{IsBounded};
-ghost use Rattle.bb_blast.specs.Inside.Placements.{ArePlaced, AreOutlined, AreStored};
-ghost use Rattle.bb_cells.specs.Places.{Lowering, IsLowering, IsListOf};
+ghost use Rattle.bb_blast.specs.Inside.Placements.{ArePlaced, AreTemplated, AreStored};
+ghost use Rattle.bb_implements.specs.Places.{Lowering, IsLowering, IsListOf};
 ghost use Rattle.bb_design.specs.Refusals.{AreDrivenOnce};
 
 use crate::box_cells::{BoxedLists, add_boxes, moved};
-use crate::outline::Outline;
-use crate::part_cells::{add_scopes, outline_of};
+use crate::cell_list::CellListLists;
+use crate::part_cells::{add_scopes, template_of};
 use crate::placed::Placed;
-use crate::sheet::SheetLists;
-use crate::sources::{Layout, behind, count_of, give_in_row, place_or_zero};
+use crate::sources::{Layout, after, count_of, give_in_row, place_or_zero};
 use crate::stored::Stored;
+use crate::template::ModuleTemplate;
 use bb_bits::NoMemory;
-use bb_cells::list_laws::places_are_few;
 use bb_design::laws::laws_of_designs;
 use bb_expr::laws::net_names_differ;
+use bb_implements::list_laws::places_are_few;
 use bb_net::{BoxPins, Loose, LooseCell};
 use std::alloc::Global;
 
-// How many bits the nets of all scopes have.
-fn bit_count(placed: &[Placed], outlines: &[Outline]) -> u32
-    requires there { All (λ p. p.module < length outlines.now) placed.now }
-    ensures count { result ≡ capped (bit_count placed.now outlines.now) }
+fn bit_count(placed: &[Placed], templates: &[ModuleTemplate]) -> u32
+    requires there { All (λ p. p.module < length templates.now) placed.now }
+    ensures count { result ≡ capped (bit_count placed.now templates.now) }
 {
     let mut count = 0;
     for scope in placed {
-        count = behind(count, outline_of(outlines, scope).bits);
+        count = after(count, template_of(templates, scope).bits);
     }
     count
 }
 
-// The bits that are inputs.
-fn input_numbers(alloc: Global, top: &Outline, stored: &[Stored]) -> Result<Vec<u32>, NoMemory>
+// The input ports of the top, and then the present states of the registers.
+fn input_numbers(
+    alloc: Global,
+    top: &ModuleTemplate,
+    stored: &[Stored],
+) -> Result<Vec<u32>, NoMemory>
     ensures numbers { IfOk result (λ numbers. numbers.items ≡ input_numbers top.now stored.now) }
 {
     let mut numbers = Vec::with_capacity(alloc, top.inputs.len())?;
@@ -51,7 +55,7 @@ fn input_numbers(alloc: Global, top: &Outline, stored: &[Stored]) -> Result<Vec<
     Ok(numbers)
 }
 
-// The place that gives each bit, where only inputs are given.
+// The inputs come right after the two constants.
 fn first_sources(alloc: Global, bits: u32, inputs: &[u32]) -> Result<Vec<Option<u32>>, NoMemory>
     ensures sources { IfOk result (λ sources. sources.items ≡ first_sources bits inputs.now) }
 {
@@ -60,7 +64,7 @@ fn first_sources(alloc: Global, bits: u32, inputs: &[u32]) -> Result<Vec<Option<
     Ok(sources)
 }
 
-// The constants, the inputs, and a copy for each bit of a net.
+// A bit without a driver buffers the constant 0.
 #[tactic(auto, using(crate::proofs::ListingLoops::rows_grow))]
 fn cells_before(
     alloc: Global,
@@ -81,11 +85,11 @@ fn cells_before(
     Ok(cells)
 }
 
-// The places of the outputs: those of the top, and then the data of the registers.
+// The output ports of the top, and then the next states, in the order in which the present states are inputs.
 fn outs_of(
     alloc: Global,
     nets: u32,
-    top: &Outline,
+    top: &ModuleTemplate,
     stored: &[Stored],
     next: &[Option<u32>],
 ) -> Result<Vec<u32>, NoMemory>
@@ -98,37 +102,35 @@ fn outs_of(
     Ok(outs)
 }
 
-// The cells of the pins of boxes, the boxes, and the place that gives each bit that is an input or a pin.
 fn boxed_in(
     alloc: Global,
     layout: Layout,
     sources: Vec<Option<u32>>,
     placed: &[Placed],
-    outlines: &[Outline],
+    templates: &[ModuleTemplate],
 ) -> Result<BoxedLists, NoMemory>
-    requires there { All (λ p. p.module < length outlines.now) placed.now }
-    ensures boxed { IfOk result (λ boxed. boxed_view boxed ≡ boxed_in layout.nets layout.others placed.now outlines.now sources.items) }
+    requires there { All (λ p. p.module < length templates.now) placed.now }
+    ensures boxed { IfOk result (λ boxed. boxed_view boxed ≡ boxed_in layout.nets layout.others placed.now templates.now sources.items) }
 {
     let mut boxed = BoxedLists {
         cells: Vec::new(alloc),
         sources,
         boxes: Vec::new(alloc),
     };
-    add_boxes(alloc, layout, placed, outlines, &mut boxed)?;
+    add_boxes(alloc, layout, placed, templates, &mut boxed)?;
     Ok(boxed)
 }
 
-// These cells, the place that gives each bit, and no next states of so many bits.
 fn begun(
     alloc: Global,
     bits: u32,
     cells: Vec<LooseCell>,
     sources: Vec<Option<u32>>,
-) -> Result<SheetLists, NoMemory>
-    ensures sheet { IfOk result (λ sheet. sheet_view sheet ≡ record { cells = cells.items; sources = sources.items; next = replicate bits None }) }
+) -> Result<CellListLists, NoMemory>
+    ensures cell_list { IfOk result (λ cell_list. cell_list_view cell_list ≡ record { cells = cells.items; sources = sources.items; next = replicate bits None }) }
 {
     let next = vec![in alloc; None; bits as usize]?;
-    Ok(SheetLists {
+    Ok(CellListLists {
         cells,
         sources,
         next,
@@ -136,68 +138,67 @@ fn begun(
     })
 }
 
-// The whole list with these outputs.
 fn finished(
     alloc: Global,
     inputs: u32,
     boxes: Vec<BoxPins>,
-    sheet: &SheetLists,
+    cell_list: &CellListLists,
     outs: Vec<u32>,
 ) -> Result<Loose, NoMemory>
-    ensures list { IfOk result (λ l. l ≡ finished inputs boxes.items (sheet_view sheet.now) outs.items) }
+    ensures list { IfOk result (λ l. l ≡ finished inputs boxes.items (cell_list_view cell_list.now) outs.items) }
 {
-    let mut cells = cells_before(alloc, inputs, &sheet.sources)?;
-    cells.extend_from_slice(&sheet.cells)?;
+    let mut cells = cells_before(alloc, inputs, &cell_list.sources)?;
+    cells.extend_from_slice(&cell_list.cells)?;
     Ok(Loose::of(inputs, cells, boxes, outs))
 }
 
-// The list of cells of a design whose top has that outline.
 fn listed(
     alloc: Global,
     placed: &[Placed],
-    outlines: &[Outline],
+    templates: &[ModuleTemplate],
     stored: &[Stored],
-    top: &Outline,
+    top: &ModuleTemplate,
 ) -> Result<Loose, NoMemory>
-    requires there { All (λ p. p.module < length outlines.now) placed.now }
-    requires scopes { All (IsScopeAmong placed.now outlines.now) placed.now }
-    ensures list { IfOk result (λ l. l ≡ listed placed.now outlines.now stored.now top.now) }
+    requires there { All (λ p. p.module < length templates.now) placed.now }
+    requires scopes { All (IsScopeAmong placed.now templates.now) placed.now }
+    ensures list { IfOk result (λ l. l ≡ listed placed.now templates.now stored.now top.now) }
 {
     let inputs = input_numbers(alloc, top, stored)?;
     let count = count_of(&inputs);
-    let bits = bit_count(placed, outlines);
-    let nets = behind(2, count);
+    let bits = bit_count(placed, templates);
+    let nets = after(2, count);
     let layout = Layout {
         nets,
-        others: behind(nets, bits),
+        others: after(nets, bits),
     };
     let sources = first_sources(alloc, bits, &inputs)?;
     let BoxedLists {
         cells,
         sources,
         boxes,
-    } = boxed_in(alloc, layout, sources, placed, outlines)?;
-    let mut sheet = begun(alloc, bits, cells, sources)?;
-    add_scopes(layout, placed, outlines, &mut sheet)?;
-    let outs = outs_of(alloc, nets, top, stored, &sheet.next)?;
-    finished(alloc, count, boxes, &sheet, outs)
+    } = boxed_in(alloc, layout, sources, placed, templates)?;
+    let mut cell_list = begun(alloc, bits, cells, sources)?;
+    add_scopes(layout, placed, templates, &mut cell_list)?;
+    let outs = outs_of(alloc, nets, top, stored, &cell_list.next)?;
+    finished(alloc, count, boxes, &cell_list, outs)
 }
 
-/// The list of cells of a design.
+/// Loops and bits without a driver are still in the list; both are looked for in it afterwards, as it has every
+/// dependence.
 pub fn list_cells(
     alloc: Global,
     placed: &[Placed],
-    outlines: &[Outline],
+    templates: &[ModuleTemplate],
     stored: &[Stored],
 ) -> Result<Loose, NoMemory>
-    requires design { (d : Design) × ArePlaced d placed.now × AreOutlined d placed.now outlines.now × AreStored d stored.now × IsBounded d × AreDrivenOnce d }
-    ensures list { IfOk result (λ l. (d : Design) → ArePlaced d placed.now → AreOutlined d placed.now outlines.now → AreStored d stored.now → IsBounded d → AreDrivenOnce d
+    requires design { (d : Design) × ArePlaced d placed.now × AreTemplated d placed.now templates.now × AreStored d stored.now × IsBounded d × AreDrivenOnce d }
+    ensures list { IfOk result (λ l. (d : Design) → ArePlaced d placed.now → AreTemplated d placed.now templates.now → AreStored d stored.now → IsBounded d → AreDrivenOnce d
         → (lowering : Lowering) × IsLowering d lowering × IsListOf d lowering l) }
 {
     laws_of_designs();
     net_names_differ();
     places_are_few();
-    let top = outline_of(outlines, &placed[0]);
-    let list = listed(alloc, placed, outlines, stored, top)?;
+    let top = template_of(templates, &placed[0]);
+    let list = listed(alloc, placed, templates, stored, top)?;
     Ok(list)
 }

@@ -1,7 +1,8 @@
-//! The operators of an expression, and what gives its low bits.
+//! What is kept of an expression until its cells are made: its operators, and what drives its low bits.
 //!
-//! An expression may be far wider than what it is assigned to. Its steps are let go once this is made of them, so that a bit of a
-//! net takes room only where an operator reads it or it is assigned.
+//! An expression may be far wider than what it is assigned to, and the expressions of all modules are held at once. So
+//! its steps are dropped here: a bit of a net takes room only where an operator reads it or it is assigned. The same
+//! cells result at the same places as from all steps.
 
 ghost use Rattle.std.specs.Prelude.{◌≡◌, [], map, IfOk, OnOk};
 ghost use Rattle.bb_bits.specs.Bits.{low_bits};
@@ -12,17 +13,17 @@ use bb_bits::NoMemory;
 use bb_expr::{BitStep, Lowered};
 use std::alloc::Global;
 
-/// What gives a bit of an expression.
+/// Constants and bits of nets are operands and not operators, as they need no cell of their own.
 #[derive(Clone, Copy, Debug)]
 pub enum Operand {
     Const(bool),
-    /// A bit of a net: the place of the net among the nets of the module, and the place of the bit from the leftmost on.
+    /// The index of the net in the module, and the place of the bit from the leftmost on.
     Net(u32, u32),
-    /// The operator with this number.
+    /// The operator with this number, counted in the expression.
     Cell(u32),
 }
 
-/// An operator on bits.
+/// Each operator becomes one cell.
 #[derive(Clone, Copy, Debug)]
 pub enum Operator {
     Not(Operand),
@@ -33,14 +34,14 @@ pub enum Operator {
     Mux(Operand, Operand, Operand),
 }
 
-/// The operators of an expression, each behind those that it reads, and what gives its low bits, the most significant first.
+/// The operators in topological order, and what drives the low bits, most significant first.
 #[derive(Debug, Drop)]
 pub struct Logic {
     pub operators: Vec<Operator>,
     pub bits: Vec<Operand>,
 }
 
-/// What gives the bit of a step; a step that is not there counts as the constant 0.
+/// A step that is not there counts as the constant 0.
 pub(crate) fn operand_at(results: &[Operand], step: u32) -> Operand
     ensures operand { result ≡ operand_in results.now step }
 {
@@ -50,7 +51,6 @@ pub(crate) fn operand_at(results: &[Operand], step: u32) -> Operand
         .unwrap_or(Operand::Const(false))
 }
 
-// What a step gives, where the next operator has a number.
 fn result_of(step: BitStep, next: u32) -> Operand
     ensures operand { result ≡ result_of next step }
 {
@@ -62,7 +62,6 @@ fn result_of(step: BitStep, next: u32) -> Operand
     }
 }
 
-// A step that is an operator, where these are what the steps before it give.
 fn operator_of(results: &[Operand], step: BitStep) -> Option<Operator>
     ensures operator { result ≡ operator_of (operand_in results.now) step }
 {
@@ -81,7 +80,6 @@ fn operator_of(results: &[Operand], step: BitStep) -> Option<Operator>
     Some(operator)
 }
 
-// Notes what a step gives behind those before it, and the step behind the operators if it is one.
 fn add_step(
     step: BitStep,
     results: &mut Vec<Operand>,
@@ -99,7 +97,6 @@ fn add_step(
     Ok(())
 }
 
-// The same for all steps of an expression.
 fn add_steps(
     steps: &[BitStep],
     results: &mut Vec<Operand>,
@@ -116,7 +113,6 @@ fn add_steps(
     Ok(())
 }
 
-// What gives each of these steps.
 fn operands_at(alloc: Global, results: &[Operand], steps: &[u32]) -> Result<Vec<Operand>, NoMemory>
     ensures operands { IfOk result (λ operands. operands.items ≡ map (operand_in results.now) steps.now) }
 {
@@ -127,14 +123,13 @@ fn operands_at(alloc: Global, results: &[Operand], steps: &[u32]) -> Result<Vec<
     Ok(operands)
 }
 
-// So many of the last of these.
 fn low_bits(count: usize, bits: &[u32]) -> &[u32]
     ensures low { result.now ≡ low_bits count bits.now }
 {
     &bits[bits.len().saturating_sub(count)..]
 }
 
-/// The operators of an expression, and what gives so many of its last bits.
+/// `count` is the width of what is assigned: the bits above it are truncated, but their operators stay.
 pub(crate) fn logic_of(alloc: Global, lowered: &Lowered, count: usize) -> Result<Logic, NoMemory>
     ensures logic { IfOk result (IsLogicOf count lowered.now) }
 {

@@ -1,41 +1,42 @@
-//! The cells of the operators of an expression, and the places of its bits.
+//! The cells of an expression's operators, and the places of its bits.
+//!
+//! Constants and bits of nets make no cell here: they are in the list already, and an operand names their place.
+//! Otherwise a list could be of any length, since lowering leaves open how many of its steps are no operators.
 
 ghost use Rattle.std.specs.Prelude.{◌≡◌, ◌<◌, ◌++◌, All, length, map, IfOk, OnOk};
-ghost use Rattle.bb_blast.specs.Inside.Counting.{behind};
+ghost use Rattle.bb_blast.specs.Inside.Counting.{after};
 ghost use Rattle.bb_blast.specs.Inside.Logic.{IsLogicAmong, IsOperandBelow, IsOperatorBelow, constant_place, net_bit_place, operand_in, operand_place, operator_cell, with_logic, logic_places};
 
 use crate::logic::{Logic, Operand, Operator, operand_at};
-use crate::sources::{behind, next_place};
+use crate::sources::{after, next_place};
 use bb_bits::NoMemory;
 use bb_net::LooseCell;
 
-/// Where the cells of a scope are put and what they read.
+/// A site: where the cells of a scope are appended, and what they read.
 #[derive(Clone, Copy, Debug)]
 pub(crate) struct Spot<'a> {
-    /// The place of the first cell behind the bits of nets.
+    /// The place of the first cell after the bits of nets.
     pub others: u32,
     /// The place of the first bit of the scope.
     pub bits: u32,
-    /// The numbers of the first bits of its nets.
+    /// For each net of the module the number of its first bit, counted in the scope.
     pub starts: &'a [u32],
 }
 
-/// The place of a constant.
+/// The first two cells of every list are the constants 0 and 1.
 pub(crate) fn constant_place(high: bool) -> u32
     ensures place { result ≡ constant_place high }
 {
     if high { 1 } else { 0 }
 }
 
-// The place of a bit of a net, where those of the scope stand from a place on.
 fn net_bit(bits: u32, starts: &[u32], net: u32, bit: u32) -> u32
     requires net { net < length starts.now }
     ensures place { result ≡ net_bit_place bits starts.now net bit }
 {
-    behind(behind(bits, starts[net as usize]), bit)
+    after(after(bits, starts[net as usize]), bit)
 }
 
-// The place of an operand, where the first operator stands at a place.
 fn operand_place(spot: Spot<'_>, first: u32, operand: Operand) -> u32
     requires below { IsOperandBelow (length spot.starts.now) operand }
     ensures place { result ≡ operand_place spot.entry.bits spot.entry.starts.now first operand }
@@ -43,11 +44,10 @@ fn operand_place(spot: Spot<'_>, first: u32, operand: Operand) -> u32
     match operand {
         Operand::Const(high) => constant_place(high),
         Operand::Net(net, bit) => net_bit(spot.bits, spot.starts, net, bit),
-        Operand::Cell(number) => behind(first, number),
+        Operand::Cell(number) => after(first, number),
     }
 }
 
-// The cell of an operator.
 fn operator_cell(spot: Spot<'_>, first: u32, operator: Operator) -> LooseCell
     requires below { IsOperatorBelow (length spot.starts.now) operator }
     ensures cell { result ≡ operator_cell (operand_place spot.entry.bits spot.entry.starts.now first) operator }
@@ -74,7 +74,6 @@ fn operator_cell(spot: Spot<'_>, first: u32, operator: Operator) -> LooseCell
     }
 }
 
-// Puts the cells of these operators behind others.
 fn add_operators(
     spot: Spot<'_>,
     first: u32,
@@ -91,7 +90,6 @@ fn add_operators(
     Ok(())
 }
 
-// Notes the places of these operands.
 fn note_operands(
     spot: Spot<'_>,
     first: u32,
@@ -108,7 +106,7 @@ fn note_operands(
     Ok(())
 }
 
-/// Puts the cells of an expression behind others, and notes the places of its low bits.
+/// `places` is cleared first, and then has the places of the low bits, most significant first.
 pub(crate) fn add_logic(
     spot: Spot<'_>,
     logic: &Logic,
@@ -126,7 +124,7 @@ pub(crate) fn add_logic(
     note_operands(spot, first, &logic.bits, places)
 }
 
-/// Puts the cells of an expression after others, and gives the place of its first bit.
+/// For what has one bit, as the input of a gate: no list of places is needed.
 pub(crate) fn add_one_bit(
     spot: Spot<'_>,
     logic: &Logic,
@@ -134,7 +132,7 @@ pub(crate) fn add_one_bit(
 ) -> Result<u32, NoMemory>
     requires below { IsLogicAmong (length spot.starts.now) logic.now }
     ensures place { IfOk result (λ place. place ≡ operand_place spot.entry.bits spot.entry.starts.now
-        (behind spot.entry.others (length cells.old.items)) (operand_in logic.now.bits.items 0)) }
+        (after spot.entry.others (length cells.old.items)) (operand_in logic.now.bits.items 0)) }
     ensures added { OnOk result (cells.new.items
         ≡ with_logic spot.entry.others spot.entry.bits spot.entry.starts.now cells.old.items logic.now) }
 {

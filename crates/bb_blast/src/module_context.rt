@@ -1,8 +1,9 @@
-//! What the template of a module is made from.
+//! What is passed down while a template is made, as borrowed records: each function takes one argument instead of
+//! three.
 
 use bb_names::Checked;
 
-/// A module: its index among the checked modules, and the numbers of the first bits of its nets.
+/// `starts` has for each net the number of its first bit.
 #[derive(Clone, Copy)]
 pub(crate) struct ModuleContext<'a> {
     pub checked: &'a Checked,
@@ -10,8 +11,8 @@ pub(crate) struct ModuleContext<'a> {
     pub starts: &'a [u32],
 }
 
-/// An instance in a module: its number there, the index of the module of which it is one, and the numbers of the first bits of
-/// the nets of that module.
+/// `instance` is its number in the module, `target` the index of the module that it instantiates, and `starts` has the
+/// first bits of that module's nets.
 #[derive(Clone, Copy)]
 pub(crate) struct InstanceContext<'a> {
     pub instance: u32,
@@ -19,7 +20,7 @@ pub(crate) struct InstanceContext<'a> {
     pub starts: &'a [u32],
 }
 
-/// The modules of the instances in a module by their indices, and for each module the numbers of the first bits of its nets.
+/// `modules` has the callee of each instance, by index; `starts` has the first bits of each module's nets.
 #[derive(Clone, Copy)]
 pub(crate) struct Targets<'a> {
     pub modules: &'a [usize],

@@ -1,25 +1,25 @@
-//! The parts of a module, item by item.
+//! The template parts of a module, item by item in text order. Instances are numbered through all items, as their
+//! callees are.
 
 ghost use Rattle.std.specs.Prelude.{◌≡◌, ◌<◌, ◌++◌, ◌^◌, List, All, length, map, IfOk, OnOk};
 ghost use Rattle.std.specs.List.{AllZip};
 ghost use Rattle.bb_ast.specs.Inside.Views.{body_view};
 ghost use Rattle.bb_names.specs.Inside.Checked.{syntax};
-ghost use Rattle.bb_expr.specs.Inside.Standing.{StandsAt, item_expressions};
+ghost use Rattle.bb_expr.specs.Inside.Occurrences.{OccursAt, item_expressions};
 ghost use Rattle.bb_design.specs.Constructs.{Construct, body_constructs};
 ghost use Rattle.bb_design.specs.Hierarchy.{instances_in, instances_of};
-ghost use Rattle.bb_blast.specs.Inside.Outlining.{IsStarted, IsStartedModule, AreCallsAt, IsMakeable, IsPartAt, module_in, module_constructs};
+ghost use Rattle.bb_blast.specs.Inside.BitBlasting.{IsStarted, IsStartedModule, AreCallsAt, IsMakeable, IsPartAt, module_in, module_constructs};
 
 use crate::assigning::{add_all_declared, add_assignments, add_supplies, register};
 use crate::calling::add_calls;
 use crate::expression_steps::scope_at;
 use crate::gating::add_gates;
 use crate::module_context::{ModuleContext, Targets};
-use crate::outline::Part;
+use crate::template::Part;
 use bb_ast::Body;
 use bb_bits::NoMemory;
 use std::alloc::Global;
 
-// How many instances stand in an item.
 fn instance_count(body: &Body) -> usize
     ensures count { result ≡ length (instances_in (body_view body.now)) }
 {
@@ -29,7 +29,7 @@ fn instance_count(body: &Body) -> usize
     }
 }
 
-// Adds the parts of an item, where its first instance has a number in the module.
+// `first` is the number of the item's first instance in the module.
 fn add_body(
     alloc: Global,
     context: ModuleContext<'_>,
@@ -42,7 +42,7 @@ fn add_body(
     requires targets { All (IsStarted context.checked.now (map (λ list. list.items) targets.starts.now)) targets.modules.now }
     requires few { length targets.modules.now < 2 ^ 32 }
     requires calls { AreCallsAt context.checked.now context.«module» targets.modules.now first (instances_in (body_view body.now)) }
-    requires stands { All (StandsAt context.checked.now context.«module») (item_expressions (body_view body.now)) }
+    requires occurs { All (OccursAt context.checked.now context.«module») (item_expressions (body_view body.now)) }
     requires makeable { All (IsMakeable context.checked.now context.«module») (body_constructs (map syntax context.checked.now) (body_view body.now)) }
     ensures parts { (before : List Construct) → AllZip (IsPartAt context.entry.checked.now context.entry.«module») parts.old.items before
         → OnOk result (AllZip (IsPartAt context.entry.checked.now context.entry.«module») parts.new.items (before ++ body_constructs (map syntax context.entry.checked.now) (body_view body.now))) }
@@ -62,7 +62,7 @@ fn add_body(
     }
 }
 
-/// The parts of a module, where the modules of its instances stand at these places.
+/// `targets` has the callees of the module's instances, in text order.
 pub(crate) fn parts_of(
     alloc: Global,
     context: ModuleContext<'_>,

@@ -1,4 +1,5 @@
-//! The bits of a scope by numbers: those of each net stand side by side, from the leftmost on.
+//! Bit numbers in a scope: net by net, in each net from the leftmost bit on, so that the bits of a select are
+//! consecutive.
 
 ghost use Rattle.std.specs.Prelude.{◌≡◌, ◌≤◌, ◌<◌, ◌+◌, ◌++◌, ◌^◌, length, filter, Some, IfOk, OnOk};
 ghost use Rattle.std.specs.List.{flat_map, range_with_len};
@@ -6,14 +7,14 @@ ghost use Rattle.bb_names.specs.Ranges.{range_width};
 ghost use Rattle.bb_design.specs.Hierarchy.{Path};
 ghost use Rattle.bb_design.specs.NetBits.{bits_of_net};
 ghost use Rattle.bb_bits.specs.Inside.Places.{AreAt};
-ghost use Rattle.bb_blast.specs.Inside.Outlining.{AreStarts, bit_count, is_port_of};
+ghost use Rattle.bb_blast.specs.Inside.BitBlasting.{AreStarts, bit_count, is_port_of};
 
 use bb_ast::{Dir, Range};
 use bb_bits::NoMemory;
 use bb_names::NetInfo;
 use std::alloc::Global;
 
-/// How many bits a net with this range has, or one without a range.
+/// A net without a range has one bit.
 pub(crate) fn range_width(range: Option<Range>) -> u32
     requires few { range_width range ≤ 1000000 }
     ensures width { result ≡ range_width range }
@@ -25,7 +26,6 @@ pub(crate) fn range_width(range: Option<Range>) -> u32
     }
 }
 
-/// Puts so many numbers, from one on, behind the others of a list.
 pub(crate) fn add_run(numbers: &mut Vec<u32>, from: u32, count: u32) -> Result<(), NoMemory>
     requires room { from + count ≤ 2 ^ 32 }
     ensures run { OnOk result (numbers.new.items ≡ numbers.old.items ++ range_with_len from count) }
@@ -37,7 +37,6 @@ pub(crate) fn add_run(numbers: &mut Vec<u32>, from: u32, count: u32) -> Result<(
     Ok(())
 }
 
-/// How many bits nets have.
 pub(crate) fn count_bits(nets: &[NetInfo]) -> u32
     requires few { bit_count nets.now ≤ 1000000 }
     ensures count { result ≡ bit_count nets.now }
@@ -50,7 +49,7 @@ pub(crate) fn count_bits(nets: &[NetInfo]) -> u32
     count
 }
 
-/// The number of the first bit of each net.
+/// The sums of the widths of the nets before each.
 pub(crate) fn starts_of(alloc: Global, nets: &[NetInfo]) -> Result<Vec<u32>, NoMemory>
     requires few { bit_count nets.now ≤ 1000000 }
     ensures starts { IfOk result (λ starts. AreStarts nets.now starts.items) }
@@ -65,7 +64,6 @@ pub(crate) fn starts_of(alloc: Global, nets: &[NetInfo]) -> Result<Vec<u32>, NoM
     Ok(starts)
 }
 
-// Whether a net is a port of that side.
 fn is_port_of(net: &NetInfo, input: bool) -> bool
     ensures port { result ≡ is_port_of input net.now }
 {
@@ -76,7 +74,7 @@ fn is_port_of(net: &NetInfo, input: bool) -> bool
     }
 }
 
-/// The bits of the ports of that side, port by port.
+/// Port by port, in the order of the header.
 pub(crate) fn port_bits(
     alloc: Global,
     nets: &[NetInfo],

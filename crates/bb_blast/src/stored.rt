@@ -1,7 +1,6 @@
-//! A register bit by numbers.
+//! Register bits by numbers: names are made of them only once a design has no other fault.
 
-/// A register bit: the number of the bit, that of its clock, and the edge at which it takes its next state. Bits are numbered in
-/// net order.
+/// `bit` and `clock` are numbers in net order; the next state is taken at the falling or the rising edge of the clock.
 #[derive(Clone, Copy, Debug)]
 pub struct Stored {
     pub bit: u32,

@@ -1,4 +1,4 @@
--- In a netlist with gates behind its cells each old cell has the formula that it had, so alike netlists stay alike where the new cells
+-- In a netlist with gates after its cells each old cell has the formula that it had, so alike netlists stay alike where the new cells
 -- have the same formulas.
 use Rattle.std.proofs.Common.{◌≡◌, ℕ, zero, suc, ◌+◌, ◌-◌, ◌<◌, List, [], ◌∷◌, ◌++◌, length, map, All, refl, sym, ap, ap₂, ◌∙◌, subst, arith, length-append}
 use Rattle.std.specs.Prelude.{slice_index}
@@ -7,15 +7,15 @@ use Rattle.std.specs.List.Sorted.{IsPermutation}
 use Rattle.std.proofs.lemmas.List.{get_or_default, map-append}
 use Rattle.std.proofs.lemmas.List.Elements.{All-head, All-tail}
 use Rattle.std.proofs.lemmas.List.Sorted.{IsPermutation-append}
-use Rattle.bb_lists.proofs.Ranges.{range_parts}
-use Rattle.bb_alike.specs.Laws.Alike.{AreAlike}
-use Rattle.bb_alike.specs.Laws.Formulas.{Formula, Not, And, Or, Xor, Mux, cell_formula, formula_at, cell_formulas, pin_formulas}
-use Rattle.bb_alike.specs.Laws.{FormulasAreOfCells}
-use Rattle.bb_filled.specs.Embeddings.{moved}
+use Rattle.bb_lemmas.proofs.Ranges.{range_parts}
+use Rattle.bb_iso.specs.Laws.Isomorphism.{AreIsomorphic}
+use Rattle.bb_iso.specs.Laws.Formulas.{Formula, Not, And, Or, Xor, Mux, cell_formula, formula_at, cell_formulas, pin_formulas}
+use Rattle.bb_iso.specs.Laws.{FormulasAreOfCells}
+use Rattle.bb_subst.specs.Embeddings.{moved}
 use Rattle.bb_net.specs.declared.cell.Cell.{Cell}
 use Rattle.bb_net.specs.declared.cell.Cell.TheVariants as cell
 use Rattle.bb_net.specs.Netlists.{Netlist, Pins, IsNetlist, ReadsBefore, box_at, cell_at}
-use Rattle.bb_care.proofs.CaredCells.{front_long, not_moved}
+use Rattle.bb_care.proofs.ConstrainedCells.{prefix_long, not_moved}
 use Rattle.bb_care.proofs.GrownNets.{grown, old_cell}
 
 -- a moved cell has the formula that it had, where what it reads has
@@ -68,7 +68,7 @@ module _ (of_cells : FormulasAreOfCells) (net : Netlist) (kept : IsNetlist net) 
   grown_formulas =
       let first = net.inputs + 2 in
       let count = length net.cells - first in
-      let fits = front_long net kept in
+      let fits = prefix_long net kept in
       ap (λ n. map now (range_with_len first n)) (omega (arith, fits, length-append net.cells more))
       ∙ ap (map now) (range_parts first count (length more))
       ∙ map-append now (range_with_len first count) (range_with_len (first + count) (length more))
@@ -92,11 +92,11 @@ module _ (of_cells : FormulasAreOfCells) (net : Netlist) (kept : IsNetlist net) 
           λ i. record { ins = ins i; outs = outs i } ∷ rest i
 
 -- alike netlists stay alike where the new cells have the same formulas, each as often, and so have the new outputs
-pub grown_alike : FormulasAreOfCells → (a b : Netlist) → IsNetlist a → IsNetlist b → (more less : List Cell) (outs others : List ℕ) → IsNetlist (grown a more outs) → IsNetlist (grown b less others) → AreAlike a b
+pub grown_isomorphic : FormulasAreOfCells → (a b : Netlist) → IsNetlist a → IsNetlist b → (more less : List Cell) (outs others : List ℕ) → IsNetlist (grown a more outs) → IsNetlist (grown b less others) → AreIsomorphic a b
     → IsPermutation (map (formula_at (a.cells ++ more)) (range_with_len (length a.cells) (length more))) (map (formula_at (b.cells ++ less)) (range_with_len (length b.cells) (length less)))
     → map (formula_at (a.cells ++ more)) outs ≡ map (formula_at (b.cells ++ less)) others
-    → AreAlike (grown a more outs) (grown b less others)
-grown_alike of_cells a b kept_a kept_b more less outs others also_a also_b alike new same = record {
+    → AreIsomorphic (grown a more outs) (grown b less others)
+grown_isomorphic of_cells a b kept_a kept_b more less outs others also_a also_b alike new same = record {
   inputs = alike.inputs;
   cells =
       subst (λ fs. IsPermutation fs (cell_formulas (grown b less others))) (sym (grown_formulas of_cells a kept_a more outs also_a))

@@ -1,15 +1,15 @@
--- A netlist with gates behind its cells, and with other outputs, is a netlist.
+-- A netlist with gates after its cells, and with other outputs, is a netlist.
 use Rattle.std.proofs.Common.{◌≡◌, ℕ, zero, suc, ◌+◌, ◌^◌, ◌<◌, ◌≤◌, ◌⊎◌, inl, inr, false, List, [], ◌∷◌, ◌++◌, length, All, sym, ◌∙◌, subst, arith, length-append}
 use Rattle.std.specs.Prelude.{Contains}
 use Rattle.std.proofs.lemmas.List.{get_or_append_left, take-append-le}
 use Rattle.std.proofs.lemmas.List.Elements.{All-cons, All-contains, All-nil, All-weaker}
-use Rattle.bb_lists.proofs.Orders.{less_or_not}
+use Rattle.bb_lemmas.proofs.Orders.{less_or_not}
 use Rattle.bb_net.specs.declared.cell.Cell.{Cell}
 use Rattle.bb_net.specs.declared.cell.Cell.TheVariants.{Const, Input, Not, And, Or, Xor, Mux, BoxOut}
-use Rattle.bb_net.specs.Netlists.{Netlist, Pins, IsNetlist, IsPinAt, Leads, ReadsBefore, box_at, cell_at, reads_of}
-use Rattle.bb_care.proofs.CaredCells.{front_long}
+use Rattle.bb_net.specs.Netlists.{Netlist, Pins, IsNetlist, IsPinAt, ReadsInSteps, ReadsBefore, box_at, cell_at, reads_of}
+use Rattle.bb_care.proofs.ConstrainedCells.{prefix_long}
 
--- more cells behind those of a netlist, and other outputs
+-- more cells after those of a netlist, and other outputs
 abbrev pub grown : Netlist → List Cell → List ℕ → Netlist
 grown net more outs = record net { cells = net.cells ++ more; outs = outs }
 
@@ -17,11 +17,11 @@ grown net more outs = record net { cells = net.cells ++ more; outs = outs }
 abbrev pub IsGate : Netlist → ℕ → Cell → Type 0
 IsGate net place c = ReadsBefore net.inputs net.boxes place c × ((b p : ℕ) → c ≡ BoxOut b p → ⊥)
 
--- the cells behind those of a netlist are gates
+-- the cells after those of a netlist are gates
 abbrev pub AreGates : Netlist → List Cell → Type 0
 AreGates net more = (k : ℕ) → length net.cells ≤ k → k < length (net.cells ++ more) → IsGate net k (cell_at (net.cells ++ more) k)
 
--- what a cell reads stands before it
+-- what a cell reads precedes it
 reads_before : (inputs : ℕ) (boxes : List Pins) (place : ℕ) (c : Cell) → ReadsBefore inputs boxes place c → All (λ k. k < place) (reads_of boxes c)
 reads_before inputs boxes place (Const v) h = All-nil (λ k. k < place)
 reads_before inputs boxes place (Input v) h = All-nil (λ k. k < place)
@@ -38,7 +38,7 @@ module _ (net : Netlist) (kept : IsNetlist net) (more : List Cell) where
   old_cell k lt = get_or_append_left net.cells more (Const false) k lt
 
   -- what led from one of its own cells still leads so, and nothing else does
-  leads_as_before : (n from to : ℕ) → from < length net.cells → Leads n (net.cells ++ more) net.boxes from to → Leads n net.cells net.boxes from to × (to < length net.cells)
+  leads_as_before : (n from to : ℕ) → from < length net.cells → ReadsInSteps n (net.cells ++ more) net.boxes from to → ReadsInSteps n net.cells net.boxes from to × (to < length net.cells)
   leads_as_before zero from to there e = (e, omega (arith, e, there))
   leads_as_before (suc n) from to there step =
       let has = subst (λ c. Contains (reads_of net.boxes c) step.0) (old_cell from there) step.1 in
@@ -48,7 +48,7 @@ module _ (net : Netlist) (kept : IsNetlist net) (more : List Cell) where
 
   pub grown_is_netlist : AreGates net more → (outs : List ℕ) → All (λ out. out < length (net.cells ++ more)) outs → length (net.cells ++ more) < 2 ^ 32 → IsNetlist (grown net more outs)
   grown_is_netlist gates outs there room = record {
-    front = take-append-le (net.inputs + 2) net.cells more (front_long net kept) ∙ kept.front;
+    prefix = take-append-le (net.inputs + 2) net.cells more (prefix_long net kept) ∙ kept.prefix;
     ordered = λ k lt. ordered k lt (less_or_not k (length net.cells));
     listed = λ k b p lt is. listed k b p lt is (less_or_not k (length net.cells));
     driven = λ b p k pin. let old = kept.driven b p k pin in (longer k old.0, old_cell k old.0 ∙ old.1);

@@ -1,7 +1,7 @@
-pub mod CaredAlike
-pub mod CaredBits
-pub mod CaredCells
-pub mod CaredPairs
+pub mod ConstrainedIsomorphic
+pub mod ConstrainedBits
+pub mod ConstrainedCells
+pub mod ConstrainedPairs
 pub mod CopiedCells
 pub mod GrownFormulas
 pub mod GrownNets

@@ -1,2 +1,2 @@
-pub mod Cared
+pub mod Constrained
 pub mod Laws

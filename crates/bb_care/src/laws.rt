@@ -1,27 +1,28 @@
-//! Laws of pairs whose outputs count only where a care cell is 1. Each function has a law as its contract and does nothing.
+//! Laws of pairs with a care cell. Each function has a law as its contract and does nothing.
 
-ghost use Rattle.bb_care.specs.Laws.{CaredArePairs, CaredAreRight, CaredStayAlike};
+ghost use Rattle.bb_care.specs.Laws.{ConstrainedPairsArePairs, ConstrainedPairsAreRight, ConstrainedPairsStayIsomorphic};
 
-use bb_alike::laws::formulas_are_of_cells;
-use bb_filled::laws::standing_keeps_bits;
+use bb_iso::laws::formulas_are_of_cells;
 use bb_net::value_exists;
+use bb_subst::laws::occurrences_keep_bits;
 
-/// A pair whose outputs count only where a care cell is 1 is a pair.
-pub fn cared_are_pairs()
-    ensures { CaredArePairs }
+/// A pair with a care cell is a pair, where there is room for the copies and the Ands, so each check takes it as any
+/// other.
+pub fn constrained_pairs_are_pairs()
+    ensures { ConstrainedPairsArePairs }
 {}
 
-/// An output of it is right exactly where it was, or where the care cell is 0.
-pub fn cared_are_right()
-    ensures { CaredAreRight }
+/// An output is right exactly where it was, or where the care cell is 0: what the guards are for.
+pub fn constrained_pairs_are_right()
+    ensures { ConstrainedPairsAreRight }
 {
-    standing_keeps_bits();
+    occurrences_keep_bits();
     value_exists();
 }
 
-/// Those of alike pairs are alike.
-pub fn cared_stay_alike()
-    ensures { CaredStayAlike }
+/// Isomorphic pairs stay isomorphic with care cells, so a report with a care output is a function of the texts too.
+pub fn constrained_pairs_stay_isomorphic()
+    ensures { ConstrainedPairsStayIsomorphic }
 {
     formulas_are_of_cells();
 }

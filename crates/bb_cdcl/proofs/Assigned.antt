@@ -4,10 +4,10 @@ use Rattle.std.proofs.Math.Seq.{take-append_seam, get_or-append_seam}
 use Rattle.std.proofs.lemmas.List.{get_or-set_same, get_or-set_other, length-set}
 use Rattle.std.proofs.lemmas.List.Sums.{sum_by-set}
 use Rattle.std.proofs.lemmas.Option.{slice_get-get_or}
-use Rattle.bb_lists.proofs.Tests.{number_equal}
-use Rattle.bb_lists.proofs.Bits.{or_right}
-use Rattle.bb_lists.proofs.Maps.{or-false}
-use Rattle.bb_lists.proofs.Orders.{less_or_not}
+use Rattle.bb_lemmas.proofs.Tests.{number_equal}
+use Rattle.bb_lemmas.proofs.Bits.{or_right}
+use Rattle.bb_lemmas.proofs.Maps.{or-false}
+use Rattle.bb_lemmas.proofs.Orders.{less_or_not}
 use Rattle.bb_cnf.specs.declared.clauses.Lit.{Lit}
 use Rattle.bb_cdcl.specs.declared.trail.Entry.{Entry}
 use Rattle.bb_cdcl.specs.Inside.Trails.{opposite, falsified, is_bit, is_false, unassigned, IsNew, AreNew, AreValues, HasRoom}
@@ -35,8 +35,8 @@ last_in_range rest e values are = false_in_range values (opposite e.lit) (last_i
 pub last_is_new : (rest : List Entry) (e : Entry) → AreNew (rest ++ e ∷ []) → IsNew rest e.lit
 last_is_new rest e new =
     let longer : length (rest ++ e ∷ []) ≡ length rest + 1 = length-append rest (e ∷ []) in
-    let stands : slice_get (rest ++ e ∷ []) (length rest) ≡ Some e = slice_get-get_or (rest ++ e ∷ []) (length rest) e (omega (arith, longer)) ∙ ap Some (get_or-append_seam rest e [] e) in
-    subst (λ (es : List Entry). IsNew es e.lit) (take-append_seam rest (e ∷ [])) (new (length rest) e stands)
+    let occurs : slice_get (rest ++ e ∷ []) (length rest) ≡ Some e = slice_get-get_or (rest ++ e ∷ []) (length rest) e (omega (arith, longer)) ∙ ap Some (get_or-append_seam rest e [] e) in
+    subst (λ (es : List Entry). IsNew es e.lit) (take-append_seam rest (e ∷ [])) (new (length rest) e occurs)
 
 pub pop_values : (rest : List Entry) (e : Entry) (values : List (Option Bool)) → AreValues (rest ++ e ∷ []) values → IsNew rest e.lit
     → AreValues rest (set values e.lit.var None)

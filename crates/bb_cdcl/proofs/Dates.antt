@@ -3,8 +3,8 @@ use Rattle.std.proofs.Common.{◌≡◌, ◌<◌, ◌≤◌, ℕ, suc, ◌+◌, 
 use Rattle.std.proofs.lemmas.List.{map-append, length-map}
 use Rattle.std.proofs.lemmas.List.Elements.{All-push, All-append, All-nil}
 use Rattle.std.proofs.lemmas.Option.{slice_get_within}
-use Rattle.bb_lists.proofs.Turns.{all_mapped}
-use Rattle.bb_lists.proofs.Orders.{less_or_not}
+use Rattle.bb_lemmas.proofs.Turns.{all_mapped}
+use Rattle.bb_lemmas.proofs.Orders.{less_or_not}
 use Rattle.bb_cnf.specs.declared.clauses.Lit.{Lit}
 use Rattle.bb_cnf.specs.declared.refutation.Step.{Step}
 use Rattle.bb_cnf.specs.Clauses.{Literals, literals_of}
@@ -12,7 +12,7 @@ use Rattle.bb_cnf.specs.Chains.{chain, resolution, made_by}
 use Rattle.bb_cnf.specs.Lines.{step_numbers}
 use Rattle.bb_cdcl.specs.declared.numbers.DatedStep.{DatedStep}
 use Rattle.bb_cdcl.specs.Laws.Numbers.{moved_number, moved_pair, moved_numbers}
-use Rattle.bb_cdcl.specs.Inside.Dates.{made_with, derived_with, numbers_behind, AreBelow, AreDerived}
+use Rattle.bb_cdcl.specs.Inside.Dates.{made_with, derived_with, numbers_after, AreBelow, AreDerived}
 use Rattle.bb_cdcl.proofs.Moved.{moved_below, moved_past, came_by, numbers_move}
 
 -- a number that was moved moves on
@@ -28,10 +28,10 @@ pairs_further : (d g k : ℕ) (pairs : List (ℕ × ℕ)) → d ≤ g → map (m
 pairs_further d g k [] early = refl
 pairs_further d g k (pair ∷ pairs) early = ap₂ (λ (n : ℕ) (ps : List (ℕ × ℕ)). (n, pair.1) ∷ ps) (number_further d g k pair.0 early) (pairs_further d g k pairs early)
 
-step_further : (g k : ℕ) (d : DatedStep) → d.given ≤ g → numbers_behind (g + k) d ≡ moved_numbers g k (numbers_behind g d)
+step_further : (g k : ℕ) (d : DatedStep) → d.given ≤ g → numbers_after (g + k) d ≡ moved_numbers g k (numbers_after g d)
 step_further g k d early = ap₂ (λ (n : ℕ) (ps : List (ℕ × ℕ)). (n, ps)) (number_further d.given g k d.step.first early) (pairs_further d.given g k d.step.rest.items early)
 
-steps_further : (g k : ℕ) (dated : List DatedStep) → All (λ d. d.given ≤ g) dated → map (numbers_behind (g + k)) dated ≡ map (moved_numbers g k) (map (numbers_behind g) dated)
+steps_further : (g k : ℕ) (dated : List DatedStep) → All (λ d. d.given ≤ g) dated → map (numbers_after (g + k)) dated ≡ map (moved_numbers g k) (map (numbers_after g) dated)
 steps_further g k [] early = refl
 steps_further g k (d ∷ dated) early =
     ap₂ (λ (s : ℕ × List (ℕ × ℕ)) (ss : List (ℕ × List (ℕ × ℕ))). s ∷ ss) (step_further g k d (early 0 d (omega arith)))
@@ -42,15 +42,15 @@ pub derived_further : (given more learned : List (List Lit)) (dated : List Dated
     → AreDerived (given ++ more) dated ((given ++ more) ++ learned)
 derived_further given more learned dated before =
     let both = length-append given more in
-    let front = length-map given literals_of in
-    let behind = length-map more literals_of in
-    let steps : map (numbers_behind (length (given ++ more))) dated ≡ map (moved_numbers (length (map literals_of given)) (length (map literals_of more))) (map (numbers_behind (length given)) dated) =
-    ap (λ n. map (numbers_behind n) dated) both ∙ steps_further (length given) (length more) dated before.early
-    ∙ ap₂ (λ n m. map (moved_numbers n m) (map (numbers_behind (length given)) dated)) (sym front) (sym behind) in
+    let prefix = length-map given literals_of in
+    let after = length-map more literals_of in
+    let steps : map (numbers_after (length (given ++ more))) dated ≡ map (moved_numbers (length (map literals_of given)) (length (map literals_of more))) (map (numbers_after (length given)) dated) =
+    ap (λ n. map (numbers_after n) dated) both ∙ steps_further (length given) (length more) dated before.early
+    ∙ ap₂ (λ n m. map (moved_numbers n m) (map (numbers_after (length given)) dated)) (sym prefix) (sym after) in
     record {
       early = λ k d l. let e = before.early k d l in omega (arith, e, both);
       derives = ap₂ derived_with (map-append literals_of given more) steps
-          ∙ numbers_move (map literals_of given) (map literals_of more) (map literals_of learned) (map (numbers_behind (length given)) dated)
+          ∙ numbers_move (map literals_of given) (map literals_of more) (map literals_of learned) (map (numbers_after (length given)) dated)
           (before.derives ∙ ap Some (map-append literals_of given learned))
           ∙ ap Some (sym (map-append literals_of (given ++ more) learned ∙ ap (λ gs. gs ++ map literals_of learned) (map-append literals_of given more)));
     }
@@ -66,7 +66,7 @@ pairs_now : (g k : ℕ) (pairs : List (ℕ × ℕ)) → k ≡ 0 → map (moved_p
 pairs_now g k [] none = refl
 pairs_now g k (pair ∷ pairs) none = ap₂ (λ (n : ℕ) (ps : List (ℕ × ℕ)). (n, pair.1) ∷ ps) (number_now g k pair.0 none) (pairs_now g k pairs none)
 
-pub numbers_now : (given : ℕ) (d : DatedStep) → given - d.given ≡ 0 → numbers_behind given d ≡ step_numbers d.step
+pub numbers_now : (given : ℕ) (d : DatedStep) → given - d.given ≡ 0 → numbers_after given d ≡ step_numbers d.step
 numbers_now given d none = ap₂ (λ (n : ℕ) (ps : List (ℕ × ℕ)). (n, ps)) (number_now d.given (given - d.given) d.step.first none) (pairs_now d.given (given - d.given) d.step.rest.items none)
 
 -- one step more
@@ -86,15 +86,15 @@ derived_today given all dated step clause before made =
     let last : DatedStep = record { given = length given; step = step } in
     record {
       early = All-push (λ (d : DatedStep). d.given ≤ length given) dated last before.early (omega arith);
-      derives = ap (derived_with (map literals_of given)) (map-append (numbers_behind (length given)) dated (last ∷ []))
-          ∙ derived_push (map literals_of given) (map literals_of all) (map (numbers_behind (length given)) dated) (numbers_behind (length given) last) (literals_of clause) before.derives
+      derives = ap (derived_with (map literals_of given)) (map-append (numbers_after (length given)) dated (last ∷ []))
+          ∙ derived_push (map literals_of given) (map literals_of all) (map (numbers_after (length given)) dated) (numbers_after (length given) last) (literals_of clause) before.derives
           (ap (made_with (map literals_of all)) (numbers_now (length given) last (omega arith)) ∙ made)
           ∙ ap Some (sym (map-append literals_of all (clause ∷ [])));
     }
 
 -- each number of a step is one of a clause
 below_of : {A : Type 0} (xs : List A) (n : ℕ) (x : A) → slice_get xs n ≡ Some x → n < length xs
-below_of xs n x stands = slice_get_within xs n x stands
+below_of xs n x occurs = slice_get_within xs n x occurs
 
 chain_below : (earlier : List Literals) (c d : Literals) (pairs : List (ℕ × ℕ)) → chain earlier c pairs ≡ Some d → All (λ pair. pair.0 < length earlier) pairs
 chain_below earlier c d [] e = All-nil (λ (pair : ℕ × ℕ). pair.0 < length earlier)
@@ -127,15 +127,15 @@ numbers_below earlier all (step ∷ steps) bound e most =
 
 -- so are those of dated steps
 pub dated_below : (given all : List (List Lit)) (dated : List DatedStep) (bound : ℕ) → AreDerived given dated all → length all ≤ bound
-    → All (λ d. AreBelow bound (numbers_behind (length given) d)) dated
+    → All (λ d. AreBelow bound (numbers_after (length given) d)) dated
 dated_below given all dated bound before most =
-    all_mapped (AreBelow bound) (numbers_behind (length given)) dated
-    (numbers_below (map literals_of given) (map literals_of all) (map (numbers_behind (length given)) dated) bound before.derives (let sets = length-map all literals_of in omega (arith, sets, most)))
+    all_mapped (AreBelow bound) (numbers_after (length given)) dated
+    (numbers_below (map literals_of given) (map literals_of all) (map (numbers_after (length given)) dated) bound before.derives (let sets = length-map all literals_of in omega (arith, sets, most)))
 
 pub as_many : (given all : List (List Lit)) (dated : List DatedStep) → AreDerived given dated all → length all ≡ length given + length dated
 as_many given all dated before =
     let sets = length-map all literals_of in
-    let front = length-map given literals_of in
-    let steps = length-map dated (numbers_behind (length given)) in
-    let whole = derived_longer_than (map literals_of given) (map literals_of all) (map (numbers_behind (length given)) dated) before.derives in
-    omega (arith, sets, front, steps, whole)
+    let prefix = length-map given literals_of in
+    let steps = length-map dated (numbers_after (length given)) in
+    let whole = derived_longer_than (map literals_of given) (map literals_of all) (map (numbers_after (length given)) dated) before.derives in
+    omega (arith, sets, prefix, steps, whole)

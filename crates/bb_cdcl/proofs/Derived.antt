@@ -8,18 +8,18 @@ use Rattle.bb_cnf.specs.declared.refutation.Step.{Step}
 use Rattle.bb_cnf.specs.Clauses.{Literals, literals_of, lists_of}
 use Rattle.bb_cnf.specs.Chains.{made_by, IsEmpty}
 use Rattle.bb_cnf.specs.Laws.{ChainLaws}
-use Rattle.bb_cdcl.specs.declared.analysis.Jump.{Jump}
+use Rattle.bb_cdcl.specs.declared.analysis.Backjump.{Backjump}
 use Rattle.bb_cdcl.specs.declared.state.State.{State}
 use Rattle.bb_cdcl.specs.declared.trail.Entry.{Entry}
 use Rattle.bb_cdcl.specs.declared.trail.Trail.{Trail}
 use Rattle.bb_cnf.specs.Inside.PartialResolvent.{held, AreListed}
 use Rattle.bb_cdcl.specs.Inside.Trails.{opposite, AreNew, HaveReasons, IsReason, AreValues, HasRoom}
-use Rattle.bb_cdcl.specs.Inside.Analysis.{IsJump}
+use Rattle.bb_cdcl.specs.Inside.Analysis.{IsBackjump}
 use Rattle.bb_cdcl.specs.Inside.Dates.{AreDerived}
 use Rattle.bb_cdcl.specs.Inside.States.{all_clauses, IsDerived, Refutes, IsReady, Grows, Leads, Learns, Advances, left_of}
 use Rattle.bb_cdcl.specs.Inside.Measure.{left}
 use Rattle.bb_cdcl.proofs.Dates.{derived_today}
-use Rattle.bb_cdcl.proofs.Extended.{get_last, more_reasons, reasons_push, reasons_front, lists_of-push}
+use Rattle.bb_cdcl.proofs.Extended.{get_last, more_reasons, reasons_push, reasons_prefix, lists_of-push}
 
 -- all clauses, with one more
 lists_more : (given : List (List Lit)) (old new : State) (clause : SmallVec Lit) → new.learned.items ≡ old.learned.items ++ clause ∷ [] → all_clauses given new ≡ all_clauses given old ++ clause.items ∷ []
@@ -82,15 +82,15 @@ refuted given s clause before some last empty =
           (sym (ap (λ n. slice_get (map literals_of all) (n - 1)) (length-map all literals_of) ∙ slice_get-map literals_of all (length all - 1) ∙ ap (option_map literals_of) last)) empty;
     }
 
-if_none : (jump : Option Jump) (A B : Type 0) → (A → B) → IfNone jump A → IfNone jump B
+if_none : (backjump : Option Backjump) (A B : Type 0) → (A → B) → IfNone backjump A → IfNone backjump B
 if_none None A B f a = f a
 if_none (Some j) A B f a = tt
 
 -- the clause that the step leads to is the last
-pub learned_last : ChainLaws → (given : List (List Lit)) (old mid new : State) (jump : Option Jump) (step : Step) (clause : SmallVec Lit) → Leads given old mid jump step
+pub learned_last : ChainLaws → (given : List (List Lit)) (old mid new : State) (backjump : Option Backjump) (step : Step) (clause : SmallVec Lit) → Leads given old mid backjump step
     → literals_of clause.items ≡ held mid.resolvent → new.learned.items ≡ mid.learned.items ++ clause ∷ [] → new.steps.items ≡ mid.steps.items ++ record { given = length given; step = step } ∷ [] → new.trail ≡ mid.trail
-    → ((l : Lit) → held new.resolvent l ≡ false) → AreListed new.resolvent → Learns given old new jump
-learned_last laws given old mid new jump step clause leads is more steps trail empty listed =
+    → ((l : Lit) → held new.resolvent l ≡ false) → AreListed new.resolvent → Learns given old new backjump
+learned_last laws given old mid new backjump step clause leads is more steps trail empty listed =
     let derived = added laws given mid new clause step leads.derived more steps (leads.made ∙ ap (λ (k : Literals). Some k) (sym is)) trail in
     let last = ap (λ all. slice_get all (length all - 1)) (lists_more given mid new clause more) ∙ last_of (all_clauses given mid) clause.items in
     let longer : length new.steps.items ≡ length mid.steps.items + 1 = ap length steps ∙ length-append mid.steps.items (record { given = length given; step = step } ∷ []) in
@@ -99,15 +99,15 @@ learned_last laws given old mid new jump step clause leads is more steps trail e
       trail = trail ∙ leads.trail;
       clause = clause.items;
       last = last;
-      some = subst (λ k. IfSome jump (λ j. IsJump old.trail.entries.items k j.place j.back)) (sym is) leads.some;
-      none = if_none jump (IsEmpty (held mid.resolvent)) (Refutes given new)
+      some = subst (λ k. IfSome backjump (λ j. IsBackjump old.trail.entries.items k j.place j.back)) (sym is) leads.some;
+      none = if_none backjump (IsEmpty (held mid.resolvent)) (Refutes given new)
           (λ nothing. refuted given new clause.items derived (omega (arith, longer)) last (subst IsEmpty (sym is) nothing)) leads.none;
       empty = empty;
       listed = listed;
     }
 
-pub learned_ready : (given : List (List Lit)) (old new : State) (jump : Option Jump) → IsReady old → Learns given old new jump → IsReady new
-learned_ready given old new jump ready learns = record {
+pub learned_ready : (given : List (List Lit)) (old new : State) (backjump : Option Backjump) → IsReady old → Learns given old new backjump → IsReady new
+learned_ready given old new backjump ready learns = record {
   new = subst (λ (t : Trail). AreNew t.entries.items) (sym learns.trail) ready.new;
   values = subst (λ (t : Trail). AreValues t.entries.items t.values.items) (sym learns.trail) ready.values;
   room = subst (λ (t : Trail). HasRoom t.entries.items t.values.items) (sym learns.trail) ready.room;
@@ -132,20 +132,20 @@ derived_longer given old new e before learned steps is reason =
 pub derived_shorter : (given : List (List Lit)) (old new : State) (p : ℕ) → IsDerived given old → new.learned.items ≡ old.learned.items → new.steps.items ≡ old.steps.items
     → new.trail.entries.items ≡ take p old.trail.entries.items → IsDerived given new
 derived_shorter given old new p before learned steps is =
-    derived_kept given old new (take p old.trail.entries.items) before learned steps is (reasons_front (all_clauses given old) old.trail.entries.items p before.reasons)
+    derived_kept given old new (take p old.trail.entries.items) before learned steps is (reasons_prefix (all_clauses given old) old.trail.entries.items p before.reasons)
 
 -- the front of the trail, and what the clause of a jump implies there
 pub derived_jumped : (given : List (List Lit)) (old new : State) (place back n : ℕ) (clause : List Lit) → IsDerived given old → new.learned.items ≡ old.learned.items
-    → new.steps.items ≡ old.steps.items → slice_get (all_clauses given old) n ≡ Some clause → (jump : IsJump old.trail.entries.items (literals_of clause) place back)
-    → new.trail.entries.items ≡ take back old.trail.entries.items ++ record { lit = opposite jump.covered.entry.lit; reason = Some n } ∷ [] → IsDerived given new
-derived_jumped given old new place back n clause before learned steps stands jump is =
-    derived_kept given old new (take back old.trail.entries.items ++ record { lit = opposite jump.covered.entry.lit; reason = Some n } ∷ []) before learned steps is
-    (reasons_push (all_clauses given old) (take back old.trail.entries.items) (record { lit = opposite jump.covered.entry.lit; reason = Some n })
-    (reasons_front (all_clauses given old) old.trail.entries.items back before.reasons)
-    (record { clause = clause; stands = stands; own = jump.covered.member; others = jump.covered.others }))
+    → new.steps.items ≡ old.steps.items → slice_get (all_clauses given old) n ≡ Some clause → (backjump : IsBackjump old.trail.entries.items (literals_of clause) place back)
+    → new.trail.entries.items ≡ take back old.trail.entries.items ++ record { lit = opposite backjump.covered.entry.lit; reason = Some n } ∷ [] → IsDerived given new
+derived_jumped given old new place back n clause before learned steps occurs backjump is =
+    derived_kept given old new (take back old.trail.entries.items ++ record { lit = opposite backjump.covered.entry.lit; reason = Some n } ∷ []) before learned steps is
+    (reasons_push (all_clauses given old) (take back old.trail.entries.items) (record { lit = opposite backjump.covered.entry.lit; reason = Some n })
+    (reasons_prefix (all_clauses given old) old.trail.entries.items back before.reasons)
+    (record { clause = clause; occurs = occurs; own = backjump.covered.member; others = backjump.covered.others }))
 
-pub advances_learned : (given : List (List Lit)) (old mid new : State) (jump : Option Jump) → Learns given old mid jump → Advances mid new → Advances old new
-advances_learned given old mid new jump learns advances = record {
+pub advances_learned : (given : List (List Lit)) (old mid new : State) (backjump : Option Backjump) → Learns given old mid backjump → Advances mid new → Advances old new
+advances_learned given old mid new backjump learns advances = record {
   ready = advances.ready;
   less = subst (λ (t : Trail). left_of new < left (length t.values.items) t.entries.items) learns.trail advances.less;
   same = advances.same ∙ ap (λ (t : Trail). length t.values.items) learns.trail;

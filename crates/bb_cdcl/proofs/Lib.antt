@@ -6,13 +6,13 @@ pub mod Derived
 pub mod Extended
 pub mod HandedOut
 pub mod Happens
-pub mod Jumps
+pub mod Backjumps
 pub mod Literals
 pub mod Measured
 pub mod Moved
 pub mod Resolved
 pub mod Resting
 pub mod Resumed
-pub mod Shortened
+pub mod Minimized
 pub mod Started
 pub mod Unitary

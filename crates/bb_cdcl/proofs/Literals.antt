@@ -2,9 +2,9 @@
 use Rattle.std.proofs.Common.{◌≡◌, ℕ, Bool, true, false, not, ◌&&◌, ◌||◌, ◌==◌, List, [], ◌∷◌, ◌++◌, refl, sym, ◌∙◌, ap, ap₂, arith, ◌⊎◌, inl, inr}
 use Rattle.std.proofs.lemmas.List.Folds.{list_any-append}
 use mathlib.Core.Bool.{beq}
-use Rattle.bb_lists.proofs.Tests.{number_equal, number_self}
-use Rattle.bb_lists.proofs.Maps.{or-false}
-use Rattle.bb_lists.proofs.Bits.{and_both, beq_equal, beq_self}
+use Rattle.bb_lemmas.proofs.Tests.{number_equal, number_self}
+use Rattle.bb_lemmas.proofs.Maps.{or-false}
+use Rattle.bb_lemmas.proofs.Bits.{and_both, beq_equal, beq_self}
 use Rattle.bb_cnf.specs.declared.clauses.Lit.{Lit}
 use Rattle.bb_cnf.specs.Clauses.{literals_of, same_literal}
 use Rattle.bb_cdcl.specs.declared.trail.Entry.{Entry}
@@ -45,8 +45,8 @@ of_variable l m e =
 
 pub other_variable : (l m : Lit) → (m.var == l.var) ≡ false → same_literal l m ≡ false
 other_variable l m other =
-    let turned : (l.var == m.var) ≡ false = grind (arith, other) in
-    ap (λ b. b && beq l.neg m.neg) turned
+    let iterated : (l.var == m.var) ≡ false = grind (arith, other) in
+    ap (λ b. b && beq l.neg m.neg) iterated
 
 pub falsified-push : (es : List Entry) (e : Entry) (m : Lit) → falsified (es ++ e ∷ []) m ≡ (falsified es m || same_literal (opposite e.lit) m)
 falsified-push es e m =

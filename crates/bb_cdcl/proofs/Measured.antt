@@ -27,23 +27,23 @@ decided_left o n none = ap (λ p. left_by p n) none
 implied_left : (o : Option ℕ) (r n : ℕ) → o ≡ Some r → left_by o n ≡ 0
 implied_left o r n some = ap (λ p. left_by p n) some
 
-pub left_jump : (n : ℕ) (es : List Entry) (p : ℕ) (d e : Entry) (r : ℕ) → length es ≤ n → slice_get es p ≡ Some d → d.reason ≡ None → e.reason ≡ Some r
+pub left_backjump : (n : ℕ) (es : List Entry) (p : ℕ) (d e : Entry) (r : ℕ) → length es ≤ n → slice_get es p ≡ Some d → d.reason ≡ None → e.reason ≡ Some r
     → left n (take p es ++ e ∷ []) < left n es
-left_jump n [] p d e r within stands decided implied = absurd (let clash : None ≡ Some d = stands in cc)
-left_jump zero (x ∷ es) p d e r within stands decided implied = absurd (omega (arith, within))
-left_jump (suc n) (x ∷ es) zero d e r within stands decided implied =
-    let same : x ≡ d = (let s : Some x ≡ Some d = stands in cc) in
+left_backjump n [] p d e r within occurs decided implied = absurd (let clash : None ≡ Some d = occurs in cc)
+left_backjump zero (x ∷ es) p d e r within occurs decided implied = absurd (omega (arith, within))
+left_backjump (suc n) (x ∷ es) zero d e r within occurs decided implied =
+    let same : x ≡ d = (let s : Some x ≡ Some d = occurs in cc) in
     let whole = decided_left x.reason n (ap (λ (k : Entry). k.reason) same ∙ decided) in
     let nothing = implied_left e.reason r n implied in
     let s = left_some n es (omega (arith, within)) in
     omega (arith, whole, nothing, s)
-left_jump (suc n) (x ∷ es) (suc p) d e r within stands decided implied =
-    let s = left_jump n es p d e r (omega (arith, within)) stands decided implied in omega (arith, s)
+left_backjump (suc n) (x ∷ es) (suc p) d e r within occurs decided implied =
+    let s = left_backjump n es p d e r (omega (arith, within)) occurs decided implied in omega (arith, s)
 
 -- the trail after a jump back has less left
-pub jump_less : (n m : ℕ) (es new : List Entry) (p : ℕ) (d e : Entry) (r : ℕ) → m ≡ n → new ≡ take p es ++ e ∷ [] → length es ≤ n → slice_get es p ≡ Some d → d.reason ≡ None → e.reason ≡ Some r
+pub backjump_less : (n m : ℕ) (es new : List Entry) (p : ℕ) (d e : Entry) (r : ℕ) → m ≡ n → new ≡ take p es ++ e ∷ [] → length es ≤ n → slice_get es p ≡ Some d → d.reason ≡ None → e.reason ≡ Some r
     → left m new < left n es
-jump_less n m es new p d e r same is within stands decided implied = rw (same, is) (left_jump n es p d e r within stands decided implied)
+backjump_less n m es new p d e r same is within occurs decided implied = rw (same, is) (left_backjump n es p d e r within occurs decided implied)
 
 -- so has a longer trail
 pub push_less : (n m : ℕ) (es new : List Entry) (e : Entry) → m ≡ n → new ≡ es ++ e ∷ [] → length es < n → left m new < left n es

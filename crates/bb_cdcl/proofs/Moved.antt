@@ -1,9 +1,9 @@
 -- Steps where more given clauses come.
 use Rattle.std.proofs.Common.{◌≡◌, ◌<◌, ◌≤◌, ℕ, zero, suc, ◌+◌, ◌-◌, if◌then◌else◌, Option, Some, None, option_and_then, List, [], ◌∷◌, ◌++◌, length, map, slice_get, refl, sym, ◌∙◌, ap, inl, inr, arith, length-append, append_assoc}
 use Rattle.std.proofs.lemmas.List.{append-nil}
-use Rattle.bb_lists.proofs.Places.{in_front}
-use Rattle.bb_lists.proofs.Tests.{lt_to_test, not_lt_to_test}
-use Rattle.bb_lists.proofs.Orders.{less_or_not}
+use Rattle.bb_lemmas.proofs.Places.{in_prefix}
+use Rattle.bb_lemmas.proofs.Tests.{lt_to_test, not_lt_to_test}
+use Rattle.bb_lemmas.proofs.Orders.{less_or_not}
 use Rattle.bb_cnf.specs.declared.refutation.Step.{Step}
 use Rattle.bb_cnf.specs.Clauses.{Literals}
 use Rattle.bb_cnf.specs.Chains.{resolution, chain, made_by, derived}
@@ -17,10 +17,10 @@ moved_below g k n below = ap (λ b. if b then n else n + k) (lt_to_test n g belo
 pub moved_past : (g k n : ℕ) → g ≤ n → moved_number g k n ≡ n + k
 moved_past g k n past = ap (λ b. if b then n else n + k) (not_lt_to_test n g past)
 
-get_behind : {A : Type 0} (xs ys : List A) (n j : ℕ) → n ≡ length xs + j → slice_get (xs ++ ys) n ≡ slice_get ys j
-get_behind [] ys n j e = ap (slice_get ys) (omega (arith, e))
-get_behind (x ∷ xs) ys zero j e = absurd (omega (arith, e))
-get_behind (x ∷ xs) ys (suc n) j e = get_behind xs ys n j (omega (arith, e))
+get_after : {A : Type 0} (xs ys : List A) (n j : ℕ) → n ≡ length xs + j → slice_get (xs ++ ys) n ≡ slice_get ys j
+get_after [] ys n j e = ap (slice_get ys) (omega (arith, e))
+get_after (x ∷ xs) ys zero j e = absurd (omega (arith, e))
+get_after (x ∷ xs) ys (suc n) j e = get_after xs ys n j (omega (arith, e))
 
 -- a clause is found by its moved number
 pub moved_get : {A : Type 0} (given more learned : List A) (n : ℕ) (c : A) → slice_get (given ++ learned) n ≡ Some c
@@ -30,11 +30,11 @@ moved_get given more learned n c e =
     let all = (given ++ more) ++ learned in
     elim (less_or_not n (length given)) as (λ _. slice_get ((given ++ more) ++ learned) (moved_number (length given) (length more) n) ≡ Some c) [
       | inl below ↦
-          ap (slice_get all) (moved_below (length given) (length more) n below) ∙ in_front (given ++ more) learned n (omega (arith, below, both))
-          ∙ in_front given more n below ∙ sym (in_front given learned n below) ∙ e
+          ap (slice_get all) (moved_below (length given) (length more) n below) ∙ in_prefix (given ++ more) learned n (omega (arith, below, both))
+          ∙ in_prefix given more n below ∙ sym (in_prefix given learned n below) ∙ e
       | inr past ↦
-          ap (slice_get all) (moved_past (length given) (length more) n past) ∙ get_behind (given ++ more) learned (n + length more) (n - length given) (omega (arith, past, both))
-          ∙ sym (get_behind given learned n (n - length given) (omega (arith, past))) ∙ e
+          ap (slice_get all) (moved_past (length given) (length more) n past) ∙ get_after (given ++ more) learned (n + length more) (n - length given) (omega (arith, past, both))
+          ∙ sym (get_after given learned n (n - length given) (omega (arith, past))) ∙ e
     ]
 
 pub came_by : {A B : Type 0} (f : A → Option B) (o : Option A) (b : B) → option_and_then f o ≡ Some b → (a : A) × (o ≡ Some a) × (f a ≡ Some b)
@@ -73,15 +73,15 @@ derived_moved given more learned all (step ∷ steps) e =
           ∙ ap (λ es. derived_with es moved) (append_assoc (given ++ more) learned (first.0 ∷ [])) ∙ rest.2,
     )
 
-front_off : {A : Type 0} (xs ys zs : List A) → xs ++ ys ≡ xs ++ zs → ys ≡ zs
-front_off [] ys zs e = e
-front_off (x ∷ xs) ys zs e = front_off xs ys zs (let s : x ∷ (xs ++ ys) ≡ x ∷ (xs ++ zs) = e in cc)
+prefix_off : {A : Type 0} (xs ys zs : List A) → xs ++ ys ≡ xs ++ zs → ys ≡ zs
+prefix_off [] ys zs e = e
+prefix_off (x ∷ xs) ys zs e = prefix_off xs ys zs (let s : x ∷ (xs ++ ys) ≡ x ∷ (xs ++ zs) = e in cc)
 
 pub numbers_move : (given more learned : List Literals) (steps : List (ℕ × List (ℕ × ℕ))) → derived_with given steps ≡ Some (given ++ learned)
     → derived_with (given ++ more) (map (moved_numbers (length given) (length more)) steps) ≡ Some ((given ++ more) ++ learned)
 numbers_move given more learned steps e =
     let m = derived_moved given more [] (given ++ learned) steps (ap (λ es. derived_with es steps) (append-nil given) ∙ e) in
-    let same : m.0 ≡ learned = sym (front_off given learned m.0 m.1) in
+    let same : m.0 ≡ learned = sym (prefix_off given learned m.0 m.1) in
     ap (λ es. derived_with es (map (moved_numbers (length given) (length more)) steps)) (sym (append-nil (given ++ more))) ∙ m.2 ∙ ap (λ made. Some ((given ++ more) ++ made)) same
 
 and_then_same : {A B : Type 0} (f g : A → Option B) (o : Option A) → ((a : A) → f a ≡ g a) → option_and_then f o ≡ option_and_then g o

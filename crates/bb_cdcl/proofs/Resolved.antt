@@ -1,7 +1,7 @@
 -- A resolution with the reason of a literal.
 use Rattle.std.proofs.Common.{◌≡◌, ◌<◌, ℕ, length, Bool, true, false, not, ◌&&◌, ◌||◌, ◌==◌, if◌then◌else◌, Option, Some, None, option_map, option_and_then, List, [], ◌∷◌, ◌++◌, map, slice_get, refl, sym, ◌∙◌, ap, ◌⊎◌, inl, inr}
 use Rattle.std.proofs.lemmas.Option.{slice_get-map, slice_get_within}
-use Rattle.bb_lists.proofs.Bits.{and_both, or_cases, both_true}
+use Rattle.bb_lemmas.proofs.Bits.{and_both, or_cases, both_true}
 use Rattle.bb_cnf.specs.declared.clauses.Lit.{Lit}
 use Rattle.bb_cnf.specs.declared.partial_resolvent.PartialResolvent.{PartialResolvent}
 use Rattle.bb_cnf.specs.Clauses.{Literals, literals_of, same_literal, positive, negated}
@@ -84,35 +84,35 @@ not_opposite x false = none (x == x) where
   none true = refl
   none false = refl
 
-pub resolved_falsified : (clauses : List (List Lit)) (front : List Entry) (last : Entry) (l : Lit) (r : ℕ) (clause : List Lit) (c e : Literals) → IsNew front l → IsReason clauses front l r
+pub resolved_falsified : (clauses : List (List Lit)) (prefix : List Entry) (last : Entry) (l : Lit) (r : ℕ) (clause : List Lit) (c e : Literals) → IsNew prefix l → IsReason clauses prefix l r
     → slice_get clauses r ≡ Some clause → last.lit ≡ l → c (opposite l) ≡ true
-    → AreFalsified (front ++ last ∷ []) c → resolution c (literals_of clause) l.var ≡ Some e → AreFalsified front e
-resolved_falsified clauses front last l r clause c e new reason stands is has_own all resolved =
-    let same : reason.clause ≡ clause = (let s : Some reason.clause ≡ Some clause = sym reason.stands ∙ stands in cc) in
-    resolved_by l.var l.neg (falsified front) c (literals_of clause) e new.0 (not_opposite l.var l.neg)
-    (λ m member. ap (λ k. falsified front m || same_literal (opposite k) m) (sym is) ∙ sym (falsified-push front last m) ∙ all m member)
+    → AreFalsified (prefix ++ last ∷ []) c → resolution c (literals_of clause) l.var ≡ Some e → AreFalsified prefix e
+resolved_falsified clauses prefix last l r clause c e new reason occurs is has_own all resolved =
+    let same : reason.clause ≡ clause = (let s : Some reason.clause ≡ Some clause = sym reason.occurs ∙ occurs in cc) in
+    resolved_by l.var l.neg (falsified prefix) c (literals_of clause) e new.0 (not_opposite l.var l.neg)
+    (λ m member. ap (λ k. falsified prefix m || same_literal (opposite k) m) (sym is) ∙ sym (falsified-push prefix last m) ∙ all m member)
     (λ m member. reason.others m (ap (λ k. literals_of k m) same ∙ member))
     has_own (ap (λ k. literals_of k l) (sym same) ∙ reason.own) resolved
 
-pub reason_has : (clauses : List (List Lit)) (front : List Entry) (l : Lit) (r : ℕ) (clause : List Lit) → IsReason clauses front l r → slice_get clauses r ≡ Some clause → literals_of clause l ≡ true
-reason_has clauses front l r clause reason stands =
-    let same : reason.clause ≡ clause = (let s : Some reason.clause ≡ Some clause = sym reason.stands ∙ stands in cc) in
+pub reason_has : (clauses : List (List Lit)) (prefix : List Entry) (l : Lit) (r : ℕ) (clause : List Lit) → IsReason clauses prefix l r → slice_get clauses r ≡ Some clause → literals_of clause l ≡ true
+reason_has clauses prefix l r clause reason occurs =
+    let same : reason.clause ≡ clause = (let s : Some reason.clause ≡ Some clause = sym reason.occurs ∙ occurs in cc) in
     ap (λ k. literals_of k l) (sym same) ∙ reason.own
 
 one_pair : (earlier : List Literals) (c d e : Literals) (r x : ℕ) → slice_get earlier r ≡ Some d → resolution c d x ≡ Some e → chain earlier c ((r, x) ∷ []) ≡ Some e
-one_pair earlier c d e r x stands resolved =
-    ap (option_and_then (λ n. option_and_then (λ k. Some k) (resolution c n x))) stands ∙ ap (option_and_then (λ k. Some k)) resolved
+one_pair earlier c d e r x occurs resolved =
+    ap (option_and_then (λ n. option_and_then (λ k. Some k) (resolution c n x))) occurs ∙ ap (option_and_then (λ k. Some k)) resolved
 
 -- one more resolution at the end of a chain
 pub resolved_more : ChainLaws → (clauses : List (List Lit)) (first : Literals) (pairs : List (ℕ × ℕ)) (old new : PartialResolvent) (r x : ℕ) (clause : List Lit)
     → IsResolved clauses first pairs old → slice_get clauses r ≡ Some clause → resolution (held old) (literals_of clause) x ≡ Some (held new) → AreListed new
     → IsResolved clauses first (pairs ++ (r, x) ∷ []) new
-resolved_more laws clauses first pairs old new r x clause before stands resolved listed = record {
+resolved_more laws clauses first pairs old new r x clause before occurs resolved listed = record {
   made = laws.chain_in_parts (map literals_of clauses) first pairs ((r, x) ∷ [])
       ∙ ap (option_and_then (λ d. chain (map literals_of clauses) d ((r, x) ∷ []))) before.made
-      ∙ one_pair (map literals_of clauses) (held old) (literals_of clause) (held new) r x (slice_get-map literals_of clauses r ∙ ap (option_map literals_of) stands) resolved;
+      ∙ one_pair (map literals_of clauses) (held old) (literals_of clause) (held new) r x (slice_get-map literals_of clauses r ∙ ap (option_map literals_of) occurs) resolved;
   listed = listed;
 }
 
-pub reason_below : (clauses : List (List Lit)) (front : List Entry) (l : Lit) (r : ℕ) → IsReason clauses front l r → r < length clauses
-reason_below clauses front l r reason = slice_get_within clauses r reason.clause reason.stands
+pub reason_below : (clauses : List (List Lit)) (prefix : List Entry) (l : Lit) (r : ℕ) → IsReason clauses prefix l r → r < length clauses
+reason_below clauses prefix l r reason = slice_get_within clauses r reason.clause reason.occurs

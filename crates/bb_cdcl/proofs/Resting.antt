@@ -3,7 +3,7 @@ use Rattle.std.proofs.Common.{◌≡◌, ℕ, ◌+◌, ◌-◌, Bool, Option, Li
 use Rattle.std.proofs.lemmas.List.{length-map, take_all, take-append-le}
 use Rattle.smallvec.specs.SmallVec.{SmallVec}
 use Rattle.bb_cnf.specs.declared.clauses.Lit.{Lit}
-use Rattle.bb_cnf.specs.Clauses.{Formula, lists_of, IsWithin}
+use Rattle.bb_cnf.specs.Clauses.{Formula, lists_of, HasVariablesWithin}
 use Rattle.bb_cnf.specs.Truth.{assignment_of, Satisfies, IsModel}
 use Rattle.bb_cdcl.specs.declared.state.State.{State}
 use Rattle.bb_cdcl.specs.Inside.Events.{IsSatisfied}
@@ -38,12 +38,12 @@ rests_again given vars known f old new is count wide rests =
 
 -- and the bits are a model
 pub model_of : (given : List (SmallVec Lit)) (vars : ℕ) (f : Formula) (old new : State) (bits : List Bool) (values : List (Option Bool)) → formula vars (lists_of given) ≡ f
-    → values ≡ new.trail.values.items → length old.trail.values.items ≡ vars + 1 → IsWithin vars (lists_of given) → Rests (lists_of given) old new → length bits + 1 ≡ length values
-    → ((clauses : List (List Lit)) → IsWithin (length values - 1) clauses → All (IsSatisfied values) clauses → Satisfies (assignment_of bits) clauses) → IsModel bits f
+    → values ≡ new.trail.values.items → length old.trail.values.items ≡ vars + 1 → HasVariablesWithin vars (lists_of given) → Rests (lists_of given) old new → length bits + 1 ≡ length values
+    → ((clauses : List (List Lit)) → HasVariablesWithin (length values - 1) clauses → All (IsSatisfied values) clauses → Satisfies (assignment_of bits) clauses) → IsModel bits f
 model_of given vars f old new bits values is held wide within rests long satisfies =
     let count : length values ≡ vars + 1 = ap length held ∙ rests.pauses.same ∙ wide in
     let below : vars ≡ length values - 1 = omega (arith, count) in
     subst (IsModel bits) is (
       omega (arith, long, count),
-      satisfies (lists_of given) (subst (λ n. IsWithin n (lists_of given)) below within) (subst (λ vs. All (IsSatisfied vs) (lists_of given)) (sym held) rests.satisfied),
+      satisfies (lists_of given) (subst (λ n. HasVariablesWithin n (lists_of given)) below within) (subst (λ vs. All (IsSatisfied vs) (lists_of given)) (sym held) rests.satisfied),
     )

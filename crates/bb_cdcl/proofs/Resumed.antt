@@ -4,7 +4,7 @@ use Rattle.std.proofs.lemmas.List.{length-map, take-append-drop}
 use Rattle.std.proofs.lemmas.List.Sums.{sum_by-append}
 use Rattle.std.proofs.lemmas.Option.{slice_get-get_or, slice_get_within}
 use Rattle.std.specs.List.{sum_by}
-use Rattle.bb_lists.proofs.Orders.{less_or_not}
+use Rattle.bb_lemmas.proofs.Orders.{less_or_not}
 use Rattle.bb_cnf.specs.declared.clauses.Lit.{Lit}
 use Rattle.bb_cnf.specs.Clauses.{lists_of, same_literal}
 use Rattle.bb_cnf.specs.Inside.PartialResolvent.{held, AreListed}
@@ -37,58 +37,58 @@ room_more entries values room =
     omega (arith, longer, sum, room)
 
 -- the front of a list is turned, and the rest is as it was
-abbrev pub turned : {A : Type 0} → (A → A) → ℕ → List A → List A
-turned f zero xs = xs
-turned f (suc i) [] = []
-turned f (suc i) (x ∷ xs) = f x ∷ turned f i xs
+abbrev pub iterated : {A : Type 0} → (A → A) → ℕ → List A → List A
+iterated f zero xs = xs
+iterated f (suc i) [] = []
+iterated f (suc i) (x ∷ xs) = f x ∷ iterated f i xs
 
-pub turned_at : {A : Type 0} (f : A → A) (i : ℕ) (xs : List A) (d : A) → get_or (turned f i xs) i d ≡ get_or xs i d
-turned_at f zero xs d = refl
-turned_at f (suc i) [] d = refl
-turned_at f (suc i) (x ∷ xs) d = turned_at f i xs d
+pub iterated_at : {A : Type 0} (f : A → A) (i : ℕ) (xs : List A) (d : A) → get_or (iterated f i xs) i d ≡ get_or xs i d
+iterated_at f zero xs d = refl
+iterated_at f (suc i) [] d = refl
+iterated_at f (suc i) (x ∷ xs) d = iterated_at f i xs d
 
-pub turned_more : {A : Type 0} (f : A → A) (i : ℕ) (xs : List A) (d : A) → i < length xs → set (turned f i xs) i (f (get_or xs i d)) ≡ turned f (suc i) xs
-turned_more f i [] d within = absurd (omega (arith, within))
-turned_more f zero (x ∷ xs) d within = refl
-turned_more f (suc i) (x ∷ xs) d within = ap (λ t. f x ∷ t) (turned_more f i xs d (omega (arith, within)))
+pub iterated_more : {A : Type 0} (f : A → A) (i : ℕ) (xs : List A) (d : A) → i < length xs → set (iterated f i xs) i (f (get_or xs i d)) ≡ iterated f (suc i) xs
+iterated_more f i [] d within = absurd (omega (arith, within))
+iterated_more f zero (x ∷ xs) d within = refl
+iterated_more f (suc i) (x ∷ xs) d within = ap (λ t. f x ∷ t) (iterated_more f i xs d (omega (arith, within)))
 
-pub turned_all : {A : Type 0} (f : A → A) (i : ℕ) (xs : List A) → length xs ≤ i → turned f i xs ≡ map f xs
-turned_all f zero [] all = refl
-turned_all f (suc i) [] all = refl
-turned_all f zero (x ∷ xs) all = absurd (omega (arith, all))
-turned_all f (suc i) (x ∷ xs) all = ap (λ t. f x ∷ t) (turned_all f i xs (omega (arith, all)))
+pub iterated_all : {A : Type 0} (f : A → A) (i : ℕ) (xs : List A) → length xs ≤ i → iterated f i xs ≡ map f xs
+iterated_all f zero [] all = refl
+iterated_all f (suc i) [] all = refl
+iterated_all f zero (x ∷ xs) all = absurd (omega (arith, all))
+iterated_all f (suc i) (x ∷ xs) all = ap (λ t. f x ∷ t) (iterated_all f i xs (omega (arith, all)))
 
-pub length_turned : {A : Type 0} (f : A → A) (i : ℕ) (xs : List A) → length (turned f i xs) ≡ length xs
-length_turned f zero xs = refl
-length_turned f (suc i) [] = refl
-length_turned f (suc i) (x ∷ xs) = ap suc (length_turned f i xs)
+pub length_iterated : {A : Type 0} (f : A → A) (i : ℕ) (xs : List A) → length (iterated f i xs) ≡ length xs
+length_iterated f zero xs = refl
+length_iterated f (suc i) [] = refl
+length_iterated f (suc i) (x ∷ xs) = ap suc (length_iterated f i xs)
 
--- what stands in a list that was mapped
+-- what is in a list that was mapped
 unmapped : {A B : Type 0} (f : A → B) (xs : List A) (i : ℕ) (y : B) → slice_get (map f xs) i ≡ Some y → (x : A) × (slice_get xs i ≡ Some x) × (f x ≡ y)
 unmapped f [] i y e = absurd (let g : None ≡ Some y = e in cc)
 unmapped f (x ∷ xs) zero y e = (x, refl, (let s : Some (f x) ≡ Some y = e in cc))
 unmapped f (x ∷ xs) (suc i) y e = unmapped f xs i y e
 
-front_mapped : {A B : Type 0} (f : A → B) (i : ℕ) (xs : List A) → take i (map f xs) ≡ map f (take i xs)
-front_mapped f zero [] = refl
-front_mapped f zero (x ∷ xs) = refl
-front_mapped f (suc i) [] = refl
-front_mapped f (suc i) (x ∷ xs) = ap (λ t. f x ∷ t) (front_mapped f i xs)
+prefix_mapped : {A B : Type 0} (f : A → B) (i : ℕ) (xs : List A) → take i (map f xs) ≡ map f (take i xs)
+prefix_mapped f zero [] = refl
+prefix_mapped f zero (x ∷ xs) = refl
+prefix_mapped f (suc i) [] = refl
+prefix_mapped f (suc i) (x ∷ xs) = ap (λ t. f x ∷ t) (prefix_mapped f i xs)
 
 -- entries with other reasons make the same literals false
 falsified_moved : (g k : ℕ) (entries : List Entry) (m : Lit) → falsified (map (moved_entry g k) entries) m ≡ falsified entries m
 falsified_moved g k [] m = refl
 falsified_moved g k (e ∷ entries) m = ap (λ b. same_literal (opposite e.lit) m || b) (falsified_moved g k entries m)
 
-front_moved : (g k i : ℕ) (entries : List Entry) (m : Lit) → falsified (take i (map (moved_entry g k) entries)) m ≡ falsified (take i entries) m
-front_moved g k i entries m = ap (λ es. falsified es m) (front_mapped (moved_entry g k) i entries) ∙ falsified_moved g k (take i entries) m
+prefix_moved : (g k i : ℕ) (entries : List Entry) (m : Lit) → falsified (take i (map (moved_entry g k) entries)) m ≡ falsified (take i entries) m
+prefix_moved g k i entries m = ap (λ es. falsified es m) (prefix_mapped (moved_entry g k) i entries) ∙ falsified_moved g k (take i entries) m
 
 pub new_moved : (g k : ℕ) (entries : List Entry) → AreNew entries → AreNew (map (moved_entry g k) entries)
-new_moved g k entries new i e stands =
-    let old = unmapped (moved_entry g k) entries i e stands in
+new_moved g k entries new i e occurs =
+    let old = unmapped (moved_entry g k) entries i e occurs in
     let before = new i old.0 old.1 in
     let same : old.0.lit ≡ e.lit = ap (λ (d : Entry). d.lit) old.2 in
-    subst (λ (l : Lit). IsNew (take i (map (moved_entry g k) entries)) l) same (front_moved g k i entries old.0.lit ∙ before.0, front_moved g k i entries (opposite old.0.lit) ∙ before.1)
+    subst (λ (l : Lit). IsNew (take i (map (moved_entry g k) entries)) l) same (prefix_moved g k i entries old.0.lit ∙ before.0, prefix_moved g k i entries (opposite old.0.lit) ∙ before.1)
 
 pub values_moved : (g k : ℕ) (entries : List Entry) (values : List (Option Bool)) → AreValues entries values → AreValues (map (moved_entry g k) entries) values
 values_moved g k entries values are m = are m ∙ sym (falsified_moved g k entries m)
@@ -101,15 +101,15 @@ reason_moved : (given more learned : List (List Lit)) (i : ℕ) (entries : List 
 reason_moved given more learned i entries l None reason = tt
 reason_moved given more learned i entries l (Some r) reason = record {
   clause = reason.clause;
-  stands = moved_get given more learned r reason.clause reason.stands;
+  occurs = moved_get given more learned r reason.clause reason.occurs;
   own = reason.own;
-  others = λ m member. ap (λ b. same_literal l m || b) (front_moved (length given) (length more) i entries m) ∙ reason.others m member;
+  others = λ m member. ap (λ b. same_literal l m || b) (prefix_moved (length given) (length more) i entries m) ∙ reason.others m member;
 }
 
 pub reasons_moved : (given more learned : List (List Lit)) (entries : List Entry) → HaveReasons (given ++ learned) entries
     → HaveReasons ((given ++ more) ++ learned) (map (moved_entry (length given) (length more)) entries)
-reasons_moved given more learned entries reasons i e stands =
-    let old = unmapped (moved_entry (length given) (length more)) entries i e stands in
+reasons_moved given more learned entries reasons i e occurs =
+    let old = unmapped (moved_entry (length given) (length more)) entries i e occurs in
     subst (λ (d : Entry). IfSome d.reason (IsReason ((given ++ more) ++ learned) (take i (map (moved_entry (length given) (length more)) entries)) d.lit)) old.2
     (reason_moved given more learned i entries old.0.lit old.0.reason (reasons i old.0 old.1))
 
@@ -120,42 +120,42 @@ moved_less g k r n bound less most = elim (less_or_not r g) as (λ _. moved_numb
   | inr past ↦ rw moved_past (omega (arith, less, most))
 ]
 
-short_moved : (clauses : List (List Lit)) (front : List Entry) (l : Lit) (g k bound : ℕ) (o : Option ℕ) → length clauses + k ≤ bound → IfSome o (IsReason clauses front l)
+short_moved : (clauses : List (List Lit)) (prefix : List Entry) (l : Lit) (g k bound : ℕ) (o : Option ℕ) → length clauses + k ≤ bound → IfSome o (IsReason clauses prefix l)
     → IfSome o (λ number. moved_number g k number < bound)
-short_moved clauses front l g k bound None most reason = tt
-short_moved clauses front l g k bound (Some r) most reason = moved_less g k r (length clauses) bound (slice_get_within clauses r reason.clause reason.stands) most
+short_moved clauses prefix l g k bound None most reason = tt
+short_moved clauses prefix l g k bound (Some r) most reason = moved_less g k r (length clauses) bound (slice_get_within clauses r reason.clause reason.occurs) most
 
 pub reasons_short : (clauses : List (List Lit)) (entries : List Entry) (g k bound : ℕ) → length clauses + k ≤ bound → HaveReasons clauses entries
     → All (λ (e : Entry). IfSome e.reason (λ number. moved_number g k number < bound)) entries
 reasons_short clauses entries g k bound most reasons i d within =
     short_moved clauses (take i entries) (get_or entries i d).lit g k bound (get_or entries i d).reason most (reasons i (get_or entries i d) (slice_get-get_or entries i d within))
 
-pub length_front : {A : Type 0} (n : ℕ) (xs : List A) → n ≤ length xs → length (take n xs) ≡ n
-length_front zero [] within = refl
-length_front zero (x ∷ xs) within = refl
-length_front (suc n) [] within = absurd (omega (arith, within))
-length_front (suc n) (x ∷ xs) within = let rest = length_front n xs (omega (arith, within)) in omega (arith, rest)
+pub length_prefix : {A : Type 0} (n : ℕ) (xs : List A) → n ≤ length xs → length (take n xs) ≡ n
+length_prefix zero [] within = refl
+length_prefix zero (x ∷ xs) within = refl
+length_prefix (suc n) [] within = absurd (omega (arith, within))
+length_prefix (suc n) (x ∷ xs) within = let rest = length_prefix n xs (omega (arith, within)) in omega (arith, rest)
 
 -- the clauses that came are taken in
 pub derived_taken_in : (given : List (List Lit)) (known : ℕ) (old new : State) → known ≤ length given → IsDerived (take known given) old → new.learned.items ≡ old.learned.items
     → new.steps.items ≡ old.steps.items → new.trail.entries.items ≡ map (moved_entry known (length given - known)) old.trail.entries.items → IsDerived given new
 derived_taken_in given known old new within before learned steps entries =
-    let front = take known given in
+    let prefix = take known given in
     let more = drop known given in
     let whole = take-append-drop known given in
-    let few : length front ≡ known = length_front known given within in
+    let few : length prefix ≡ known = length_prefix known given within in
     let rest : length more ≡ length given - known = length-drop known given in
     record {
       derives = subst (λ dated. AreDerived given dated (all_clauses given new)) (sym steps)
           (subst (λ ls. AreDerived given old.steps.items (given ++ lists_of ls)) (sym learned)
           (subst (λ gs. AreDerived gs old.steps.items (gs ++ lists_of old.learned.items)) whole
-          (derived_further front more (lists_of old.learned.items) old.steps.items before.derives)));
+          (derived_further prefix more (lists_of old.learned.items) old.steps.items before.derives)));
       reasons = subst (λ es. HaveReasons (all_clauses given new) es) (sym entries)
           (subst (λ ls. HaveReasons (given ++ lists_of ls) (map (moved_entry known (length given - known)) old.trail.entries.items)) (sym learned)
           (subst (λ gs. HaveReasons (gs ++ lists_of old.learned.items) (map (moved_entry known (length given - known)) old.trail.entries.items)) whole
-          (subst (λ n. HaveReasons ((front ++ more) ++ lists_of old.learned.items) (map (moved_entry n (length given - known)) old.trail.entries.items)) few
-          (subst (λ n. HaveReasons ((front ++ more) ++ lists_of old.learned.items) (map (moved_entry (length front) n) old.trail.entries.items)) rest
-          (reasons_moved front more (lists_of old.learned.items) old.trail.entries.items before.reasons)))));
+          (subst (λ n. HaveReasons ((prefix ++ more) ++ lists_of old.learned.items) (map (moved_entry n (length given - known)) old.trail.entries.items)) few
+          (subst (λ n. HaveReasons ((prefix ++ more) ++ lists_of old.learned.items) (map (moved_entry (length prefix) n) old.trail.entries.items)) rest
+          (reasons_moved prefix more (lists_of old.learned.items) old.trail.entries.items before.reasons)))));
     }
 
 pub ready_taken_in : (old new : State) (g k : ℕ) → IsReady old → new.trail.entries.items ≡ map (moved_entry g k) old.trail.entries.items → new.trail.values ≡ old.trail.values

@@ -1,7 +1,7 @@
 -- Models from values.
 use Rattle.std.proofs.Common.{◌≡◌, ◌≤◌, ℕ, zero, suc, ◌-◌, Bool, true, false, not, if◌then◌else◌, Option, Some, None, unwrap_or, List, [], ◌∷◌, length, map, drop, get_or, All, refl, ◌∙◌, ap, subst, arith}
 use Rattle.bb_cnf.specs.declared.clauses.Lit.{Lit}
-use Rattle.bb_cnf.specs.Clauses.{IsWithin}
+use Rattle.bb_cnf.specs.Clauses.{HasVariablesWithin}
 use Rattle.bb_cnf.specs.Truth.{literal_bit, assignment_of, Satisfies}
 use Rattle.bb_cdcl.specs.Inside.Trails.{opposite, value_at, is_bit, is_false}
 use Rattle.bb_cdcl.specs.Inside.Events.{IsSatisfied}
@@ -29,7 +29,7 @@ literal_true values l some is =
     ap (λ b. if l.neg then not b else b) (bit_of_value values l.var some) ∙ true_value (value_at values l.var) l.neg is
 
 -- the bits of the values make true what the values make true
-pub model_satisfies : (values : List (Option Bool)) (clauses : List (List Lit)) → IsWithin (length values - 1) clauses → All (IsSatisfied values) clauses
+pub model_satisfies : (values : List (Option Bool)) (clauses : List (List Lit)) → HasVariablesWithin (length values - 1) clauses → All (IsSatisfied values) clauses
     → Satisfies (assignment_of (map (λ o. unwrap_or o false) (drop 1 values))) clauses
 model_satisfies values clauses within all k d l =
     let t = all k d l in

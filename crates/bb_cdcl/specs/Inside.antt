@@ -1,4 +1,4 @@
--- What the code says to itself: no clause of the top call rests on it.
+-- Invariants of the solver's code: no clause of the top call rests on them.
 pub mod Analysis
 pub mod Dates
 pub mod Events

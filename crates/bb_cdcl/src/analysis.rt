@@ -1,31 +1,31 @@
-//! The analysis of a conflict: its clause is resolved with reasons of the trail, from the end, until one literal
-//! is left behind some decision.
+//! Conflict analysis to the first unique implication point (Een and Soerensson 2003): resolve with reasons from the end
+//! of the trail. The point is found by looking down the trail for the next literal of the resolvent, not by counting
+//! literals of the level: where a decision lies between, the trail may go back to it. The counter only says when it is
+//! worth looking, so it needs no proof.
 
 ghost use Rattle.std.specs.Prelude.{ℕ, ◌≡◌, ◌+◌, ◌<◌, false, true, length, take, slice_get, Some, None, IfOk, OnOk, IfSome, IfNone};
 ghost use Rattle.bb_cnf.specs.declared.clauses.Lit.{Lit as Literal};
 ghost use Rattle.bb_cnf.specs.Clauses.{Literals};
 ghost use Rattle.bb_cnf.specs.Inside.PartialResolvent.{held, AreListed};
 ghost use Rattle.bb_cdcl.specs.Inside.Trails.{falsified, AreNew, HaveReasons};
-ghost use Rattle.bb_cdcl.specs.Inside.Analysis.{AreFalsified, IsCovered, IsJump, IsResolved};
+ghost use Rattle.bb_cdcl.specs.Inside.Analysis.{AreFalsified, IsCovered, IsBackjump, IsResolved};
 
 use crate::NoMemory;
-use crate::guide::Guide;
-use crate::jumping::jump_back;
-use crate::shortening::shorten;
+use crate::backjumping::backjump_target;
+use crate::heuristics::Heuristic;
+use crate::minimization::minimize;
 use crate::trail::{Entry, negation};
 use bb_cnf::{Lit, PartialResolvent, laws};
 use bb_watch::Clauses;
 use std::alloc::Global;
 
-/// The trail is taken back to the decision at the place `back`. Then the learned clause implies the negation of the
-/// literal at `place`.
+/// After backtracking to the decision at `back`, the learned clause implies the negation of the literal at `place`.
 #[derive(Clone, Copy, Debug)]
-pub(crate) struct Jump {
+pub(crate) struct Backjump {
     pub(crate) place: usize,
     pub(crate) back: usize,
 }
 
-/// The entry at a place.
 pub(crate) fn entry_at(entries: &[Entry], place: usize) -> Entry
     requires { place < length entries.now }
     ensures { slice_get entries.now place ≡ Some result }
@@ -33,7 +33,6 @@ pub(crate) fn entry_at(entries: &[Entry], place: usize) -> Entry
     entries[place]
 }
 
-/// Does the resolvent have the negation of the literal at this place?
 pub(crate) fn has_at(resolvent: &PartialResolvent, entries: &[Entry], place: usize) -> bool
     requires { place < length entries.now }
     ensures covered { result ≡ true → AreFalsified (take (place + 1) entries.now) (held resolvent.now) → IsCovered entries.now (held resolvent.now) place place }
@@ -44,7 +43,6 @@ pub(crate) fn has_at(resolvent: &PartialResolvent, entries: &[Entry], place: usi
     resolvent.has(negation(entry.lit))
 }
 
-// Resolves with the reason of the literal at a place.
 fn resolve_at(
     resolvent: &mut PartialResolvent,
     clauses: &Clauses<'_>,
@@ -53,7 +51,7 @@ fn resolve_at(
     lit: Lit,
     reason: usize,
     pairs: &mut Vec<(u64, u32)>,
-    guide: &mut Guide,
+    heuristic: &mut Heuristic,
 ) -> Result<(), NoMemory>
     requires at_place { slice_get entries.now place ≡ Some (record { lit = lit; reason = Some reason }) }
     requires new { AreNew entries.now }
@@ -67,14 +65,14 @@ fn resolve_at(
 {
     laws::chains();
     let clause = clauses.at(reason);
-    guide.resolves(resolvent, clause, reason, lit.var);
+    heuristic.resolves(resolvent, clause, reason, lit.var);
     resolvent.resolve(clause, lit.var)?;
     pairs.push((reason as u64, lit.var))?;
     Ok(())
 }
 
-// Where at most one literal of the conflict's level is left, resolves others away and looks for a decision to go back
-// to.
+// Where the counter says that one literal of the level is left, minimizes the clause and looks for a decision to
+// backjump to. A decision itself always stops: it has no reason.
 fn stop(
     alloc: Global,
     resolvent: &mut PartialResolvent,
@@ -82,7 +80,7 @@ fn stop(
     entries: &[Entry],
     place: usize,
     pairs: &mut Vec<(u64, u32)>,
-    guide: &mut Guide,
+    heuristic: &mut Heuristic,
 ) -> Result<Option<usize>, NoMemory>
     requires within { place < length entries.now }
     requires new { AreNew entries.now }
@@ -90,18 +88,18 @@ fn stop(
     requires covered { IsCovered entries.now (held resolvent.old) place place }
     requires listed { AreListed resolvent.old }
     ensures covered { OnOk result (IsCovered entries.now (held resolvent.new) place place) }
-    ensures jump { IfOk result (λ back. IfSome back (IsJump entries.now (held resolvent.new) place)) }
+    ensures backjump { IfOk result (λ back. IfSome back (IsBackjump entries.now (held resolvent.new) place)) }
     ensures resolved { OnOk result ((first : Literals) → IsResolved clauses.now first pairs.old.items resolvent.old → IsResolved clauses.now first pairs.new.items resolvent.new) }
     ensures listed { OnOk result (AreListed resolvent.new) }
 {
-    if entry_at(entries, place).reason.is_some() && !guide.is_asserting() {
+    if entry_at(entries, place).reason.is_some() && !heuristic.is_asserting() {
         return Ok(None);
     }
-    shorten(alloc, resolvent, clauses, entries, place, pairs, guide)?;
-    Ok(jump_back(resolvent, entries, place, guide))
+    minimize(alloc, resolvent, clauses, entries, place, pairs, heuristic)?;
+    Ok(backjump_target(resolvent, entries, place, heuristic))
 }
 
-// Looks at the literal at a place: resolves with its reason, or stops there, where the resolvent has its negation.
+// None where the resolvent has no literal of this place, or where it was resolved.
 fn step(
     alloc: Global,
     resolvent: &mut PartialResolvent,
@@ -109,7 +107,7 @@ fn step(
     entries: &[Entry],
     place: usize,
     pairs: &mut Vec<(u64, u32)>,
-    guide: &mut Guide,
+    heuristic: &mut Heuristic,
 ) -> Result<Option<usize>, NoMemory>
     requires within { place < length entries.now }
     requires new { AreNew entries.now }
@@ -117,14 +115,14 @@ fn step(
     requires falsified { AreFalsified (take (place + 1) entries.now) (held resolvent.old) }
     requires listed { AreListed resolvent.old }
     ensures falsified { IfOk result (λ back. IfNone back (AreFalsified (take place entries.now) (held resolvent.new))) }
-    ensures jump { IfOk result (λ back. IfSome back (IsJump entries.now (held resolvent.new) place)) }
+    ensures backjump { IfOk result (λ back. IfSome back (IsBackjump entries.now (held resolvent.new) place)) }
     ensures resolved { OnOk result ((first : Literals) → IsResolved clauses.now first pairs.old.items resolvent.old → IsResolved clauses.now first pairs.new.items resolvent.new) }
     ensures listed { OnOk result (AreListed resolvent.new) }
 {
     if !has_at(resolvent, entries, place) {
         return Ok(None);
     }
-    if let Some(back) = stop(alloc, resolvent, clauses, entries, place, pairs, guide)? {
+    if let Some(back) = stop(alloc, resolvent, clauses, entries, place, pairs, heuristic)? {
         return Ok(Some(back));
     }
     let entry = entry_at(entries, place);
@@ -132,36 +130,36 @@ fn step(
         None => Ok(Some(place)),
         Some(reason) => {
             resolve_at(
-                resolvent, clauses, entries, place, entry.lit, reason, pairs, guide,
+                resolvent, clauses, entries, place, entry.lit, reason, pairs, heuristic,
             )?;
             Ok(None)
         }
     }
 }
 
-/// Resolves along the trail. Where no literal is left, the answer is none.
+/// Walks down the trail, since each reason has only literals of earlier places. None where the empty clause is derived.
 pub(crate) fn analyze(
     alloc: Global,
     resolvent: &mut PartialResolvent,
     clauses: &Clauses<'_>,
     entries: &[Entry],
     pairs: &mut Vec<(u64, u32)>,
-    guide: &mut Guide,
-) -> Result<Option<Jump>, NoMemory>
+    heuristic: &mut Heuristic,
+) -> Result<Option<Backjump>, NoMemory>
     requires new { AreNew entries.now }
     requires reasons { HaveReasons clauses.now entries.now }
     requires falsified { AreFalsified entries.now (held resolvent.old) }
     requires listed { AreListed resolvent.old }
-    ensures empty { IfOk result (λ jump. IfNone jump ((l : Literal) → held resolvent.new l ≡ false)) }
-    ensures jump { IfOk result (λ jump. IfSome jump (λ j. IsJump entries.now (held resolvent.new) j.place j.back)) }
+    ensures empty { IfOk result (λ backjump. IfNone backjump ((l : Literal) → held resolvent.new l ≡ false)) }
+    ensures backjump { IfOk result (λ backjump. IfSome backjump (λ j. IsBackjump entries.now (held resolvent.new) j.place j.back)) }
     ensures resolved { OnOk result ((first : Literals) → IsResolved clauses.now first pairs.old.items resolvent.old → IsResolved clauses.now first pairs.new.items resolvent.new) }
     ensures listed { OnOk result (AreListed resolvent.new) }
 {
     let mut place = entries.len();
     while place > 0 {
         place -= 1;
-        if let Some(back) = step(alloc, resolvent, clauses, entries, place, pairs, guide)? {
-            return Ok(Some(Jump { place, back }));
+        if let Some(back) = step(alloc, resolvent, clauses, entries, place, pairs, heuristic)? {
+            return Ok(Some(Backjump { place, back }));
         }
     }
     Ok(None)

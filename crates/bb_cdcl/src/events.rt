@@ -1,15 +1,16 @@
-//! What happens next: a clause is false, a clause implies a literal, or neither.
+//! What a clause makes the search do next. Both functions examine clauses themselves, so their events hold whatever the
+//! propagator found.
 
 ghost use Rattle.std.specs.Prelude.{◌-◌, ◌<◌, length};
-ghost use Rattle.bb_cnf.specs.Clauses.{lists_of, IsWithin};
+ghost use Rattle.bb_cnf.specs.Clauses.{lists_of, HasVariablesWithin};
 ghost use Rattle.bb_cdcl.specs.Inside.Events.{Comes, IfQuiet};
 
-use crate::examination::{Standing, examine};
+use crate::examination::{ClauseStatus, examine};
 use bb_cnf::Lit;
 use bb_watch::{Clauses, clause_at};
 use smallvec::SmallVec;
 
-/// The clause of this number is false; it implies this literal; this literal may be decided; or nothing is left to do.
+/// `Free` is a decision. `Quiet` from one clause means that it gives nothing; from all of them, that all are true.
 #[derive(Clone, Copy, Debug)]
 pub(crate) enum Event {
     Conflict(usize),
@@ -18,14 +19,14 @@ pub(crate) enum Event {
     Quiet,
 }
 
-/// What comes from one clause, where it is false or implies a literal.
+/// A variable out of range gives nothing, so the trail needs no bound from the propagator.
 pub(crate) fn event_of(clauses: &Clauses<'_>, values: &[Option<bool>], number: usize) -> Event
     requires { number < length clauses.now }
     ensures { Comes clauses.now values.now result }
 {
     match examine(clauses.at(number), values) {
-        Standing::False => Event::Conflict(number),
-        Standing::Unit(lit) => {
+        ClauseStatus::False => Event::Conflict(number),
+        ClauseStatus::Unit(lit) => {
             if (lit.var as usize) < values.len() {
                 Event::Implied(lit, number)
             } else {
@@ -36,18 +37,18 @@ pub(crate) fn event_of(clauses: &Clauses<'_>, values: &[Option<bool>], number: u
     }
 }
 
-/// The first clause that is not true says what happens. Nothing is left to do where all are.
+/// The complete check: one walk over all clauses, the first that is not true gives the event.
 pub(crate) fn unsatisfied(clauses: &[SmallVec<Lit, 4>], values: &[Option<bool>]) -> Event
-    requires { IsWithin (length values.now - 1) (lists_of clauses.now) }
+    requires { HasVariablesWithin (length values.now - 1) (lists_of clauses.now) }
     ensures comes { Comes (lists_of clauses.now) values.now result }
     ensures quiet { IfQuiet (lists_of clauses.now) values.now result }
 {
     for number in 0..clauses.len() {
         match examine(clause_at(clauses, number), values) {
-            Standing::True(_) => {}
-            Standing::False => return Event::Conflict(number),
-            Standing::Unit(lit) => return Event::Implied(lit, number),
-            Standing::Open(lit) => return Event::Free(lit),
+            ClauseStatus::True(_) => {}
+            ClauseStatus::False => return Event::Conflict(number),
+            ClauseStatus::Unit(lit) => return Event::Implied(lit, number),
+            ClauseStatus::Open(lit) => return Event::Free(lit),
         }
     }
     Event::Quiet

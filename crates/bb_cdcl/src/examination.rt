@@ -1,22 +1,21 @@
-//! What a clause says under the values so far.
+//! The status of one clause under a partial assignment, by a look at every literal. Repeated literals count once, so `1
+//! 1` with 1 unassigned is a unit clause.
 
 ghost use Rattle.std.specs.Prelude.{◌≡◌, ℕ};
 ghost use Rattle.bb_cdcl.specs.Inside.Trails.{value_at, is_false, opposite};
-ghost use Rattle.bb_cdcl.specs.Inside.Events.{Stands};
+ghost use Rattle.bb_cdcl.specs.Inside.Events.{HasStatus};
 
 use bb_cnf::Lit;
 
-/// This one of its literals is true; all are false; this one has no value and the others are false; or this one and
-/// another have no value.
+/// `True` names a true literal, `Unit` the only unassigned one, `Open` one of two or more unassigned ones.
 #[derive(Clone, Copy, Debug)]
-pub(crate) enum Standing {
+pub(crate) enum ClauseStatus {
     True(Lit),
     False,
     Unit(Lit),
     Open(Lit),
 }
 
-/// The variable's bit, where it is assigned.
 pub(crate) fn value(values: &[Option<bool>], var: u32) -> Option<bool>
     ensures { result ≡ value_at values.now var }
 {
@@ -26,22 +25,21 @@ pub(crate) fn value(values: &[Option<bool>], var: u32) -> Option<bool>
     }
 }
 
-/// What the clause says.
-pub(crate) fn examine(clause: &[Lit], values: &[Option<bool>]) -> Standing
-    ensures { Stands values.now clause.now result }
+pub(crate) fn examine(clause: &[Lit], values: &[Option<bool>]) -> ClauseStatus
+    ensures { HasStatus values.now clause.now result }
 {
     let mut free: Option<Lit> = None;
     for lit in clause {
         match value(values, lit.var) {
             Some(bit) => {
                 if bit != lit.neg {
-                    return Standing::True(*lit);
+                    return ClauseStatus::True(*lit);
                 }
             }
             None => match free {
                 Some(other) => {
                     if other != *lit {
-                        return Standing::Open(*lit);
+                        return ClauseStatus::Open(*lit);
                     }
                 }
                 None => free = Some(*lit),
@@ -49,7 +47,7 @@ pub(crate) fn examine(clause: &[Lit], values: &[Option<bool>]) -> Standing
         }
     }
     match free {
-        Some(lit) => Standing::Unit(lit),
-        None => Standing::False,
+        Some(lit) => ClauseStatus::Unit(lit),
+        None => ClauseStatus::False,
     }
 }

@@ -1,4 +1,5 @@
-//! The steps that a search hands out, numbered among the given clauses of today.
+//! Steps leave the solver here, renumbered once. Each was kept with the numbers of its time, since renumbering all
+//! steps each time that given clauses come would cost their whole length again and again.
 
 ghost use Rattle.std.specs.Prelude.{◌≤◌, length, IfOk};
 ghost use Rattle.bb_cnf.specs.Clauses.{lists_of};
@@ -13,7 +14,6 @@ use bb_cnf::{Lit, Refutation, Step};
 use smallvec::SmallVec;
 use std::alloc::Global;
 
-/// The refutation that the steps are.
 pub(crate) fn refutation(
     alloc: Global,
     given: &[SmallVec<Lit, 4>],
@@ -26,7 +26,6 @@ pub(crate) fn refutation(
     Ok(Refutation { steps })
 }
 
-/// The steps of a search that is given up.
 pub(crate) fn spent(
     alloc: Global,
     given: &[SmallVec<Lit, 4>],

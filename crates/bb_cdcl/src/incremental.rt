@@ -1,4 +1,6 @@
-//! A solver that goes on: clauses may come between two searches, and what one has learned serves the next.
+//! An incremental solver: an iteration of the expansion costs what is new in it. Learned clauses, scores, phases,
+//! watches and the trail survive from one search to the next; learned clauses follow from the clauses then given, so
+//! they stay sound when more come. No assumptions and no removal of clauses: the expansion needs neither.
 
 ghost use Rattle.std.specs.Prelude.{◌≡◌, ◌≤◌, ◌↔◌, ◌++◌, ◌∷◌, [], All, IfOk, OnOk, OnErr};
 ghost use Rattle.bb_cnf.specs.Clauses.{Formula};
@@ -17,9 +19,8 @@ use smallvec::SmallVec;
 use std::alloc::Global;
 use std::marker::Model;
 
-/// Clauses to which more may come, and what searches learned from them.
-// Scores, last bits, watches, learned clauses and the trail are kept from one search to the next; the trail is taken back no further than
-// new clauses ask. Learned clauses have numbers of their own until a refutation is handed out.
+/// Clauses to which more may be added, with what searches learned from them.
+// `known` is how many of the clauses the last search has taken in.
 #[derive(Drop)]
 pub struct Solver {
     alloc: Global,
@@ -41,7 +42,8 @@ impl Model for Solver {
     ghost invariant = { λ s. IsResting s.known s.cnf s.state };
 }
 
-/// A model, the bit of the variable 1 first, and the solver, which may go on; or a refutation, and the clauses that it refutes.
+/// A model, bit of variable 1 first, and the solver to go on with; or a refutation and the clauses that it refutes,
+/// which end the solver since more clauses change nothing.
 #[derive(Drop)]
 pub enum Solved {
     Sat(Vec<bool>, Solver),
@@ -49,11 +51,10 @@ pub enum Solved {
 }
 
 impl Solver {
-    /// Nothing was learned from these clauses yet.
+    /// Takes no memory for the clauses until the first search.
     pub fn new(alloc: Global, cnf: Cnf) -> Result<Solver, NoMemory>
         ensures { IfOk result (λ solver. solver ≡ cnf) }
     {
-        // The first search takes the room for variables and clauses.
         let state = start(alloc, 0)?;
         let helpers = Helpers::new(alloc, 0, 0)?;
         Ok(Solver {
@@ -65,14 +66,14 @@ impl Solver {
         })
     }
 
-    /// The clauses so far.
+    /// All clauses, also those that no search has taken in yet.
     pub fn cnf(&self) -> &Cnf
         ensures { result.now ≡ self.now }
     {
         &self.cnf
     }
 
-    /// Adds a clause behind the others.
+    /// The clause is taken in by the next `solve`, not here, so pushing many costs no backtracking between them.
     pub fn push(&mut self, clause: SmallVec<Lit, 4>) -> Result<(), NoMemory>
         requires { All (λ l. (1 ≤ l.var) × (l.var ≤ self.old.vars)) clause.items }
         ensures ok { OnOk result (self.new ≡ record { vars = self.old.vars; clauses = self.old.clauses ++ clause.items ∷ [] }) }
@@ -82,7 +83,7 @@ impl Solver {
         Ok(())
     }
 
-    /// Raises the number of variables.
+    /// Never lowers the number, and takes no memory until the next `solve`.
     pub fn raise_vars(&mut self, vars: u32)
         requires { self.old.vars ≤ vars }
         ensures { self.new ≡ record { vars = vars; clauses = self.old.clauses } }
@@ -90,7 +91,7 @@ impl Solver {
         self.cnf.raise_vars(vars);
     }
 
-    /// Decides whether the clauses have a model.
+    /// Continues from what earlier searches learned.
     pub fn solve(self) -> Result<Solved, NoMemory>
         ensures sat { IfOk result (λ solved. IfSolved solved self) }
         ensures unsat { IfOk result (λ solved. IfRefuted solved self) }

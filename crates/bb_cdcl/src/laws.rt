@@ -1,8 +1,9 @@
-//! What a reader expects of the definitions. The function has a law as its contract and does nothing.
+//! Laws of the definitions, as contracts of empty functions: who needs a law calls its function and cites no proof of
+//! this crate.
 
 ghost use Rattle.bb_cdcl.specs.Laws.Numbers.{StepsMove};
 
-/// Steps derive the same clauses where more given ones come, with their numbers moved.
+/// Why steps may keep their numbers: moved, they derive the same clauses when more given ones come.
 #[tactic(auto, using(crate::proofs::Moved::steps_move))]
 pub fn steps_move()
     ensures { StepsMove }

@@ -1,32 +1,31 @@
-//! A SAT solver that learns clauses from conflicts. It answers with a model, or with a refutation in chains of
-//! resolutions that the checker of `bb_cnf` accepts.
+//! A conflict-driven clause-learning (CDCL) solver. It answers with a model, or with a refutation in chains of
+//! resolutions that the checker of `bb_cnf` accepts. Only the trail, the learned clauses and their chains are proved
+//! right; watches, scores, levels and unit clauses are hints that the proved code tests before it uses them, so a wrong
+//! hint costs time and never an answer.
 #![tactic(auto)]
 
 mod analysis;
+mod backjumping;
 mod events;
 mod examination;
-mod guide;
 mod handing_out;
 mod helpers;
+mod heuristics;
 mod incremental;
-mod jumping;
+mod iteration;
 pub mod laws;
 mod learning;
-mod levels;
-mod low_literals;
+mod minimization;
 mod numbers;
 mod outcome;
 mod resumption;
-mod retention;
-mod scores;
+mod root_literals;
 mod search;
-mod shortening;
 mod solver;
 mod spare;
 mod start;
 mod state;
 mod trail;
-mod turn;
 mod units;
 mod watches;
 

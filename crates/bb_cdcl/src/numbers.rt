@@ -1,23 +1,23 @@
-//! Numbers of clauses while given clauses still come. A learned clause stands behind all given ones, so its number grows by as many as
-//! come; steps keep the numbers that they were made with, and are numbered once, where they are handed out.
+//! Clause numbers while given clauses still come. Learned clauses are numbered after all given ones, so their numbers
+//! grow with each given clause; steps keep the numbers of their time and the count of given clauses then, and are
+//! renumbered once, when they are handed out.
 
 ghost use Rattle.std.specs.Prelude.{ℕ, ◌≡◌, ◌<◌, ◌≤◌, ◌^◌, All, IfOk, map};
 ghost use Rattle.bb_cnf.specs.Lines.{step_numbers};
 ghost use Rattle.bb_cdcl.specs.Laws.Numbers.{moved_number, moved_pair};
-ghost use Rattle.bb_cdcl.specs.Inside.Dates.{AreBelow, numbers_behind};
+ghost use Rattle.bb_cdcl.specs.Inside.Dates.{AreBelow, numbers_after};
 
 use crate::NoMemory;
 use bb_cnf::Step;
 use std::alloc::Global;
 
-/// A step, and how many given clauses there were when it was made.
+/// `given` is the number of given clauses when the step was made.
 #[derive(Drop)]
 pub(crate) struct DatedStep {
     pub(crate) given: usize,
     pub(crate) step: Step,
 }
 
-/// A clause's number where so many more given clauses come behind the first ones.
 pub(crate) fn moved(number: u64, given: usize, more: usize) -> u64
     requires { moved_number given more number < 2 ^ 64 }
     ensures { result ≡ moved_number given more number }
@@ -29,7 +29,6 @@ pub(crate) fn moved(number: u64, given: usize, more: usize) -> u64
     }
 }
 
-// The pairs of a step with moved numbers.
 fn moved_pairs(
     alloc: Global,
     pairs: &[(u64, u32)],
@@ -47,11 +46,11 @@ fn moved_pairs(
     Ok(all)
 }
 
-// The step behind so many given clauses.
+// A step that is up to date is moved out and not copied.
 fn step_of(alloc: Global, dated: DatedStep, given: usize) -> Result<Step, NoMemory>
     requires early { dated.given ≤ given }
-    requires short { AreBelow (2 ^ 64) (numbers_behind given dated) }
-    ensures { IfOk result (λ step. step_numbers step ≡ numbers_behind given dated) }
+    requires short { AreBelow (2 ^ 64) (numbers_after given dated) }
+    ensures { IfOk result (λ step. step_numbers step ≡ numbers_after given dated) }
 {
     let more = given - dated.given;
     if more == 0 {
@@ -62,15 +61,14 @@ fn step_of(alloc: Global, dated: DatedStep, given: usize) -> Result<Step, NoMemo
     Ok(Step { first, rest })
 }
 
-/// The steps behind so many given clauses.
 pub(crate) fn steps_of(
     alloc: Global,
     dated: Vec<DatedStep>,
     given: usize,
 ) -> Result<Vec<Step>, NoMemory>
     requires early { All (λ d. d.given ≤ given) dated.items }
-    requires short { All (λ d. AreBelow (2 ^ 64) (numbers_behind given d)) dated.items }
-    ensures { IfOk result (λ steps. map step_numbers steps.items ≡ map (numbers_behind given) dated.items) }
+    requires short { All (λ d. AreBelow (2 ^ 64) (numbers_after given d)) dated.items }
+    ensures { IfOk result (λ steps. map step_numbers steps.items ≡ map (numbers_after given) dated.items) }
 {
     let mut steps = Vec::with_capacity(alloc, dated.len())?;
     for one in dated {

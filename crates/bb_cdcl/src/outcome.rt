@@ -1,16 +1,16 @@
-//! What the solver answers.
+//! Answers of the calls. A bounded search returns the steps that it made: its contract states how many clauses they
+//! derive, so that a solver that gives up at once would be refused.
 
 use bb_cnf::{Refutation, Step};
 
-/// A bit for each variable, the bit of the variable 1 first, with which all clauses are true; or a refutation
-/// of the clauses.
+/// The model has the bit of variable 1 first.
 #[derive(Debug, Drop)]
 pub enum Outcome {
     Sat(Vec<bool>),
     Unsat(Refutation),
 }
 
-/// What a bounded search answers: an outcome; or it was given up, with steps that derive clauses.
+/// `Spent` has the steps of every learned clause, in order.
 #[derive(Debug, Drop)]
 pub enum Attempt {
     Decided(Outcome),

@@ -1,4 +1,6 @@
-//! The state before a search: where clauses came since the last one, the trail is taken back as far as they ask.
+//! Preparing a search after clauses came. The trail goes back only to the level on which each new clause has two
+//! literals that are not false, or implies one as early as it can. So no clause is implied late and the invariant of
+//! the watches holds; a new unit clause goes back to level 0, where most variables of an expansion have their values.
 
 ghost use Rattle.std.specs.Prelude.{◌≡◌, ◌+◌, ◌≤◌, length, take, OnOk};
 ghost use Rattle.bb_cnf.specs.Clauses.{lists_of};
@@ -6,13 +8,13 @@ ghost use Rattle.bb_cdcl.specs.Inside.States.{IsDerived, IsReady};
 
 use crate::NoMemory;
 use crate::helpers::Helpers;
+use crate::iteration::take_back;
 use crate::state::State;
 use crate::trail::{move_reasons, widen};
-use crate::turn::take_back;
 use bb_cnf::Lit;
 use smallvec::SmallVec;
 
-// Numbers the reasons of the trail among the given clauses of today.
+// Learned clauses have numbers after the given ones, so reasons that are learned clauses move.
 fn move_trail(given: &[SmallVec<Lit, 4>], known: usize, s: &mut State)
     requires derived { IsDerived (take known (lists_of given.now)) s.old }
     requires ready { IsReady s.old }
@@ -24,7 +26,6 @@ fn move_trail(given: &[SmallVec<Lit, 4>], known: usize, s: &mut State)
     move_reasons(&mut s.trail, known, given.len() - known);
 }
 
-// There are variables up to this one.
 fn widen_trail(s: &mut State, vars: u32) -> Result<(), NoMemory>
     requires ready { IsReady s.old }
     requires few { length s.old.trail.values.items ≤ vars + 1 }
@@ -37,7 +38,7 @@ fn widen_trail(s: &mut State, vars: u32) -> Result<(), NoMemory>
     widen(&mut s.trail, vars)
 }
 
-/// Takes in the given clauses with numbers from `known` on, and variables up to `vars`.
+/// Given clauses from `known` on are new. Reasons are moved last, since the trail still counts by `known` until then.
 pub(crate) fn resume(
     given: &[SmallVec<Lit, 4>],
     known: usize,
@@ -55,7 +56,10 @@ pub(crate) fn resume(
 {
     widen_trail(s, vars)?;
     helpers.widen(vars)?;
-    let level = helpers.guide.levels.asked(&given[known..], &s.trail.values);
+    let level = helpers
+        .heuristic
+        .levels
+        .requested(&given[known..], &s.trail.values);
     take_back(s, helpers, level);
     helpers.take_in(given, known, &s.trail.entries, &s.trail.values)?;
     move_trail(given, known, s);

@@ -1,45 +1,46 @@
-//! The search: turns, with at most 64 restarts.
+//! The search loop with geometric restarts: 64 of them, each a tenth longer than the one before, which keep what was
+//! implied without a decision. Their number is fixed since a restart undoes the measure by which the loop ends: an
+//! entry of the trail is a digit to the base 3 (2 implied, 1 decided, 0 none), and each iteration raises that number.
+//! Digits spare a bound on the number of levels. After the last restart only this measure ends the search.
 
 ghost use Rattle.std.specs.Prelude.{ℕ, ◌≡◌, ◌≤◌, ◌-◌, true, false, length, IfOk, IfSome, IfNone, List};
-ghost use Rattle.bb_cnf.specs.Clauses.{lists_of, IsWithin};
+ghost use Rattle.bb_cnf.specs.Clauses.{lists_of, HasVariablesWithin};
 ghost use Rattle.bb_cdcl.specs.Inside.States.{IsDerived, IsReady, Ends, Pauses};
 
 use crate::NoMemory;
 use crate::helpers::Helpers;
-use crate::state::{State, Turn};
-use crate::turn::{take_back, turn};
+use crate::iteration::{iteration, take_back};
+use crate::state::{Iteration, State};
 use bb_cnf::Lit;
 use smallvec::SmallVec;
 use std::alloc::Global;
 
-// How often the search begins again, and how many clauses it learns before it does so for the first time. It learns
-// a tenth more each time.
+// Learned clauses before the first restart are `FIRST`; each later run learns a tenth more.
 const RESTARTS: usize = 64;
 
 const FIRST: usize = 100;
 
-// Goes on to the end, and says whether all clauses are true.
+// Ends by the digits alone: each iteration raises their number, and there is a largest one.
 fn run(
     alloc: Global,
     given: &[SmallVec<Lit, 4>],
     s: &mut State,
     helpers: &mut Helpers,
 ) -> Result<bool, NoMemory>
-    requires within { IsWithin (length s.old.trail.values.items - 1) (lists_of given.now) }
+    requires within { HasVariablesWithin (length s.old.trail.values.items - 1) (lists_of given.now) }
     requires derived { IsDerived (lists_of given.now) s.old }
     requires ready { IsReady s.old }
     ensures { IfOk result (Ends (lists_of given.now) s.old s.new) }
 {
     loop {
-        match turn(alloc, given, s, helpers)? {
-            Turn::Going => {}
-            Turn::Satisfied => return Ok(true),
-            Turn::Refuted => return Ok(false),
+        match iteration(alloc, given, s, helpers)? {
+            Iteration::Going => {}
+            Iteration::Satisfied => return Ok(true),
+            Iteration::Refuted => return Ok(false),
         }
     }
 }
 
-// Goes on until so many clauses were learned, or to the end.
 fn run_to(
     alloc: Global,
     given: &[SmallVec<Lit, 4>],
@@ -47,7 +48,7 @@ fn run_to(
     helpers: &mut Helpers,
     learned: usize,
 ) -> Result<Option<bool>, NoMemory>
-    requires within { IsWithin (length s.old.trail.values.items - 1) (lists_of given.now) }
+    requires within { HasVariablesWithin (length s.old.trail.values.items - 1) (lists_of given.now) }
     requires derived { IsDerived (lists_of given.now) s.old }
     requires ready { IsReady s.old }
     ensures ends { IfOk result (λ end. IfSome end (Ends (lists_of given.now) s.old s.new)) }
@@ -55,16 +56,16 @@ fn run_to(
     ensures enough { IfOk result (λ end. IfNone end (learned ≤ length s.new.learned.items)) }
 {
     while s.learned.len() < learned {
-        match turn(alloc, given, s, helpers)? {
-            Turn::Going => {}
-            Turn::Satisfied => return Ok(Some(true)),
-            Turn::Refuted => return Ok(Some(false)),
+        match iteration(alloc, given, s, helpers)? {
+            Iteration::Going => {}
+            Iteration::Satisfied => return Ok(Some(true)),
+            Iteration::Refuted => return Ok(Some(false)),
         }
     }
     Ok(None)
 }
 
-// Begins again a few times with what was learned, until at most so many clauses were.
+// Restarts count down, and `most` bounds the learned clauses over all of them.
 fn run_again(
     alloc: Global,
     given: &[SmallVec<Lit, 4>],
@@ -72,7 +73,7 @@ fn run_again(
     helpers: &mut Helpers,
     most: usize,
 ) -> Result<Option<bool>, NoMemory>
-    requires within { IsWithin (length s.old.trail.values.items - 1) (lists_of given.now) }
+    requires within { HasVariablesWithin (length s.old.trail.values.items - 1) (lists_of given.now) }
     requires derived { IsDerived (lists_of given.now) s.old }
     requires ready { IsReady s.old }
     ensures ends { IfOk result (λ end. IfSome end (Ends (lists_of given.now) s.old s.new)) }
@@ -90,14 +91,13 @@ fn run_again(
     Ok(None)
 }
 
-/// Searches to the end.
 pub(crate) fn search(
     alloc: Global,
     given: &[SmallVec<Lit, 4>],
     s: &mut State,
     helpers: &mut Helpers,
 ) -> Result<bool, NoMemory>
-    requires within { IsWithin (length s.old.trail.values.items - 1) (lists_of given.now) }
+    requires within { HasVariablesWithin (length s.old.trail.values.items - 1) (lists_of given.now) }
     requires derived { IsDerived (lists_of given.now) s.old }
     requires ready { IsReady s.old }
     ensures { IfOk result (Ends (lists_of given.now) s.old s.new) }
@@ -108,7 +108,6 @@ pub(crate) fn search(
     }
 }
 
-/// Searches until so many clauses were learned, or to the end.
 pub(crate) fn search_within(
     alloc: Global,
     given: &[SmallVec<Lit, 4>],
@@ -116,7 +115,7 @@ pub(crate) fn search_within(
     helpers: &mut Helpers,
     learned: usize,
 ) -> Result<Option<bool>, NoMemory>
-    requires within { IsWithin (length s.old.trail.values.items - 1) (lists_of given.now) }
+    requires within { HasVariablesWithin (length s.old.trail.values.items - 1) (lists_of given.now) }
     requires derived { IsDerived (lists_of given.now) s.old }
     requires ready { IsReady s.old }
     ensures ends { IfOk result (λ end. IfSome end (Ends (lists_of given.now) s.old s.new)) }

@@ -1,7 +1,9 @@
-//! The calls on clauses that stay as they are.
+//! The calls on a fixed set of clauses. The clauses are read where the caller holds them and the solver owns only what
+//! it learns, so the propagator has the only copies. The bounded call exists because an open search would grow without
+//! limit in memory: each learned clause keeps its chain of resolutions.
 
 ghost use Rattle.std.specs.Prelude.{ℕ, ◌≡◌, ◌+◌, ◌≤◌, ◌<◌, ◌↔◌, true, false, length, IfOk};
-ghost use Rattle.bb_cnf.specs.Clauses.{lists_of, IsWithin};
+ghost use Rattle.bb_cnf.specs.Clauses.{lists_of, HasVariablesWithin};
 ghost use Rattle.bb_cdcl.specs.Inside.Outcomes.{IfSat, IfUnsat, IsSat, HasModel, formula, IfDecided, IfSpent, Derive};
 ghost use Rattle.bb_cdcl.specs.declared.state.State.{State as SolverState};
 ghost use Rattle.bb_cdcl.specs.Inside.States.{Ends, Refutes};
@@ -17,7 +19,6 @@ use bb_cnf::{Cnf, Lit, laws};
 use smallvec::SmallVec;
 use std::alloc::Global;
 
-// What the end of a search says of the clauses.
 fn outcome(
     alloc: Global,
     given: &[SmallVec<Lit, 4>],
@@ -27,7 +28,7 @@ fn outcome(
     requires some { satisfied ≡ true → 0 < length s.trail.values.items }
     requires refutes { satisfied ≡ false → Refutes (lists_of given.now) s }
     ensures sat { IfOk result (λ outcome. (vars : ℕ) (old : SolverState) → length old.trail.values.items ≡ vars + 1
-        → IsWithin vars (lists_of given.now) → Ends (lists_of given.now) old s satisfied → IfSat outcome (formula vars (lists_of given.now))) }
+        → HasVariablesWithin vars (lists_of given.now) → Ends (lists_of given.now) old s satisfied → IfSat outcome (formula vars (lists_of given.now))) }
     ensures unsat { IfOk result (λ outcome. (vars : ℕ) → IfUnsat outcome (formula vars (lists_of given.now))) }
 {
     if satisfied {
@@ -39,9 +40,8 @@ fn outcome(
     }
 }
 
-// Searches from the first state to the end.
 fn decide(alloc: Global, vars: u32, given: &[SmallVec<Lit, 4>]) -> Result<Outcome, NoMemory>
-    requires { IsWithin vars (lists_of given.now) }
+    requires { HasVariablesWithin vars (lists_of given.now) }
     ensures sat { IfOk result (λ outcome. IfSat outcome (formula vars (lists_of given.now))) }
     ensures unsat { IfOk result (λ outcome. IfUnsat outcome (formula vars (lists_of given.now))) }
 {
@@ -53,14 +53,13 @@ fn decide(alloc: Global, vars: u32, given: &[SmallVec<Lit, 4>]) -> Result<Outcom
     Ok(outcome)
 }
 
-// The same, until so many clauses were learned.
 fn decide_within(
     alloc: Global,
     vars: u32,
     given: &[SmallVec<Lit, 4>],
     learned: usize,
 ) -> Result<Attempt, NoMemory>
-    requires { IsWithin vars (lists_of given.now) }
+    requires { HasVariablesWithin vars (lists_of given.now) }
     ensures sat { IfOk result (λ attempt. IfDecided attempt (λ outcome. IfSat outcome (formula vars (lists_of given.now)))) }
     ensures unsat { IfOk result (λ attempt. IfDecided attempt (λ outcome. IfUnsat outcome (formula vars (lists_of given.now)))) }
     ensures spent { IfOk result (λ attempt. IfSpent attempt (λ steps. (learned ≤ length steps) × Derive (lists_of given.now) steps)) }
@@ -80,8 +79,7 @@ fn decide_within(
     }
 }
 
-/// Decides whether the clauses have a model. `Sat` gives one, and `Unsat` gives a refutation that the checker of
-/// `bb_cnf` accepts.
+/// Decides whether the clauses have a model. The model has the bit of variable 1 first.
 pub fn solve(alloc: Global, cnf: &Cnf) -> Result<Outcome, NoMemory>
     ensures sat { IfOk result (λ outcome. IfSat outcome cnf.now) }
     ensures unsat { IfOk result (λ outcome. IfUnsat outcome cnf.now) }
@@ -92,8 +90,9 @@ pub fn solve(alloc: Global, cnf: &Cnf) -> Result<Outcome, NoMemory>
     Ok(outcome)
 }
 
-/// The same, or gives up with at least so many steps that derive clauses.
-// A conflict counts for each clause that is learned from it: one at least, and one more for each unit clause that is derived for it.
+/// As `solve`, but gives up once at least `conflicts` clauses are learned, and then returns the steps that derive them.
+// A conflict adds its learned clause and each unit clause that this one needed, so the count is no exact count of
+// conflicts.
 pub fn solve_within(alloc: Global, cnf: &Cnf, conflicts: u32) -> Result<Attempt, NoMemory>
     ensures sat { IfOk result (λ attempt. IfDecided attempt (λ outcome. IfSat outcome cnf.now)) }
     ensures unsat { IfOk result (λ attempt. IfDecided attempt (λ outcome. IfUnsat outcome cnf.now)) }

@@ -1,4 +1,5 @@
-//! An empty resolvent that is kept from one use to the next, since its marks take memory.
+//! A resolvent kept between uses, since its pages of marks take memory. Derived unit clauses need one while that of the
+//! conflict is full.
 
 ghost use Rattle.std.specs.Prelude.{◌≡◌, false};
 ghost use Rattle.bb_cnf.specs.declared.clauses.Lit.{Lit as Literal};
@@ -8,7 +9,6 @@ use bb_cnf::PartialResolvent;
 use std::alloc::Global;
 use std::mem;
 
-/// An empty resolvent.
 #[derive(Drop)]
 pub(crate) struct Spare {
     resolvent: PartialResolvent,
@@ -17,14 +17,13 @@ pub(crate) struct Spare {
 }
 
 impl Spare {
-    /// A new one.
     pub(crate) fn new(alloc: Global) -> Spare {
         Spare {
             resolvent: PartialResolvent::new(alloc),
         }
     }
 
-    /// Hands it out, until it is put back.
+    /// Leaves a fresh one, so an error on the way loses only room.
     pub(crate) fn lend(&mut self, alloc: Global) -> PartialResolvent
         ensures empty { (l : Literal) → held result l ≡ false }
         ensures listed { AreListed result }
@@ -32,7 +31,6 @@ impl Spare {
         mem::replace(self, Spare::new(alloc)).resolvent
     }
 
-    /// Takes it back.
     pub(crate) fn put_back(&mut self, resolvent: PartialResolvent)
         requires empty { (l : Literal) → held resolvent l ≡ false }
         requires listed { AreListed resolvent }

@@ -1,7 +1,8 @@
-//! The state before the first turn, and the model after the last.
+//! The first state, and the model of the last. The model needs no search of its own: the loop ends when every clause is
+//! true under the values so far, so unassigned variables may have any bit.
 
 ghost use Rattle.std.specs.Prelude.{ℕ, ◌≡◌, ◌+◌, ◌-◌, ◌<◌, ◌≤◌, Bool, true, false, not, Some, None, length, map, replicate, get_or, All, IfOk, List};
-ghost use Rattle.bb_cnf.specs.Clauses.{IsWithin};
+ghost use Rattle.bb_cnf.specs.Clauses.{HasVariablesWithin};
 ghost use Rattle.bb_cnf.specs.declared.clauses.Lit.{Lit as Literal};
 ghost use Rattle.bb_cnf.specs.Truth.{assignment_of, Satisfies};
 ghost use Rattle.bb_cdcl.specs.Inside.Events.{IsSatisfied};
@@ -13,7 +14,7 @@ use crate::trail::Trail;
 use bb_cnf::PartialResolvent;
 use std::alloc::Global;
 
-/// No variable has a value, and nothing was learned.
+/// Values have a place 0 that no variable uses.
 pub(crate) fn start(alloc: Global, vars: u32) -> Result<State, NoMemory>
     ensures derived { IfOk result (λ s. (given : List (List Literal)) → IsDerived given s) }
     ensures ready { IfOk result IsReady }
@@ -31,11 +32,11 @@ pub(crate) fn start(alloc: Global, vars: u32) -> Result<State, NoMemory>
     })
 }
 
-/// The bits of the variables from 1 on; 0 where a variable has no value.
+/// Variables that no clause mentions may be unassigned; they become 0.
 pub(crate) fn model(alloc: Global, values: &[Option<bool>]) -> Result<Vec<bool>, NoMemory>
     requires { 0 < length values.now }
     ensures length { IfOk result (λ bits. length bits.items + 1 ≡ length values.now) }
-    ensures satisfies { IfOk result (λ bits. (clauses : List (List Literal)) → IsWithin (length values.now - 1) clauses → All (IsSatisfied values.now) clauses → Satisfies (assignment_of bits.items) clauses) }
+    ensures satisfies { IfOk result (λ bits. (clauses : List (List Literal)) → HasVariablesWithin (length values.now - 1) clauses → All (IsSatisfied values.now) clauses → Satisfies (assignment_of bits.items) clauses) }
 {
     let values = &values[1..];
     let mut bits = Vec::with_capacity(alloc, values.len())?;

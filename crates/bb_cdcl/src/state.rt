@@ -1,4 +1,6 @@
-//! The solver's state: what it derived, and its trail.
+//! The part of the solver that the proof speaks of: learned clauses, their steps, and the trail. The solver resolves
+//! with the partial resolvent that the checker of `bb_cnf` uses, so a learned clause is by construction what the
+//! checker makes of its chain, and no lemma relates two ways to resolve.
 
 ghost use Rattle.std.specs.Prelude.{◌≡◌, ◌-◌, ◌<◌, ◌++◌, ◌∷◌, [], false, Some, None, length, take, slice_get, IfOk, OnOk};
 ghost use Rattle.bb_cnf.specs.declared.clauses.Lit.{Lit as Literal};
@@ -6,20 +8,20 @@ ghost use Rattle.bb_cnf.specs.Clauses.{Literals, literals_of};
 ghost use Rattle.bb_cnf.specs.Inside.PartialResolvent.{held, AreListed};
 ghost use Rattle.bb_cdcl.specs.declared.trail.Entry.{Entry as TrailEntry};
 ghost use Rattle.bb_cdcl.specs.Inside.Trails.{value_at, opposite};
-ghost use Rattle.bb_cdcl.specs.Inside.Analysis.{IsJump};
+ghost use Rattle.bb_cdcl.specs.Inside.Analysis.{IsBackjump};
 ghost use Rattle.bb_cdcl.specs.Inside.States.{IsReady, Advances};
 
 use crate::NoMemory;
-use crate::analysis::{Jump, entry_at};
-use crate::guide::Guide;
+use crate::analysis::{Backjump, entry_at};
+use crate::heuristics::Heuristic;
 use crate::numbers::DatedStep;
 use crate::trail::{Trail, assign, negation, pop_to};
 use bb_cnf::{Lit, PartialResolvent, Step};
 use smallvec::SmallVec;
 use std::alloc::Global;
 
-/// The clauses that were learned, the steps that derive them, the trail, and a resolvent that is empty between two
-/// analyses.
+/// `steps[i]` derives `learned[i]`. The resolvent is empty between two analyses; it is kept since its marks take
+/// memory.
 #[derive(Drop)]
 pub(crate) struct State {
     pub(crate) learned: Vec<SmallVec<Lit, 4>>,
@@ -28,15 +30,14 @@ pub(crate) struct State {
     pub(crate) resolvent: PartialResolvent,
 }
 
-/// After a turn: the search goes on, all clauses are true, or the last clause that was learned is empty.
+/// After an iteration: the search goes on, all clauses are true, or the last learned clause is empty.
 #[derive(Clone, Copy, Debug)]
-pub(crate) enum Turn {
+pub(crate) enum Iteration {
     Going,
     Satisfied,
     Refuted,
 }
 
-/// Makes a literal true that has no value: a decision, or by its reason.
 pub(crate) fn extend(s: &mut State, lit: Lit, reason: Option<usize>) -> Result<(), NoMemory>
     requires ready { IsReady s.old }
     requires in_range { lit.var < length s.old.trail.values.items }
@@ -52,7 +53,6 @@ pub(crate) fn extend(s: &mut State, lit: Lit, reason: Option<usize>) -> Result<(
     Ok(())
 }
 
-/// The clause that the resolvent has come to.
 pub(crate) fn drained(
     alloc: Global,
     resolvent: &mut PartialResolvent,
@@ -66,7 +66,7 @@ pub(crate) fn drained(
     Ok(clause)
 }
 
-/// Adds a clause, and the step that makes it behind so many given clauses.
+/// `given` dates the step: its numbers count learned clauses from there.
 pub(crate) fn add(
     s: &mut State,
     given: usize,
@@ -83,25 +83,24 @@ pub(crate) fn add(
     Ok(())
 }
 
-/// Takes the trail back, and makes true what the clause of this number implies then.
 pub(crate) fn go_back(
     s: &mut State,
-    jump: Jump,
+    backjump: Backjump,
     reason: usize,
-    guide: &mut Guide,
+    heuristic: &mut Heuristic,
 ) -> Result<(), NoMemory>
     requires ready { IsReady s.old }
-    requires jump { (c : Literals) × IsJump s.old.trail.entries.items c jump.place jump.back }
+    requires backjump { (c : Literals) × IsBackjump s.old.trail.entries.items c backjump.place backjump.back }
     ensures advances { OnOk result (Advances s.old s.new) }
-    ensures entries { OnOk result ((e : TrailEntry) → slice_get s.old.trail.entries.items jump.place ≡ Some e
-        → s.new.trail.entries.items ≡ take jump.back s.old.trail.entries.items ++ record { lit = opposite e.lit; reason = Some reason } ∷ []) }
+    ensures entries { OnOk result ((e : TrailEntry) → slice_get s.old.trail.entries.items backjump.place ≡ Some e
+        → s.new.trail.entries.items ≡ take backjump.back s.old.trail.entries.items ++ record { lit = opposite e.lit; reason = Some reason } ∷ []) }
     ensures learned { s.new.learned.items ≡ s.old.learned.items }
     ensures steps { s.new.steps.items ≡ s.old.steps.items }
 {
-    let entry = entry_at(&s.trail.entries, jump.place);
-    pop_to(&mut s.trail, guide, jump.back);
+    let entry = entry_at(&s.trail.entries, backjump.place);
+    pop_to(&mut s.trail, heuristic, backjump.back);
     let lit = negation(entry.lit);
-    guide.levels.implied(lit, jump.back);
+    heuristic.levels.implied(lit, backjump.back);
     extend(s, lit, Some(reason))?;
     Ok(())
 }

@@ -1,4 +1,5 @@
-//! The trail of assigned literals, and the value of each variable.
+//! The trail and the assignment. The list of values is redundant, but a look-up in the trail would take its length.
+//! Reasons are clause numbers, moved in one walk when given clauses come.
 
 ghost use Rattle.std.specs.Prelude.{ℕ, ◌≡◌, ◌+◌, ◌-◌, ◌^◌, ◌<◌, ◌≤◌, ◌++◌, ◌∷◌, [], length, take, map, not, None, Some, All, IfSome, OnOk, List};
 ghost use Rattle.bb_cdcl.specs.declared.trail.Entry.{Entry as TrailEntry};
@@ -6,26 +7,24 @@ ghost use Rattle.bb_cdcl.specs.Laws.Numbers.{moved_number};
 ghost use Rattle.bb_cdcl.specs.Inside.Trails.{value_at, AreNew, AreValues, HasRoom, opposite, moved_entry};
 
 use crate::NoMemory;
-use crate::guide::Guide;
+use crate::heuristics::Heuristic;
 use crate::numbers::moved;
 use bb_cnf::Lit;
 
-/// A literal, and the number of the clause that implies it; none where it was decided.
+/// `reason` is the number of the clause that implies it; none for a decision.
 #[derive(Clone, Copy, Debug)]
 pub(crate) struct Entry {
     pub(crate) lit: Lit,
     pub(crate) reason: Option<usize>,
 }
 
-/// The literals in the order in which they were assigned, and for each variable its bit. The place 0 of the values
-/// is of no variable.
+/// `entries` in order of assignment. `values[v]` is the bit of variable `v`; place 0 is unused.
 #[derive(Drop)]
 pub(crate) struct Trail {
     pub(crate) entries: Vec<Entry>,
     pub(crate) values: Vec<Option<bool>>,
 }
 
-/// The literal's negation.
 pub(crate) fn negation(lit: Lit) -> Lit
     ensures { result ≡ opposite lit }
 {
@@ -35,7 +34,6 @@ pub(crate) fn negation(lit: Lit) -> Lit
     }
 }
 
-/// Makes a literal true.
 pub(crate) fn assign(trail: &mut Trail, lit: Lit, reason: Option<usize>) -> Result<(), NoMemory>
     requires in_range { lit.var < length trail.old.values.items }
     requires free { value_at trail.old.values.items lit.var ≡ None }
@@ -52,8 +50,8 @@ pub(crate) fn assign(trail: &mut Trail, lit: Lit, reason: Option<usize>) -> Resu
     Ok(())
 }
 
-// Takes the last literal back.
-fn pop(trail: &mut Trail, guide: &mut Guide)
+// The heuristic notes the literal here, since it chooses among unassigned variables and reuses their last bits.
+fn pop(trail: &mut Trail, heuristic: &mut Heuristic)
     requires some { 0 < length trail.old.entries.items }
     requires new { AreNew trail.old.entries.items }
     requires values { AreValues trail.old.entries.items trail.old.values.items }
@@ -65,12 +63,12 @@ fn pop(trail: &mut Trail, guide: &mut Guide)
 {
     if let Some(last) = trail.entries.pop() {
         trail.values[last.lit.var as usize] = None;
-        guide.taken_back(last.lit, last.reason.is_none());
+        heuristic.taken_back(last.lit, last.reason.is_none());
     }
 }
 
-/// Takes back all from this place on.
-pub(crate) fn pop_to(trail: &mut Trail, guide: &mut Guide, place: usize)
+/// `place` entries remain.
+pub(crate) fn pop_to(trail: &mut Trail, heuristic: &mut Heuristic, place: usize)
     requires within { place ≤ length trail.old.entries.items }
     requires new { AreNew trail.old.entries.items }
     requires values { AreValues trail.old.entries.items trail.old.values.items }
@@ -81,11 +79,10 @@ pub(crate) fn pop_to(trail: &mut Trail, guide: &mut Guide, place: usize)
     ensures same { length trail.new.values.items ≡ length trail.old.values.items }
 {
     while trail.entries.len() > place {
-        pop(trail, guide);
+        pop(trail, heuristic);
     }
 }
 
-/// There are variables up to this one.
 pub(crate) fn widen(trail: &mut Trail, vars: u32) -> Result<(), NoMemory>
     requires values { AreValues trail.old.entries.items trail.old.values.items }
     requires room { HasRoom trail.old.entries.items trail.old.values.items }
@@ -101,7 +98,6 @@ pub(crate) fn widen(trail: &mut Trail, vars: u32) -> Result<(), NoMemory>
     Ok(())
 }
 
-// The entry where so many more given clauses come behind the first ones.
 fn moved_reason(entry: Entry, given: usize, more: usize) -> Entry
     requires { IfSome entry.reason (λ number. moved_number given more number < 2 ^ 64) }
     ensures { result ≡ moved_entry given more entry }
@@ -115,7 +111,6 @@ fn moved_reason(entry: Entry, given: usize, more: usize) -> Entry
     }
 }
 
-/// Moves the numbers of all reasons where so many more given clauses come behind the first ones.
 pub(crate) fn move_reasons(trail: &mut Trail, given: usize, more: usize)
     requires { All (λ (e : TrailEntry). IfSome e.reason (λ number. moved_number given more number < 2 ^ 64)) trail.old.entries.items }
     ensures entries { trail.new.entries.items ≡ map (moved_entry given more) trail.old.entries.items }

@@ -1,6 +1,6 @@
-//! Unit clauses of literals of level 0, which the clauses alone imply: a learned clause is resolved with them where it has their
-//! negations. Which of them are made, and when, is a guess, and no answer depends on it: a clause is taken for a unit clause only
-//! where it is seen to have one literal.
+//! Unit clauses of level 0, derived when a conflict first meets the negated literal, after those that its reason needs.
+//! A learned clause is then resolved with them. Whether every such literal goes is not proved and no answer depends on
+//! it: the note of which clause is the unit clause is a hint, tested by its length.
 
 ghost use Rattle.std.specs.Prelude.{◌≡◌, ◌<◌, ◌∷◌, [], ℕ, false, length, map, slice_get, Some, IfOk, IfSome, OnOk, List};
 ghost use Rattle.bb_cnf.specs.declared.clauses.Lit.{Lit as Literal};
@@ -12,9 +12,9 @@ ghost use Rattle.bb_cdcl.specs.Inside.Analysis.{IsCovered, IsResolved};
 ghost use Rattle.bb_cdcl.specs.Inside.States.{IsDerived, Grows, Leads};
 
 use crate::NoMemory;
-use crate::analysis::{Jump, entry_at};
-use crate::guide::Guide;
-use crate::low_literals::{implied_at, low, missing};
+use crate::analysis::{Backjump, entry_at};
+use crate::heuristics::Heuristic;
+use crate::root_literals::{implied_at, missing, root};
 use crate::state::{State, add, drained};
 use crate::trail::negation;
 use bb_cnf::{Lit, PartialResolvent, Step, laws};
@@ -22,7 +22,6 @@ use bb_watch::Clauses;
 use smallvec::SmallVec;
 use std::alloc::Global;
 
-// The only literal of a clause.
 fn only(clause: &[Lit]) -> Option<Lit>
     ensures { IfSome result (λ lit. clause.now ≡ lit ∷ []) }
 {
@@ -33,8 +32,7 @@ fn only(clause: &[Lit]) -> Option<Lit>
     }
 }
 
-// Resolves with the clause of a number, if it is a unit clause and the resolvent has the negation of its literal. A
-// variable is kept.
+// The literal of `kept` stays, since the jump rests on it. A stale number is skipped.
 fn resolve_unit(
     resolvent: &mut PartialResolvent,
     clauses: &Clauses<'_>,
@@ -67,14 +65,13 @@ fn resolve_unit(
     Ok(())
 }
 
-// Resolves with the unit clauses of the negations of these literals, where they are made.
 fn resolve_units(
     resolvent: &mut PartialResolvent,
     clauses: &Clauses<'_>,
     lits: &[Lit],
     kept: u32,
     pairs: &mut Vec<(u64, u32)>,
-    guide: &Guide,
+    heuristic: &Heuristic,
 ) -> Result<(), NoMemory>
     requires listed { AreListed resolvent.old }
     ensures covered { OnOk result ((entries : List TrailEntry) (place back : ℕ) (e : TrailEntry) → slice_get entries place ≡ Some e → e.lit.var ≡ kept
@@ -83,19 +80,18 @@ fn resolve_units(
     ensures listed { OnOk result (AreListed resolvent.new) }
 {
     for lit in lits {
-        resolve_unit(resolvent, clauses, guide.unit(lit.var), kept, pairs)?;
+        resolve_unit(resolvent, clauses, heuristic.unit(lit.var), kept, pairs)?;
     }
     Ok(())
 }
 
-// The step that makes the unit clause of a variable from its reason.
 fn unit_step(
     alloc: Global,
     resolvent: &mut PartialResolvent,
     clauses: &Clauses<'_>,
     var: u32,
     reason: usize,
-    guide: &Guide,
+    heuristic: &Heuristic,
 ) -> Result<Step, NoMemory>
     requires reason { reason < length clauses.now }
     requires empty { (l : Literal) → held resolvent.old l ≡ false }
@@ -106,21 +102,21 @@ fn unit_step(
     let clause = clauses.at(reason);
     let mut rest = Vec::with_capacity(alloc, clause.len())?;
     resolvent.put_all(clause)?;
-    resolve_units(resolvent, clauses, clause, var, &mut rest, guide)?;
+    resolve_units(resolvent, clauses, clause, var, &mut rest, heuristic)?;
     Ok(Step {
         first: reason as u64,
         rest,
     })
 }
 
-// Makes the unit clause of the literal at a place.
+// The count of clauses before the push is the number of the new one.
 fn make_unit(
     alloc: Global,
     given: &[SmallVec<Lit, 4>],
     s: &mut State,
     place: usize,
     resolvent: &mut PartialResolvent,
-    guide: &mut Guide,
+    heuristic: &mut Heuristic,
 ) -> Result<(), NoMemory>
     requires derived { IsDerived (lists_of given.now) s.old }
     requires empty { (l : Literal) → held resolvent.old l ≡ false }
@@ -134,50 +130,49 @@ fn make_unit(
     let Some((var, reason)) = implied_at(&clauses, &s.trail.entries, place) else {
         return Ok(());
     };
-    let step = unit_step(alloc, resolvent, &clauses, var, reason, guide)?;
-    guide.has_unit(var, clauses.len());
+    let step = unit_step(alloc, resolvent, &clauses, var, reason, heuristic)?;
+    heuristic.has_unit(var, clauses.len());
     let clause = drained(alloc, resolvent)?;
     add(s, given.len(), clause, step)?;
     Ok(())
 }
 
-// Makes the unit clauses of the literals at these places, one after another.
 fn make_units(
     alloc: Global,
     given: &[SmallVec<Lit, 4>],
     s: &mut State,
     places: &[usize],
-    guide: &mut Guide,
+    heuristic: &mut Heuristic,
 ) -> Result<(), NoMemory>
     requires { IsDerived (lists_of given.now) s.old }
     ensures { OnOk result (Grows (lists_of given.now) s.old s.new) }
 {
-    let mut resolvent = guide.spare.lend(alloc);
+    let mut resolvent = heuristic.spare.lend(alloc);
     for place in places {
-        make_unit(alloc, given, s, *place, &mut resolvent, guide)?;
+        make_unit(alloc, given, s, *place, &mut resolvent, heuristic)?;
     }
-    guide.spare.put_back(resolvent);
+    heuristic.spare.put_back(resolvent);
     Ok(())
 }
 
-/// Resolves literals of level 0 away by their unit clauses, which are made where they are missing.
-pub(crate) fn resolve_low(
+/// Runs after minimization, when the clause has its final literals of other levels.
+pub(crate) fn resolve_root(
     alloc: Global,
     given: &[SmallVec<Lit, 4>],
     s: &mut State,
-    jump: Jump,
+    backjump: Backjump,
     step: &mut Step,
-    guide: &mut Guide,
+    heuristic: &mut Heuristic,
 ) -> Result<(), NoMemory>
-    requires { Leads (lists_of given.now) s.old s.old (Some jump) step.old }
-    ensures { OnOk result (Leads (lists_of given.now) s.old s.new (Some jump) step.new) }
+    requires { Leads (lists_of given.now) s.old s.old (Some backjump) step.old }
+    ensures { OnOk result (Leads (lists_of given.now) s.old s.new (Some backjump) step.new) }
 {
     laws::chains();
-    let lits = low(alloc, &s.resolvent, &s.trail.entries, guide)?;
+    let lits = root(alloc, &s.resolvent, &s.trail.entries, heuristic)?;
     let clauses = Clauses::new(given, &s.learned);
-    let places = missing(alloc, &clauses, &s.trail.entries, &lits, guide)?;
-    make_units(alloc, given, s, &places, guide)?;
-    let kept = entry_at(&s.trail.entries, jump.place).lit.var;
+    let places = missing(alloc, &clauses, &s.trail.entries, &lits, heuristic)?;
+    make_units(alloc, given, s, &places, heuristic)?;
+    let kept = entry_at(&s.trail.entries, backjump.place).lit.var;
     let clauses = Clauses::new(given, &s.learned);
     resolve_units(
         &mut s.resolvent,
@@ -185,7 +180,7 @@ pub(crate) fn resolve_low(
         &lits,
         kept,
         &mut step.rest,
-        guide,
+        heuristic,
     )?;
     Ok(())
 }

@@ -1,6 +1,6 @@
--- chains and lists of steps, in parts and with more clauses behind the earlier ones
+-- chains and lists of steps, in parts and with more clauses after the earlier ones
 use Rattle.std.proofs.Common.{◌≡◌, ℕ, Option, Some, None, option_and_then, List, [], ◌∷◌, ◌++◌, slice_get, refl, ap, ◌∙◌}
-use Rattle.bb_lists.proofs.Places.{got_left}
+use Rattle.bb_lemmas.proofs.Places.{got_left}
 use Rattle.bb_cnf.specs.declared.refutation.Step.{Step}
 use Rattle.bb_cnf.specs.Clauses.{Literals}
 use Rattle.bb_cnf.specs.Chains.{resolution, chain, made_by, derived}

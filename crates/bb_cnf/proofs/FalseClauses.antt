@@ -7,13 +7,13 @@ use Rattle.std.proofs.lemmas.List.Elements.{All-head, All-tail, All-nil, All-con
 use Rattle.std.proofs.lemmas.List.Folds.{Any-from_list_any}
 use Rattle.std.proofs.lemmas.Option.{slice_get-map}
 use Rattle.bb_cnf.specs.declared.clauses.Lit.{Lit}
-use Rattle.bb_cnf.specs.Clauses.{Literals, literals_of, same_literal, IsWithin}
+use Rattle.bb_cnf.specs.Clauses.{Literals, literals_of, same_literal, HasVariablesWithin}
 use Rattle.bb_cnf.specs.Truth.{literal_bit, IsTrueClause, Satisfies, HaveNoModel}
 use Rattle.bb_cnf.proofs.Literals.{same_literal-is}
 use Rattle.bb_cnf.proofs.Within.{AreWithin}
 use mathlib.Core.Bool.{beq}
-use Rattle.bb_lists.proofs.Tests.{number_equal, number_self}
-use Rattle.bb_lists.proofs.Bits.{neither}
+use Rattle.bb_lemmas.proofs.Tests.{number_equal, number_self}
+use Rattle.bb_lemmas.proofs.Bits.{neither}
 
 -- each literal has a variable from 1 to n, and is false
 abbrev pub IsFalseWithin : ℕ → (ℕ → Bool) → Literals → Type 0
@@ -47,23 +47,23 @@ record FalseOne (n : ℕ) (v : ℕ → Bool) (clauses : List (List Lit)) : Type 
   pub there : slice_get clauses place ≡ Some lits
   pub is_false : IsFalseWithin n v (literals_of lits)
 
-behind : (n : ℕ) (v : ℕ → Bool) (c : List Lit) (clauses : List (List Lit)) → FalseOne n v clauses → FalseOne n v (c ∷ clauses)
-behind n v c clauses one = record { place = suc one.place; lits = one.lits; there = one.there; is_false = one.is_false }
+after : (n : ℕ) (v : ℕ → Bool) (c : List Lit) (clauses : List (List Lit)) → FalseOne n v clauses → FalseOne n v (c ∷ clauses)
+after n v c clauses one = record { place = suc one.place; lits = one.lits; there = one.there; is_false = one.is_false }
 
 -- all clauses are true, or one is false
-all_or_one : (n : ℕ) (v : ℕ → Bool) (clauses : List (List Lit)) → IsWithin n clauses → Satisfies v clauses ⊎ FalseOne n v clauses
+all_or_one : (n : ℕ) (v : ℕ → Bool) (clauses : List (List Lit)) → HasVariablesWithin n clauses → Satisfies v clauses ⊎ FalseOne n v clauses
 all_or_one n v [] within = inl (All-nil (IsTrueClause v))
 all_or_one n v (c ∷ clauses) within =
     elim (list_any (literal_bit v) c) as (λ b. list_any (literal_bit v) c ≡ b → Satisfies v (c ∷ clauses) ⊎ FalseOne n v (c ∷ clauses)) [
       | true ↦ λ some. elim (all_or_one n v clauses (All-tail (AreWithin n) c clauses within)) [
         | inl all ↦ inl (All-cons (IsTrueClause v) c clauses (Any-from_list_any (literal_bit v) c some) all)
-        | inr one ↦ inr (behind n v c clauses one)
+        | inr one ↦ inr (after n v c clauses one)
       ]
       | false ↦ λ none. inr (record { place = 0; lits = c; there = refl; is_false = false_list v n c none (All-head (AreWithin n) c clauses within) })
     ] refl
 
 -- without a model some clause is false
-pub false_one : (n : ℕ) (v : ℕ → Bool) (clauses : List (List Lit)) → IsWithin n clauses → HaveNoModel clauses
+pub false_one : (n : ℕ) (v : ℕ → Bool) (clauses : List (List Lit)) → HasVariablesWithin n clauses → HaveNoModel clauses
     → (place : ℕ) × (c : Literals) × (slice_get (map literals_of clauses) place ≡ Some c) × IsFalseWithin n v c
 false_one n v clauses within none = elim (all_or_one n v clauses within) [
   | inl all ↦ absurd (none v all)

@@ -3,8 +3,8 @@ use Rattle.std.proofs.Common.{◌≡◌, ℕ, Bool, true, ◌&&◌, ◌==◌, ap
 use Rattle.bb_cnf.specs.declared.clauses.Lit.{Lit}
 use Rattle.bb_cnf.specs.Clauses.{same_literal}
 use mathlib.Core.Bool.{beq}
-use Rattle.bb_lists.proofs.Tests.{number_equal, number_self}
-use Rattle.bb_lists.proofs.Bits.{and_both, beq_equal, beq_self}
+use Rattle.bb_lemmas.proofs.Tests.{number_equal, number_self}
+use Rattle.bb_lemmas.proofs.Bits.{and_both, beq_equal, beq_self}
 
 pub same_literal-is : (a b : Lit) → same_literal a b ≡ true → a ≡ b
 same_literal-is a b h =

@@ -5,7 +5,7 @@ use Rattle.std.proofs.lemmas.List.{length-map}
 use Rattle.std.proofs.lemmas.List.Elements.{All-append, All-head, All-tail, All-nil, All-cons, All-contains}
 use Rattle.std.proofs.lemmas.List.FromFn.{get_or-map-range_with_len, length-range_with_len}
 use Rattle.bb_cnf.specs.declared.clauses.Lit.{Lit}
-use Rattle.bb_cnf.specs.Clauses.{IsWithin}
+use Rattle.bb_cnf.specs.Clauses.{HasVariablesWithin}
 use Rattle.bb_cnf.specs.Truth.{literal_bit, Satisfies, assignment_of, IsTrueClause}
 use Rattle.bb_cnf.specs.Laws.{ModelLaws}
 
@@ -16,7 +16,7 @@ Agree n v w = (x : ℕ) → 1 ≤ x → x ≤ n → v x ≡ w x
 bit_of-agree : (v w : ℕ → Bool) (n : ℕ) → Agree n v w → (l : Lit) → (1 ≤ l.var) × (l.var ≤ n) → literal_bit v l ≡ literal_bit w l
 bit_of-agree v w n agree l within = let e = agree l.var within.0 within.1 in ap (λ b. cond l.neg (not b) b) e
 
-satisfies_agree : (v w : ℕ → Bool) (n : ℕ) → Agree n v w → (clauses : List (List Lit)) → IsWithin n clauses → Satisfies v clauses → Satisfies w clauses
+satisfies_agree : (v w : ℕ → Bool) (n : ℕ) → Agree n v w → (clauses : List (List Lit)) → HasVariablesWithin n clauses → Satisfies v clauses → Satisfies w clauses
 satisfies_agree v w n agree clauses within solves k d l =
     let t = solves k d l in
     let inside = subst (λ (m : Lit). (1 ≤ m.var) × (m.var ≤ n)) t.3 (within k d l t.0 t.1 t.2) in
@@ -26,14 +26,14 @@ both : {A : Type 0} (P : A → Type 0) (xs ys : List A) → All P (xs ++ ys) →
 both P [] ys all = (All-nil P, all)
 both P (x ∷ xs) ys all = let rest = both P xs ys (All-tail P x (xs ++ ys) all) in (All-cons P x xs (All-head P x (xs ++ ys) all) rest.0, rest.1)
 
-get_or-front : (bits more : List Bool) (k : ℕ) → k < length bits → get_or (bits ++ more) k false ≡ get_or bits k false
-get_or-front [] more k l = absurd (omega (arith, l))
-get_or-front (b ∷ bits) more zero l = refl
-get_or-front (b ∷ bits) more (suc k) l = get_or-front bits more k (omega (arith, l))
+get_or-prefix : (bits more : List Bool) (k : ℕ) → k < length bits → get_or (bits ++ more) k false ≡ get_or bits k false
+get_or-prefix [] more k l = absurd (omega (arith, l))
+get_or-prefix (b ∷ bits) more zero l = refl
+get_or-prefix (b ∷ bits) more (suc k) l = get_or-prefix bits more k (omega (arith, l))
 
 longer_agrees : (bits more : List Bool) → Agree (length bits) (assignment_of (bits ++ more)) (assignment_of bits)
 longer_agrees bits more zero least most = absurd (omega (arith, least))
-longer_agrees bits more (suc k) least most = get_or-front bits more k (omega (arith, most))
+longer_agrees bits more (suc k) least most = get_or-prefix bits more k (omega (arith, most))
 
 -- the bits of an assignment from 1 to n
 bits_of : (ℕ → Bool) → ℕ → List Bool

@@ -5,7 +5,7 @@ use Rattle.std.proofs.lemmas.Simd.{map-map}
 use Rattle.std.proofs.lemmas.List.{length-map}
 use Rattle.std.proofs.lemmas.Option.{slice_get-map}
 use Rattle.std.specs.List.{list_any}
-use Rattle.bb_lists.proofs.Places.{got_right}
+use Rattle.bb_lemmas.proofs.Places.{got_right}
 use Rattle.smallvec.specs.SmallVec.{SmallVec}
 use Rattle.bb_cnf.specs.declared.clauses.Lit.{Lit}
 use Rattle.bb_cnf.specs.declared.refutation.Step.{Step}

@@ -3,11 +3,11 @@
 -- over the variables up to it, and one of both or their resolvent is false over those before. At the root it is
 -- empty, and one more step makes it the last.
 use Rattle.std.proofs.Common.{◌≡◌, ◌<◌, ℕ, zero, suc, ◌+◌, ◌-◌, ◌^◌, Bool, true, false, not, ◌&&◌, ◌||◌, ◌⊎◌, if◌then◌else◌, Some, None, IsSomeAnd, option_and_then, List, [], ◌∷◌, ◌++◌, length, map, slice_get, refl, sym, ◌∙◌, ap, ap₂, subst, arith, inl, inr, length-append}
-use Rattle.bb_lists.proofs.Vectors.{heap}
-use Rattle.bb_lists.proofs.Places.{got_left, got_right}
+use Rattle.bb_lemmas.proofs.Vectors.{heap}
+use Rattle.bb_lemmas.proofs.Places.{got_left, got_right}
 use Rattle.bb_cnf.specs.declared.clauses.Lit.{Lit}
 use Rattle.bb_cnf.specs.declared.refutation.Step.{Step}
-use Rattle.bb_cnf.specs.Clauses.{Literals, literals_of, IsWithin, positive, negated, same_literal}
+use Rattle.bb_cnf.specs.Clauses.{Literals, literals_of, HasVariablesWithin, positive, negated, same_literal}
 use Rattle.bb_cnf.specs.Chains.{resolvent, resolution, chain, made_by, derived, IsEmpty, EndsEmpty}
 use Rattle.bb_cnf.specs.Truth.{HaveNoModel}
 use Rattle.bb_cnf.specs.Laws.{RefutationsExist}
@@ -29,7 +29,7 @@ again place = step_of place [] (omega arith)
 abbrev resolving : ℕ → ℕ → ℕ → Step
 resolving place other x = step_of place ((other, x) ∷ []) (omega arith)
 
--- behind the earlier clauses, steps make a clause that is false over the variables up to n
+-- after the earlier clauses, steps make a clause that is false over the variables up to n
 record Reached (earlier : List Literals) (n : ℕ) (v : ℕ → Bool) : Type 0 where
   pub steps : List Step
   pub all : List Literals
@@ -142,10 +142,10 @@ module _ (earlier : List Literals) (n : ℕ) (v : ℕ → Bool) (low : Reached e
 
 -- the tree below a branch of n bits, with so many variables left
 module _ (clauses : List (List Lit)) (none : HaveNoModel clauses) where
-  reach : (left n : ℕ) (v : ℕ → Bool) → IsWithin (n + left) clauses → (earlier : List Literals)
+  reach : (left n : ℕ) (v : ℕ → Bool) → HasVariablesWithin (n + left) clauses → (earlier : List Literals)
       → ((k : ℕ) (c : Literals) → slice_get (map literals_of clauses) k ≡ Some c → slice_get earlier k ≡ Some c) → Reached earlier n v
   reach zero n v within earlier holds =
-      let one = false_one n v clauses (subst (λ m. IsWithin m clauses) (omega arith) within) none in
+      let one = false_one n v clauses (subst (λ m. HasVariablesWithin m clauses) (omega arith) within) none in
       record {
         steps = [];
         all = earlier;
@@ -157,7 +157,7 @@ module _ (clauses : List (List Lit)) (none : HaveNoModel clauses) where
         is_false = one.3;
       }
   reach (suc left) n v within earlier holds =
-      let deeper : IsWithin (suc n + left) clauses = subst (λ m. IsWithin m clauses) (omega arith) within in
+      let deeper : HasVariablesWithin (suc n + left) clauses = subst (λ m. HasVariablesWithin m clauses) (omega arith) within in
       let low = reach left (suc n) (with_bit v (suc n) false) deeper earlier holds in
       let high = reach left (suc n) (with_bit v (suc n) true) deeper low.all (λ k c e. low.keeps k c (holds k c e)) in
       by_bits earlier n v low high
@@ -177,7 +177,7 @@ ends_empty all c empty =
 pub refutations_exist : RefutationsExist
 refutations_exist formula within none =
     let given = map literals_of formula.clauses in
-    let root = reach formula.clauses none formula.vars 0 (λ x. false) (subst (λ m. IsWithin m formula.clauses) (omega arith) within) given (λ k c e. e) in
+    let root = reach formula.clauses none formula.vars 0 (λ x. false) (subst (λ m. HasVariablesWithin m formula.clauses) (omega arith) within) given (λ k c e. e) in
     let made = one_more given root.all root.steps (again root.place) root.clause root.derives (ap (option_and_then (λ c. chain root.all c [])) root.there) in (
       root.steps ++ again root.place ∷ [],
       (

@@ -4,11 +4,11 @@
 use Rattle.std.specs.Prelude.{◌≡◌, ℕ, ◌-◌, ◌<◌, false, ◌&&◌, if◌then◌else◌, Option, Some, None, IsSomeAnd, option_and_then, List, [], ◌∷◌, ◌++◌, length, map, slice_get}
 use Rattle.bb_cnf.specs.declared.clauses.Lit.{Lit}
 use Rattle.bb_cnf.specs.declared.refutation.Step.{Step}
-use Rattle.bb_cnf.specs.Clauses.{Literals, literals_of, positive, negated, without, union}
+use Rattle.bb_cnf.specs.Clauses.{Literals, literals_of, positive, negated, without_literal, union}
 
 -- one clause has the literal m and the other has n, its negation: each loses its own, and the rest is joined
 abbrev pub resolvent : Literals → Literals → Lit → Lit → Literals
-resolvent c d m n = union (without c m) (without d n)
+resolvent c d m n = union (without_literal c m) (without_literal d n)
 
 -- the current clause c resolved with the clause d on the variable x; None where they do not have x with two
 -- signs. Where both have it with both signs, c loses x and d loses its negation.
@@ -28,7 +28,7 @@ chain earlier c (pair ∷ rest) =
 abbrev pub made_by : List Literals → Step → Option Literals
 made_by earlier step = option_and_then (λ c. chain earlier c step.rest.items) (slice_get earlier step.first)
 
--- all clauses, with those that the steps make behind the earlier ones
+-- all clauses, with those that the steps make after the earlier ones
 abbrev pub derived : List Literals → List Step → Option (List Literals)
 derived earlier [] = Some earlier
 derived earlier (step ∷ steps) = option_and_then (λ c. derived (earlier ++ c ∷ []) steps) (made_by earlier step)

@@ -26,8 +26,8 @@ abbrev pub literals_of : List Lit → Literals
 literals_of lits l = list_any (λ m. same_literal m l) lits
 
 -- the set without one literal
-abbrev pub without : Literals → Lit → Literals
-without c m l = c l && not (same_literal m l)
+abbrev pub without_literal : Literals → Lit → Literals
+without_literal c m l = c l && not (same_literal m l)
 
 -- both sets in one
 abbrev pub union : Literals → Literals → Literals
@@ -43,5 +43,5 @@ abbrev pub lists_of : List (SmallVec Lit) → List (List Lit)
 lists_of clauses = map (λ clause. clause.items) clauses
 
 -- each variable is from 1 to vars
-abbrev pub IsWithin : ℕ → List (List Lit) → Type 0
-IsWithin vars clauses = All (All (λ l. (1 ≤ l.var) × (l.var ≤ vars))) clauses
+abbrev pub HasVariablesWithin : ℕ → List (List Lit) → Type 0
+HasVariablesWithin vars clauses = All (All (λ l. (1 ≤ l.var) × (l.var ≤ vars))) clauses

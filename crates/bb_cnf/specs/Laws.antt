@@ -2,7 +2,7 @@
 use Rattle.std.specs.Prelude.{◌≡◌, ◌↔◌, ℕ, Bool, Some, IfSome, option_and_then, List, ◌++◌, length, map, All, Contains}
 use Rattle.bb_cnf.specs.declared.clauses.Lit.{Lit}
 use Rattle.bb_cnf.specs.declared.refutation.Step.{Step}
-use Rattle.bb_cnf.specs.Clauses.{Literals, literals_of, Formula, IsWithin}
+use Rattle.bb_cnf.specs.Clauses.{Literals, literals_of, Formula, HasVariablesWithin}
 use Rattle.bb_cnf.specs.Chains.{resolution, chain, made_by, derived, IsRefutation}
 use Rattle.bb_cnf.specs.Lines.{proof_lines, step_numbers, HasShortNumbers}
 use Rattle.bb_cnf.specs.Truth.{IsTrueClause, Satisfies, IsTrueUnder, HaveNoModel, assignment_of, IsModel}
@@ -11,7 +11,7 @@ use Rattle.bb_cnf.specs.Truth.{IsTrueClause, Satisfies, IsTrueUnder, HaveNoModel
 pub record ChainLaws : Type 0 where
   -- one chain after another
   pub chain_in_parts : (earlier : List Literals) (c : Literals) (first second : List (ℕ × ℕ)) → chain earlier c (first ++ second) ≡ option_and_then (λ d. chain earlier d second) (chain earlier c first)
-  -- what a chain or a step makes stays where more clauses stand behind the earlier ones
+  -- what a chain or a step makes stays the same where more clauses come after the earlier ones
   pub chain_with_more : (earlier more : List Literals) (c d : Literals) (rest : List (ℕ × ℕ)) → chain earlier c rest ≡ Some d → chain (earlier ++ more) c rest ≡ Some d
   pub step_with_more : (earlier more : List Literals) (step : Step) (c : Literals) → made_by earlier step ≡ Some c → made_by (earlier ++ more) step ≡ Some c
   -- some steps after others
@@ -30,7 +30,7 @@ pub record SoundnessLaws : Type 0 where
 
 -- resolution is complete for refutations (J. A. Robinson, 1965): clauses that no assignment makes all true have a refutation
 abbrev pub RefutationsExist : Type 0
-RefutationsExist = (formula : Formula) → IsWithin formula.vars formula.clauses → HaveNoModel formula.clauses
+RefutationsExist = (formula : Formula) → HasVariablesWithin formula.vars formula.clauses → HaveNoModel formula.clauses
     → (steps : List Step) × IsRefutation formula.clauses steps
 
 -- the lines of a proof give back its clauses and the numbers of its steps, where a decimal writes each number whole
@@ -45,6 +45,6 @@ pub record ModelLaws : Type 0 where
   -- fewer clauses are satisfied as well
   pub fewer_clauses : (v : ℕ → Bool) (clauses more : List (List Lit)) → All (Contains more) clauses → Satisfies v more → Satisfies v clauses
   -- further bits change nothing for clauses over the first ones
-  pub longer_list : (bits more : List Bool) (clauses : List (List Lit)) → IsWithin (length bits) clauses → (Satisfies (assignment_of (bits ++ more)) clauses ↔ Satisfies (assignment_of bits) clauses)
+  pub longer_list : (bits more : List Bool) (clauses : List (List Lit)) → HasVariablesWithin (length bits) clauses → (Satisfies (assignment_of (bits ++ more)) clauses ↔ Satisfies (assignment_of bits) clauses)
   -- where an assignment makes all clauses true, a list of bits is a model
-  pub has_list : (v : ℕ → Bool) (formula : Formula) → IsWithin formula.vars formula.clauses → Satisfies v formula.clauses → (bits : List Bool) × IsModel bits formula
+  pub has_list : (v : ℕ → Bool) (formula : Formula) → HasVariablesWithin formula.vars formula.clauses → Satisfies v formula.clauses → (bits : List Bool) × IsModel bits formula

@@ -34,7 +34,7 @@ step_lines n (step ∷ steps) = step_line n step ++ step_lines (n + 1) steps
 abbrev pub proof_lines : List (List Lit) → List Step → List ℕ
 proof_lines clauses steps = clause_lines 0 clauses ++ step_lines (length clauses) steps
 
--- what a step's line says of the step: its numbers
+-- what a step's line gives of the step: its numbers
 abbrev pub step_numbers : Step → ℕ × List (ℕ × ℕ)
 step_numbers step = (step.first, step.rest.items)
 

@@ -1,4 +1,6 @@
-// The checker of refutations.
+//! Follows the chains of a refutation, one resolution after another. The answer is exact in both directions: it accepts
+//! what is defined as a refutation and nothing else, so a rejection is never an artefact of the check.
+
 ghost use Rattle.std.specs.Prelude.{◌-◌, [], length, IsSomeAnd, IfSome, IfNone, OnSome, ◌≡◌, ◌↔◌, ◌++◌, false, true, map, slice_get, option_map, Some, None, IfOk, OnOk, IsTrue, List};
 ghost use Rattle.smallvec.specs.SmallVec.{SmallVec as Items};
 ghost use Rattle.bb_cnf.specs.declared.clauses.Lit.{Lit};
@@ -12,7 +14,7 @@ use crate::{Cnf, Lit, NoMemory, Refutation, Step};
 use smallvec::SmallVec;
 use std::alloc::Global;
 
-// The clause of this number: the given ones come first, and those that steps made follow.
+// Given clauses have the first numbers; the clause of each step has the next one.
 fn clause<'a>(
     given: &'a [SmallVec<Lit, 4>],
     made: &'a [SmallVec<Lit, 4>],
@@ -29,7 +31,7 @@ fn clause<'a>(
     Some(found.as_slice())
 }
 
-// Resolves along a chain, and says whether each resolution is one.
+// False at the first pair that names no earlier clause or is no resolution.
 fn resolve_along(
     so_far: &mut PartialResolvent,
     given: &[SmallVec<Lit, 4>],
@@ -52,7 +54,6 @@ fn resolve_along(
     Ok(true)
 }
 
-// Begins with a clause.
 fn begin(so_far: &mut PartialResolvent, first: &[Lit]) -> Result<(), NoMemory>
     requires empty { (l : Lit) → held so_far.old l ≡ false }
     requires listed { AreListed so_far.old }
@@ -63,7 +64,7 @@ fn begin(so_far: &mut PartialResolvent, first: &[Lit]) -> Result<(), NoMemory>
     Ok(())
 }
 
-// Gives out the clause that the chain has come to.
+// Leaves `so_far` empty, so that one set of marks serves all steps.
 fn finish(alloc: Global, so_far: &mut PartialResolvent) -> Result<SmallVec<Lit, 4>, NoMemory>
     requires { AreListed so_far.old }
     ensures given { IfOk result (λ clause. literals_of clause.items ≡ held so_far.old) }
@@ -74,7 +75,6 @@ fn finish(alloc: Global, so_far: &mut PartialResolvent) -> Result<SmallVec<Lit, 
     Ok(clause)
 }
 
-// Makes the clause of a step, if its chain stands.
 fn make(
     alloc: Global,
     so_far: &mut PartialResolvent,
@@ -100,7 +100,6 @@ fn make(
     Ok(Some(clause))
 }
 
-// Is the last clause empty?
 fn ends_empty(made: &[SmallVec<Lit, 4>]) -> bool
     ensures { IsTrue result ↔ IsSomeAnd (slice_get made.now (length made.now - 1)) (λ clause. clause.items ≡ []) }
 {
@@ -110,7 +109,7 @@ fn ends_empty(made: &[SmallVec<Lit, 4>]) -> bool
     }
 }
 
-// Follows the steps one by one.
+// A list without steps is no refutation, even where a given clause is empty.
 fn refutes(alloc: Global, given: &[SmallVec<Lit, 4>], steps: &[Step]) -> Result<bool, NoMemory>
     ensures { IfOk result (λ yes. IsTrue yes ↔ IsRefutation (lists_of given.now) steps.now) }
 {
@@ -125,8 +124,8 @@ fn refutes(alloc: Global, given: &[SmallVec<Lit, 4>], steps: &[Step]) -> Result<
     Ok(ends_empty(&made))
 }
 
-/// Is the list a refutation of the clauses: are there steps, does each chain of resolutions stand, and is the
-/// last step's clause empty?
+/// True exactly where there are steps, each chain consists of resolutions, and the last step makes the empty clause.
+/// The only error is lack of memory.
 pub fn check(alloc: Global, cnf: &Cnf, refutation: &Refutation) -> Result<bool, NoMemory>
     ensures exact { IfOk result (λ yes. IsTrue yes ↔ IsRefutation cnf.now.clauses refutation.now.steps.items) }
     ensures none { IfOk result (λ yes. IsTrue yes → HaveNoModel cnf.now.clauses) }

@@ -1,4 +1,6 @@
-// Literals and lists of clauses.
+//! Literals and lists of clauses. A clause means a set of literals, so order and repetition in its list do not count;
+//! in memory it is the list as it came.
+
 ghost use Rattle.std.specs.Prelude.{◌≡◌, ◌≤◌, ◌↔◌, All, IsTrue, IsSome, IfSome, OnOk, OnErr, map, [], ◌∷◌, ◌++◌};
 ghost use Rattle.smallvec.specs.SmallVec.{SmallVec as Items};
 
@@ -6,14 +8,14 @@ use crate::NoMemory;
 use smallvec::SmallVec;
 use std::marker::Model;
 
-/// A variable, counted from 1, or its negation.
+/// Variables count from 1; `neg` is the negation.
 #[derive(Clone, Copy, Debug, Default, PartialEq, Eq)]
 pub struct Lit {
     pub var: u32,
     pub neg: bool,
 }
 
-/// Clauses over the variables from 1 to `vars`. Their numbers count from 0.
+/// Variables are from 1 to `vars`, an invariant. The numbers of clauses count from 0.
 #[derive(Drop)]
 pub struct Cnf {
     pub vars: u32,
@@ -21,22 +23,23 @@ pub struct Cnf {
 }
 
 impl Model for Cnf {
-    ghost use Rattle.bb_cnf.specs.Clauses.{Formula, IsWithin, lists_of};
+    ghost use Rattle.bb_cnf.specs.Clauses.{Formula, HasVariablesWithin, lists_of};
 
     ghost Value = { Formula };
 
     ghost view = { λ cnf. record { vars = cnf.vars; clauses = lists_of cnf.clauses.items } };
 
-    ghost invariant = { λ cnf. IsWithin cnf.vars (lists_of cnf.clauses.items) };
+    ghost invariant = { λ cnf. HasVariablesWithin cnf.vars (lists_of cnf.clauses.items) };
 }
 
 impl Cnf {
-    ghost use Rattle.bb_cnf.specs.Clauses.{Formula, IsWithin, lists_of};
+    ghost use Rattle.bb_cnf.specs.Clauses.{Formula, HasVariablesWithin, lists_of};
 
-    /// These clauses, if each variable is from 1 to `vars`.
+    /// None where a variable is out of range. Only this call looks: `push` and `raise_vars` have the range as a
+    /// precondition, so that a caller with sound clauses pays nothing for it.
     pub fn new(vars: u32, clauses: Vec<SmallVec<Lit, 4>>) -> Option<Cnf>
         ensures some { IfSome result (λ cnf. cnf ≡ record { vars = vars; clauses = lists_of clauses.items }) }
-        ensures exact { IsSome result ↔ IsWithin vars (lists_of clauses.items) }
+        ensures exact { IsSome result ↔ HasVariablesWithin vars (lists_of clauses.items) }
     {
         if are_within(&clauses, vars) {
             Some(Cnf { vars, clauses })
@@ -45,7 +48,7 @@ impl Cnf {
         }
     }
 
-    /// Adds a clause behind the others.
+    /// The new clause has the next number. Numbers of earlier clauses stay, since steps name clauses by number.
     pub fn push(&mut self, clause: SmallVec<Lit, 4>) -> Result<(), NoMemory>
         requires { All (λ l. (1 ≤ l.var) × (l.var ≤ self.old.vars)) clause.items }
         ensures ok { OnOk result (self.new ≡ record { vars = self.old.vars; clauses = self.old.clauses ++ clause.items ∷ [] }) }
@@ -55,7 +58,7 @@ impl Cnf {
         Ok(())
     }
 
-    /// Raises the number of variables.
+    /// Room for variables of clauses that come later; the clauses stay as they are.
     pub fn raise_vars(&mut self, vars: u32)
         requires { self.old.vars ≤ vars }
         ensures { self.new ≡ record { vars = vars; clauses = self.old.clauses } }
@@ -64,14 +67,12 @@ impl Cnf {
     }
 }
 
-// Is each variable of the clause from 1 to `vars`?
 fn is_within(lits: &[Lit], vars: u32) -> bool
     ensures { IsTrue result ↔ All (λ l. (1 ≤ l.var) × (l.var ≤ vars)) lits.now }
 {
     lits.iter().all(|lit| 1 <= lit.var && lit.var <= vars)
 }
 
-// Is each variable of the clauses from 1 to `vars`?
 fn are_within(clauses: &[SmallVec<Lit, 4>], vars: u32) -> bool
     ensures { IsTrue result ↔ All (λ clause. All (λ l. (1 ≤ l.var) × (l.var ≤ vars)) clause.items) clauses.now }
 {

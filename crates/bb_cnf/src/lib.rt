@@ -1,5 +1,7 @@
-//! Clauses, resolution, and a checker of refutations. Whoever made a refutation is not trusted: where the
-//! checker says yes, no assignment makes all clauses true.
+//! Clauses, resolution (Robinson, 1965), and a checker of refutations. Where a refutation comes from does not matter:
+//! where the checker accepts, no assignment satisfies the clauses. A proof is a list of resolution chains, and each
+//! chain names its clauses and its variables in order, so the checker follows and never searches; the price is that the
+//! solver has to write down each resolution.
 #![tactic(auto)]
 
 mod checker;

@@ -1,12 +1,14 @@
-// Marks of variables, in pages that are made where they are first needed: a few variables with high numbers
-// take little memory.
+//! Marks of variables in pages of 65,536, each made when it is first needed. One flat list would be as long as the
+//! highest variable of a proof that may have few; with pages a high variable costs a page and, once, an empty header
+//! for each page before it.
+
 ghost use Rattle.std.specs.Prelude.{◌≡◌, ◌==◌, ◌&&◌, ◌||◌, ◌<◌, ◌≤◌, not, false, ℕ, OnOk, slice_index_or, vec_len};
 ghost use Rattle.bb_cnf.specs.Inside.Marks.{bit_at, mark_at};
 
 use crate::NoMemory;
 use std::alloc::Global;
 
-// How many variables a page has.
+// Variables a page, so a page takes 64 KiB.
 const PAGE: u32 = 65536;
 
 fn bit(page: &[bool], place: usize) -> bool
@@ -15,7 +17,7 @@ fn bit(page: &[bool], place: usize) -> bool
     place < page.len() && page[place]
 }
 
-// Makes a page at least so long, with no mark in what is new.
+// New places have no mark.
 fn widen(page: &mut Vec<bool>, size: usize) -> Result<(), NoMemory>
     ensures room { OnOk result (size ≤ vec_len page.new) }
     ensures same { OnOk result ((k : ℕ) → bit_at page.new.items k ≡ bit_at page.old.items k) }
@@ -43,7 +45,7 @@ fn clear_bit(page: &mut Vec<bool>, place: usize)
     }
 }
 
-/// Reads the mark of a variable.
+/// A variable beyond the pages has no mark.
 pub(crate) fn mark(pages: &[Vec<bool>], var: u32) -> bool
     ensures { result ≡ mark_at pages.now var }
 {
@@ -53,7 +55,6 @@ pub(crate) fn mark(pages: &[Vec<bool>], var: u32) -> bool
     }
 }
 
-// Makes empty pages, up to the one at this place.
 fn make_pages(alloc: Global, pages: &mut Vec<Vec<bool>>, place: usize) -> Result<(), NoMemory>
     ensures room { OnOk result (place < vec_len pages.new) }
     ensures same { OnOk result ((x : ℕ) → mark_at pages.new.items x ≡ mark_at pages.old.items x) }
@@ -64,7 +65,6 @@ fn make_pages(alloc: Global, pages: &mut Vec<Vec<bool>>, place: usize) -> Result
     Ok(())
 }
 
-/// Sets the mark of a variable.
 pub(crate) fn set_mark(alloc: Global, pages: &mut Vec<Vec<bool>>, var: u32) -> Result<(), NoMemory>
     ensures { OnOk result ((x : ℕ) → mark_at pages.new.items x ≡ (mark_at pages.old.items x || x == var)) }
 {
@@ -74,7 +74,7 @@ pub(crate) fn set_mark(alloc: Global, pages: &mut Vec<Vec<bool>>, var: u32) -> R
     Ok(())
 }
 
-/// Takes the mark of a variable away.
+/// Pages are kept, so the next step finds them.
 pub(crate) fn clear_mark(pages: &mut Vec<Vec<bool>>, var: u32)
     ensures { (x : ℕ) → mark_at pages.new.items x ≡ (mark_at pages.old.items x && not (x == var)) }
 {

@@ -1,8 +1,11 @@
-//! The resolvent that a chain has come to: for the checker, and for a solver that writes chains down.
+//! The resolvent that a chain has come to, for the checker and for a solver that writes chains. Both resolve with this
+//! code, so a learned clause is by construction what the checker will make of its chain. Marks answer in constant time
+//! whether a literal is in the resolvent; the list beside them is what a drain walks, so that an empty resolvent is had
+//! without clearing marks of all variables.
 
 ghost use Rattle.std.specs.Prelude.{◌≡◌, ◌==◌, ◌&&◌, ◌||◌, not, false, ℕ, ◌≤◌, length, OnOk, IfOk, true, Some, None};
 ghost use Rattle.bb_cnf.specs.declared.clauses.Lit.{Lit};
-ghost use Rattle.bb_cnf.specs.Clauses.{literals_of, same_literal, without, union};
+ghost use Rattle.bb_cnf.specs.Clauses.{literals_of, same_literal, without_literal, union};
 ghost use Rattle.bb_cnf.specs.Chains.{resolvent, resolution};
 ghost use Rattle.bb_cnf.specs.Inside.PartialResolvent.{held, AreListed};
 
@@ -11,7 +14,8 @@ use crate::{Lit, NoMemory};
 use smallvec::SmallVec;
 use std::alloc::Global;
 
-/// A mark for each literal, by its variable and its sign, and the literals that were marked.
+/// Each marked literal is on the list `marked`. The list may also have literals that were resolved away, and a literal
+/// twice that came back: taking one out of the list would cost a search.
 #[derive(Drop)]
 pub struct PartialResolvent {
     pub(crate) alloc: Global,
@@ -20,7 +24,7 @@ pub struct PartialResolvent {
     pub(crate) marked: Vec<Lit>,
 }
 
-// Is the literal one of these?
+// A linear search: a resolution walks the clause anyway, to add its literals.
 fn has(lits: &[Lit], wanted: Lit) -> bool
     ensures { result ≡ literals_of lits.now wanted }
 {
@@ -28,7 +32,7 @@ fn has(lits: &[Lit], wanted: Lit) -> bool
 }
 
 impl PartialResolvent {
-    /// No literal is marked.
+    /// The empty set of literals. Pages of marks are made when they are needed.
     pub fn new(alloc: Global) -> PartialResolvent
         ensures empty { (l : Lit) → held result l ≡ false }
         ensures listed { AreListed result }
@@ -41,7 +45,7 @@ impl PartialResolvent {
         }
     }
 
-    /// Is the literal marked?
+    /// Reads one mark, however many literals there are.
     pub fn has(&self, lit: Lit) -> bool
         ensures { result ≡ held self.now lit }
     {
@@ -52,7 +56,8 @@ impl PartialResolvent {
         }
     }
 
-    /// The literals that were marked: each one that still is stands among them, maybe twice.
+    /// A superset of the resolvent: literals that were resolved away may still be listed, and one may be listed twice.
+    /// Test with `has`.
     pub fn literals(&self) -> &[Lit]
         requires { AreListed self.now }
         ensures { (l : Lit) → held self.now l ≡ true → literals_of result.now l ≡ true }
@@ -60,7 +65,6 @@ impl PartialResolvent {
         &self.marked
     }
 
-    // Adds a literal.
     fn put(&mut self, lit: Lit) -> Result<(), NoMemory>
         requires { AreListed self.old }
         ensures held { OnOk result ((l : Lit) → held self.new l ≡ (held self.old l || same_literal lit l)) }
@@ -77,9 +81,9 @@ impl PartialResolvent {
         }
     }
 
-    // Takes a literal out.
+    // The list keeps the literal; see the head of the type.
     fn take_out(&mut self, lit: Lit)
-        ensures held { (l : Lit) → held self.new l ≡ without (held self.old) lit l }
+        ensures held { (l : Lit) → held self.new l ≡ without_literal (held self.old) lit l }
         ensures marked { self.new.marked.items ≡ self.old.marked.items }
         ensures listed { AreListed self.old → AreListed self.new }
     {
@@ -90,7 +94,7 @@ impl PartialResolvent {
         }
     }
 
-    /// Adds the literals of a clause.
+    /// Union of sets: what is in the resolvent already is not listed again.
     pub fn put_all(&mut self, lits: &[Lit]) -> Result<(), NoMemory>
         requires { AreListed self.old }
         ensures held { OnOk result ((l : Lit) → held self.new l ≡ union (held self.old) (literals_of lits.now) l) }
@@ -102,7 +106,6 @@ impl PartialResolvent {
         Ok(())
     }
 
-    // Adds a literal, unless it is this one.
     fn put_unless(&mut self, lit: Lit, but: Lit) -> Result<(), NoMemory>
         requires { AreListed self.old }
         ensures held { OnOk result ((l : Lit) → held self.new l ≡ (held self.old l || (same_literal lit l && not (same_literal but l)))) }
@@ -114,10 +117,9 @@ impl PartialResolvent {
         self.put(lit)
     }
 
-    // Adds the literals of a clause but one.
     fn put_others(&mut self, lits: &[Lit], but: Lit) -> Result<(), NoMemory>
         requires { AreListed self.old }
-        ensures held { OnOk result ((l : Lit) → held self.new l ≡ union (held self.old) (without (literals_of lits.now) but) l) }
+        ensures held { OnOk result ((l : Lit) → held self.new l ≡ union (held self.old) (without_literal (literals_of lits.now) but) l) }
         ensures listed { OnOk result (AreListed self.new) }
     {
         for lit in lits {
@@ -126,7 +128,6 @@ impl PartialResolvent {
         Ok(())
     }
 
-    // Takes one literal out, and adds the literals of a clause but the other.
     fn replace(&mut self, own: Lit, named: &[Lit], other: Lit) -> Result<(), NoMemory>
         requires { AreListed self.old }
         ensures held { OnOk result ((l : Lit) → held self.new l ≡ resolvent (held self.old) (literals_of named.now) own other l) }
@@ -136,7 +137,8 @@ impl PartialResolvent {
         self.put_others(named, other)
     }
 
-    /// Resolves with a clause on a variable, where they have it with two signs.
+    /// False, and nothing changes, where the two do not have the variable with two signs. Where both have it with both
+    /// signs, the resolvent loses the positive literal and the clause the negated one.
     pub fn resolve(&mut self, named: &[Lit], var: u32) -> Result<bool, NoMemory>
         requires { AreListed self.old }
         ensures resolved { IfOk result (λ yes. yes ≡ true → resolution (held self.old) (literals_of named.now) var ≡ Some (held self.new)) }
@@ -156,7 +158,7 @@ impl PartialResolvent {
         Ok(false)
     }
 
-    // How many places of the list have a marked literal, so at least as many as the literals.
+    // An upper bound on the number of literals, so that `drain` allocates once.
     fn count(&self) -> usize
         ensures { result ≤ length self.now.marked.items }
     {
@@ -169,7 +171,8 @@ impl PartialResolvent {
         count
     }
 
-    /// Gives the literals out, each once, and is empty then.
+    /// The literals, each once, in no promised order. A literal that is listed twice is taken out at its first place,
+    /// so the second gives nothing. The marks stay allocated for the next chain.
     pub fn drain(&mut self, alloc: Global) -> Result<SmallVec<Lit, 4>, NoMemory>
         requires { AreListed self.old }
         ensures given { IfOk result (λ made. (l : Lit) → literals_of made.items l ≡ held self.old l) }

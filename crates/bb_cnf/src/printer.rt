@@ -1,4 +1,6 @@
-// The lines of clauses and refutations.
+//! Prints clauses and refutations as lines. All or nothing: where memory ends within a proof, the text is cut back to
+//! what it was, so that no caller can take half a proof for a whole one.
+
 ghost use Rattle.std.specs.Prelude.{◌≡◌, ◌++◌, ◌+◌, ◌<◌, ◌≤◌, ◌^◌, decimal, flat_map, length, OnOk, OnErr};
 ghost use Rattle.bb_cnf.specs.Clauses.{lists_of};
 ghost use Rattle.bb_cnf.specs.Lines.{literal_text, clause_line, pair_text, step_line, clause_lines, step_lines, proof_lines};
@@ -8,7 +10,6 @@ use crate::{Cnf, Lit, NoMemory, Refutation, Step};
 use itoa::Buffer;
 use smallvec::SmallVec;
 
-// Appends bytes.
 fn put_text(into: &mut Vec<u8>, text: &[u8]) -> Result<(), NoMemory>
     ensures ok { OnOk result (into.new.items ≡ into.old.items ++ text.now) }
     ensures err { OnErr result (IsKept into.old.items into.new.items) }
@@ -16,7 +17,6 @@ fn put_text(into: &mut Vec<u8>, text: &[u8]) -> Result<(), NoMemory>
     into.extend_from_slice(text)
 }
 
-// Appends a decimal number.
 fn put_number(into: &mut Vec<u8>, number: u64) -> Result<(), NoMemory>
     ensures ok { OnOk result (into.new.items ≡ into.old.items ++ decimal number) }
     ensures err { OnErr result (IsKept into.old.items into.new.items) }
@@ -122,7 +122,8 @@ fn put_lines(
     put_steps(into, clauses.len() as u64, steps)
 }
 
-/// Appends the lines of the clauses and of the steps. Where there is no memory for them, the text is as before.
+/// The lines of the clauses, then those of the steps, in the order of their numbers. After an error the text is as
+/// before.
 pub fn print(cnf: &Cnf, refutation: &Refutation, into: &mut Vec<u8>) -> Result<(), NoMemory>
     ensures ok { OnOk result (into.new.items ≡ into.old.items ++ proof_lines cnf.now.clauses refutation.now.steps.items) }
     ensures err { OnErr result (into.new.items ≡ into.old.items) }

@@ -1,14 +1,15 @@
-// Refutations by resolution.
+//! Refutations as lists of resolution chains. A step names its clauses by number and each variable on which it
+//! resolves, so checking it needs no search.
 
-/// One step: it begins with the clause `first`, and each pair is a resolution of the clause that it has come
-/// to with the clause of that number, on that variable. It makes the next clause.
+/// The chain begins with the clause `first`; each pair is the number of a clause and the variable on which the clause
+/// so far is resolved with it. The step makes the next clause, numbered after all given and earlier ones.
 #[derive(Debug, Drop)]
 pub struct Step {
     pub first: u64,
     pub rest: Vec<(u64, u32)>,
 }
 
-/// Steps that make the clauses with the numbers from the number of given clauses upwards.
+/// The first step's clause has the number of given clauses as its number.
 #[derive(Debug, Drop)]
 pub struct Refutation {
     pub steps: Vec<Step>,

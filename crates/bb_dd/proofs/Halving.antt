@@ -61,8 +61,8 @@ module _ (given : Given) where
       settles (λ q. truth_at (truth_of s q) point) zero_bit one_bit ∙ sym (result_at s op f g h point long))
 
   pub adds_terminal : (s : NodeStore) → IsStore s → (op : Bool → Bool → Bool → Bool) (f g h r : ℕ) → IsRef s f → IsRef s g → IsRef s h → Settles op f g h r → IsGiven f g h r → Adds s s (result_table s op f g h) r
-  adds_terminal s sound op f g h r f_ref g_ref h_ref settles told =
-      given.growth.adds_nothing s sound (result_table s op f g h) r (given_ref s f g h r f_ref g_ref h_ref told) (settled_table s op f g h r settles)
+  adds_terminal s sound op f g h r f_ref g_ref h_ref settles reported =
+      given.growth.adds_nothing s sound (result_table s op f g h) r (given_ref s f g h r f_ref g_ref h_ref reported) (settled_table s op f g h r settles)
 
   -- where no result shows at once, some operand has a variable
   first_within : (s : NodeStore) → IsStore s → (f g h v : ℕ) → IsRef s f → IsRef s g → (f < 2 → g < 2 → ⊥) → v ≡ min (min (top_of s f) (top_of s g)) (top_of s h) → v < s.vars

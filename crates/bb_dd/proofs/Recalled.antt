@@ -21,7 +21,7 @@ key_kept old new kept (Apply op f g h) refs =
     ((kept.refs f.0 refs.0, kept.refs g.0 refs.1, kept.refs h.0 refs.2), result_kept old new kept (value_of op) f.0 g.0 h.0 refs.0 refs.1 refs.2)
 key_kept old new kept (Quantify all f v) refs = ((kept.refs f.0 refs.0, omega (arith, refs.1, kept.vars)), ap (quantified (quantifier all) v) (kept.tables f.0 refs.0))
 
--- where more nodes stand, an entry stays right
+-- where more nodes are, an entry stays right
 pub IsRight-kept : (old new : NodeStore) → Keeps old new → (e : Key × Ref) → IsRight old e → IsRight new e
 IsRight-kept old new kept e right =
     let k = key_kept old new kept e.0 right.operands in

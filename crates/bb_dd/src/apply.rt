@@ -1,3 +1,8 @@
+//! The one recursion of all operations (Bryant 1986; Knuth TAOCP 4A, 7.1.4): a function of three operands, applied
+//! to both cofactors at the first variable. One recursion and one definition serve not, the binary joins and the
+//! conditional, so there is one proof. It returns a diagram or `Full` and nothing else: want of memory in the cache
+//! only loses a result.
+
 ghost use Rattle.std.specs.Prelude.{◌≡◌, ◌<◌, length, IfOk, IsErrOf, OnErr};
 ghost use Rattle.bb_bits.specs.Truth.{truth_at};
 ghost use Rattle.bb_uniq.specs.Inside.Nodes.{IsRef, IsBelow, IsStore, IsNew, Gives};
@@ -15,7 +20,6 @@ use bb_bits::truth;
 use bb_uniq::{Ref, Store, View, laws};
 use lru::LruCache;
 
-/// The node "`hi` where `var` is 1, else `lo`", as the store makes it.
 pub fn make_node(store: &mut Store, var: u32, lo: Ref, hi: Ref) -> Result<Ref, DdFault>
     requires store { IsStore store.old }
     requires var { var < store.old.vars }
@@ -34,7 +38,7 @@ pub fn make_node(store: &mut Store, var: u32, lo: Ref, hi: Ref) -> Result<Ref, D
     Ok(made)
 }
 
-/// The bit of a diagram at a point, by the walk from node to child.
+/// `point` has a bit for each variable, the first first.
 pub fn bit_at(store: &Store, f: Ref, point: &[bool]) -> bool
     requires f { IsRef store.now f.0 }
     requires point { length point.now ≡ store.now.vars }
@@ -53,8 +57,8 @@ pub fn bit_at(store: &Store, f: Ref, point: &[bool]) -> bool
     }
 }
 
-/// The operation on three diagrams, over the later variables first. A result that shows at once or is cached is taken; else
-/// the two halves at the first variable are made, and the node that joins them.
+/// Ends since both halves are over later variables. Terminal cases come before the cache, which then has no trivial
+/// entries.
 pub fn apply(store: &mut Store, cache: &mut LruCache<Key, Ref>, call: Call) -> Result<Ref, DdFault>
     requires store { IsStore store.old }
     requires entries { AreRight store.old cache.old.entries }
@@ -103,7 +107,6 @@ pub fn apply(store: &mut Store, cache: &mut LruCache<Key, Ref>, call: Call) -> R
     Ok(r)
 }
 
-/// The operation on three diagrams.
 pub fn operate(
     store: &mut Store,
     cache: &mut LruCache<Key, Ref>,

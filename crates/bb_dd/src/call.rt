@@ -1,9 +1,11 @@
+//! A call of the recursion as one value, so that its contract speaks of one argument.
+
 ghost use Rattle.std.specs.Prelude.{◌≡◌};
 
 use crate::key::{Key, Operation};
 use bb_uniq::Ref;
 
-/// An operation and its operands. An operation of fewer operands has its first one again in place of the rest.
+/// An operation of fewer operands repeats its first one in the unused places, so that equal calls have equal keys.
 #[derive(Clone, Copy)]
 pub struct Call {
     pub operation: Operation,
@@ -12,7 +14,6 @@ pub struct Call {
     pub h: Ref,
 }
 
-/// The key under which the result is cached.
 pub fn key_of(call: Call) -> Key
     ensures { result ≡ Key.Apply call.operation call.f call.g call.h }
 {

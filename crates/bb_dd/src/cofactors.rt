@@ -1,10 +1,13 @@
+//! Cofactors of up to three diagrams at the first variable of any of them, the step that keeps the recursion of `apply`
+//! in the order of variables.
+
 ghost use Rattle.std.specs.Prelude.{◌≡◌, min};
 ghost use Rattle.bb_uniq.specs.Inside.Nodes.{IsRef, view_of};
 ghost use Rattle.bb_uniq.specs.Inside.Cofactors.{top_of, variable_seen, lo_seen, hi_seen};
 
 use bb_uniq::{Ref, Store, View};
 
-/// The variable of what is seen, and for a leaf the number of variables.
+/// Leaves come after all variables, so the minimum needs no case for them.
 fn variable_of(vars: u32, seen: View) -> u32
     ensures { result ≡ variable_seen vars seen }
 {
@@ -14,7 +17,7 @@ fn variable_of(vars: u32, seen: View) -> u32
     }
 }
 
-/// The two diagrams of later variables: where `var` is 0, and where it is 1.
+/// A diagram that begins later is its own cofactor.
 fn cofactors_at(seen: View, var: u32, r: Ref) -> (Ref, Ref)
     ensures lo { result.0.0 ≡ lo_seen var r.0 seen }
     ensures hi { result.1.0 ≡ hi_seen var r.0 seen }
@@ -25,7 +28,7 @@ fn cofactors_at(seen: View, var: u32, r: Ref) -> (Ref, Ref)
     }
 }
 
-/// Three diagrams at the first variable on which one of them depends.
+/// Each pair has the cofactor at 0 first.
 #[derive(Clone, Copy)]
 pub struct Cofactors {
     pub var: u32,
@@ -34,7 +37,6 @@ pub struct Cofactors {
     pub h: (Ref, Ref),
 }
 
-/// The cofactors of three diagrams at the first variable of any.
 pub fn first_cofactors(store: &Store, f: Ref, g: Ref, h: Ref) -> Cofactors
     requires f { IsRef store.now f.0 }
     requires g { IsRef store.now g.0 }

@@ -1,7 +1,10 @@
+//! Store and cache together. A diagram's meaning is its truth table over all variables, so the contracts of operations
+//! are equations of tables, and canonicity makes equivalence a comparison of numbers.
+
 ghost use Rattle.std.specs.Prelude.{◌≡◌, ◌<◌, ◌≤◌, ℕ, [], ◌&&◌, ◌||◌, Some, length, IfOk, OnOk, OnErr, IsErrOf, IfSome, IfNone, Contains};
 ghost use Rattle.std.specs.Map.{lookup};
 ghost use Rattle.lru.specs.LruCache.{lru_cache, promoted, put_entries};
-ghost use Rattle.bb_bits.specs.Truth.{variable, complement, joined, chosen, quantified, truth_at};
+ghost use Rattle.bb_bits.specs.Truth.{variable, complement_of_table, joined_tables, chosen, quantified, truth_at};
 ghost use Rattle.bb_bits.specs.TruthSets.{HasSize};
 ghost use Rattle.bb_uniq.specs.Inside.Nodes.{IsRef, IsBelow, IsNew, Gives, view_of};
 ghost use Rattle.bb_uniq.specs.Inside.Meaning.{truth_of, branch, Adds, Keeps, IsTooMany, IsHeld, ViewMeans};
@@ -20,8 +23,8 @@ use std::alloc::Global;
 use std::marker::Model;
 use std::num::NonZeroUsize;
 
-/// Decision diagrams over one store, with a cache of results. A diagram means its truth table over all variables, the first
-/// variable most significant.
+/// BDDs over one store, with a cache of results. A diagram means its truth table over all variables, the first variable
+/// most significant.
 #[derive(Drop)]
 pub struct Diagrams {
     store: Store,
@@ -39,7 +42,8 @@ impl Model for Diagrams {
 }
 
 impl Diagrams {
-    /// Diagrams of so many variables with no inner node, for at most `limit` inner nodes and `cache` cached results.
+    /// At most `limit` inner nodes and `cache` cached results. The room of the limit is taken here, so `Full` later
+    /// never means want of memory.
     pub fn start(alloc: Global, vars: u32, limit: u32, cache: u32) -> Result<Diagrams, NoMemory>
         requires vars { vars ≤ 2048 }
         requires limit { limit ≤ 50000000 }
@@ -57,7 +61,7 @@ impl Diagrams {
         }
     }
 
-    /// How many inner nodes, and so how many beads, are held.
+    /// Inner nodes, without the two leaves; the number of beads.
     pub fn len(&self) -> u32
         ensures nodes { result ≡ length self.now.store.nodes }
         ensures beads { HasSize (IsHeld self.now.store) result }
@@ -65,7 +69,7 @@ impl Diagrams {
         self.store.len()
     }
 
-    /// What stands at a diagram.
+    /// A leaf, or a node with its children.
     pub fn view(&self, r: Ref) -> View
         requires { IsRef self.now.store r.0 }
         ensures view { result ≡ view_of self.now.store r.0 }
@@ -74,8 +78,8 @@ impl Diagrams {
         self.store.view(r)
     }
 
-    /// What the diagrams keep: the store is one of reduced ordered diagrams, each cached result is what its key defines, and
-    /// Refs with one truth table are one Ref.
+    /// For proofs: the store is reduced and ordered, each cached result is what its key defines, and Refs with one
+    /// truth table are the same Ref.
     pub fn is_canonical(&self)
         ensures sound { IsSound self.now }
         ensures refs { (r q : ℕ) → IsRef self.now.store r → IsRef self.now.store q → truth_of self.now.store r ≡ truth_of self.now.store q → r ≡ q }
@@ -83,7 +87,7 @@ impl Diagrams {
         self.store.is_canonical();
     }
 
-    /// The bit of a diagram at a point, which gives each variable a value, the first one first.
+    /// `point` has a bit for each variable, the first first.
     pub fn at(&self, f: Ref, point: &[bool]) -> bool
         requires f { IsRef self.now.store f.0 }
         requires point { length point.now ≡ self.now.store.vars }
@@ -92,8 +96,8 @@ impl Diagrams {
         bit_at(&self.store, f, point)
     }
 
-    /// The node "`hi` where `var` is 1, else `lo`". Where both are one it is that child; where the store has the node it is
-    /// that node; else the node is added.
+    /// The node "`hi` where `var` is 1, else `lo`", reduced: equal children give that child, and a node that exists is
+    /// shared. Children have to begin later than `var`.
     ///
     /// # Errors
     ///
@@ -113,7 +117,7 @@ impl Diagrams {
         make_node(&mut self.store, var, lo, hi)
     }
 
-    /// The diagram of a variable.
+    /// A node is added at the first call for `v` only.
     pub fn var(&mut self, v: u32) -> Result<Ref, DdFault>
         requires { v < self.old.store.vars }
         ensures ok { IfOk result (λ r. Adds self.old.store self.new.store (variable self.old.store.vars v) r.0) }
@@ -129,11 +133,11 @@ impl Diagrams {
         make_node(&mut self.store, v, Ref(0), Ref(1))
     }
 
-    /// The complement: the other bit at every point.
+    /// Has as many nodes as `f`: there are no complement edges.
     pub fn not(&mut self, f: Ref) -> Result<Ref, DdFault>
         requires { IsRef self.old.store f.0 }
-        ensures ok { IfOk result (λ r. Adds self.old.store self.new.store (complement (truth_of self.old.store f.0)) r.0) }
-        ensures full { IsErrOf result DdFault.Full → IsTooMany self.old.store (complement (truth_of self.old.store f.0)) }
+        ensures ok { IfOk result (λ r. Adds self.old.store self.new.store (complement_of_table (truth_of self.old.store f.0)) r.0) }
+        ensures full { IsErrOf result DdFault.Full → IsTooMany self.old.store (complement_of_table (truth_of self.old.store f.0)) }
         ensures kept { Keeps self.old.store self.new.store }
         ensures entries { KeepsEntries self.old.entries self.new.entries }
         ensures capacity { self.new.capacity ≡ self.old.capacity }
@@ -141,12 +145,12 @@ impl Diagrams {
         operate(&mut self.store, &mut self.cache, Operation::Not, f, f, f)
     }
 
-    /// The conjunction.
+    /// 1 where both are 1.
     pub fn and(&mut self, f: Ref, g: Ref) -> Result<Ref, DdFault>
         requires f { IsRef self.old.store f.0 }
         requires g { IsRef self.old.store g.0 }
-        ensures ok { IfOk result (λ r. Adds self.old.store self.new.store (joined ◌&&◌ (truth_of self.old.store f.0) (truth_of self.old.store g.0)) r.0) }
-        ensures full { IsErrOf result DdFault.Full → IsTooMany self.old.store (joined ◌&&◌ (truth_of self.old.store f.0) (truth_of self.old.store g.0)) }
+        ensures ok { IfOk result (λ r. Adds self.old.store self.new.store (joined_tables ◌&&◌ (truth_of self.old.store f.0) (truth_of self.old.store g.0)) r.0) }
+        ensures full { IsErrOf result DdFault.Full → IsTooMany self.old.store (joined_tables ◌&&◌ (truth_of self.old.store f.0) (truth_of self.old.store g.0)) }
         ensures kept { Keeps self.old.store self.new.store }
         ensures entries { KeepsEntries self.old.entries self.new.entries }
         ensures capacity { self.new.capacity ≡ self.old.capacity }
@@ -154,12 +158,12 @@ impl Diagrams {
         operate(&mut self.store, &mut self.cache, Operation::And, f, g, f)
     }
 
-    /// The disjunction.
+    /// 1 where at least one is 1.
     pub fn or(&mut self, f: Ref, g: Ref) -> Result<Ref, DdFault>
         requires f { IsRef self.old.store f.0 }
         requires g { IsRef self.old.store g.0 }
-        ensures ok { IfOk result (λ r. Adds self.old.store self.new.store (joined ◌||◌ (truth_of self.old.store f.0) (truth_of self.old.store g.0)) r.0) }
-        ensures full { IsErrOf result DdFault.Full → IsTooMany self.old.store (joined ◌||◌ (truth_of self.old.store f.0) (truth_of self.old.store g.0)) }
+        ensures ok { IfOk result (λ r. Adds self.old.store self.new.store (joined_tables ◌||◌ (truth_of self.old.store f.0) (truth_of self.old.store g.0)) r.0) }
+        ensures full { IsErrOf result DdFault.Full → IsTooMany self.old.store (joined_tables ◌||◌ (truth_of self.old.store f.0) (truth_of self.old.store g.0)) }
         ensures kept { Keeps self.old.store self.new.store }
         ensures entries { KeepsEntries self.old.entries self.new.entries }
         ensures capacity { self.new.capacity ≡ self.old.capacity }
@@ -167,12 +171,12 @@ impl Diagrams {
         operate(&mut self.store, &mut self.cache, Operation::Or, f, g, f)
     }
 
-    /// The exclusive disjunction: 1 where the two differ.
+    /// 1 where the two differ.
     pub fn xor(&mut self, f: Ref, g: Ref) -> Result<Ref, DdFault>
         requires f { IsRef self.old.store f.0 }
         requires g { IsRef self.old.store g.0 }
-        ensures ok { IfOk result (λ r. Adds self.old.store self.new.store (joined xor (truth_of self.old.store f.0) (truth_of self.old.store g.0)) r.0) }
-        ensures full { IsErrOf result DdFault.Full → IsTooMany self.old.store (joined xor (truth_of self.old.store f.0) (truth_of self.old.store g.0)) }
+        ensures ok { IfOk result (λ r. Adds self.old.store self.new.store (joined_tables xor (truth_of self.old.store f.0) (truth_of self.old.store g.0)) r.0) }
+        ensures full { IsErrOf result DdFault.Full → IsTooMany self.old.store (joined_tables xor (truth_of self.old.store f.0) (truth_of self.old.store g.0)) }
         ensures kept { Keeps self.old.store self.new.store }
         ensures entries { KeepsEntries self.old.entries self.new.entries }
         ensures capacity { self.new.capacity ≡ self.old.capacity }
@@ -180,7 +184,7 @@ impl Diagrams {
         operate(&mut self.store, &mut self.cache, Operation::Xor, f, g, f)
     }
 
-    /// The choice: `f` where `c` is 1, else `g`.
+    /// `f` where `c` is 1, else `g`, made in one walk and not of joins, so no helper functions count.
     pub fn ite(&mut self, c: Ref, f: Ref, g: Ref) -> Result<Ref, DdFault>
         requires c { IsRef self.old.store c.0 }
         requires f { IsRef self.old.store f.0 }
@@ -194,7 +198,7 @@ impl Diagrams {
         operate(&mut self.store, &mut self.cache, Operation::Ite, c, f, g)
     }
 
-    /// The cached result of quantifying the variable `v` in `f`, by "for all" or by "exists". It is then the last used.
+    /// The cached result of quantifying `v` in `f`, by "for all" or by "exists". Counts as a use.
     pub fn recall(&mut self, all: bool, f: Ref, v: u32) -> Option<Ref>
         requires f { IsRef self.old.store f.0 }
         requires v { v < self.old.store.vars }
@@ -210,7 +214,7 @@ impl Diagrams {
         look_up(&mut self.cache, &Key::Quantify { all, f, v })
     }
 
-    /// Puts a result of quantifying the variable `v` in `f` into the cache. Where no memory is found, all stays as it is.
+    /// Caches a result of quantifying. Without memory all stays as it is, and the error may be ignored.
     pub fn keep(&mut self, all: bool, f: Ref, v: u32, r: Ref) -> Result<(), NoMemory>
         requires f { IsRef self.old.store f.0 }
         requires v { v < self.old.store.vars }

@@ -1,11 +1,13 @@
+//! The only fault of an operation: memory is no fault here, since the store has its room from the start.
+
 ghost use Rattle.std.specs.Prelude.{◌≡◌};
 
 use bb_uniq::StoreFault;
 
-/// Why a diagram is not made.
+/// An operation fails only at the limit, never for want of memory.
 #[derive(Clone, Copy, Debug, PartialEq, Eq)]
 pub enum DdFault {
-    /// With its result the store would hold more beads than its limit.
+    /// The result has beads beyond the limit of the store. What was made on the way stays.
     Full,
 }
 

@@ -1,3 +1,5 @@
+//! Keys of cached results. One enum serves operations and quantifiers, so both share one cache and its capacity.
+
 ghost use Rattle.std.specs.Prelude.{◌≡◌, ◌<◌, ◌*◌, ◌+◌, ◌^◌, true};
 ghost use Rattle.std.specs.Hash as fed;
 ghost use Rattle.std.specs.Cmp.Rules.{hashing};
@@ -17,8 +19,8 @@ pub enum Operation {
     Ite,
 }
 
-/// What a cached result is the result of: an operation on three diagrams, or a variable quantified in a diagram, by "for all"
-/// or by "exists". An operation of fewer operands has its first one again in place of the rest.
+/// An operation on three diagrams, or a variable quantified in one, by "for all" or "exists". Operations of fewer
+/// operands repeat the first one.
 #[derive(Clone, Copy, Debug, PartialEq, Eq)]
 pub enum Key {
     Apply {
@@ -53,7 +55,7 @@ fn joined_fields(a: u32, b: u32, c: u32, d: u32) -> u128
     (above + c as u128) * 4294967296 + d as u128
 }
 
-// One write in place of five, since each step of an operation hashes a key.
+// One write instead of five: every step of an operation hashes a key.
 impl Hash for Key {
     ghost hash_input = { λ k. fed.u128 (number_of_key k) };
 
@@ -68,7 +70,7 @@ impl Hash for Key {
     }
 }
 
-/// Keys compare as equal exactly where they are one key.
+/// A cached result is used only for the key that it was made for: equal keys have equal fields.
 pub fn same_keys()
     ensures same { (a b : Key) → ⟦<Key as PartialEq>⟧.eq a b ≡ true → a ≡ b }
     ensures equal { (a : Key) → ⟦<Key as PartialEq>⟧.eq a a ≡ true }

@@ -1,4 +1,6 @@
-//! Decision diagrams: operations on Boolean functions that are held as nodes of one store, with a cache of results.
+//! Reduced ordered BDDs (Knuth TAOCP 4A, 7.1.4): Boolean functions as nodes of one store, and operations with a cache
+//! of results. There are no complement edges and no reordering, so the nodes are exactly the beads of the functions
+//! held, a number that a report may promise.
 #![tactic(auto)]
 
 mod apply;

@@ -1,3 +1,6 @@
+//! Terminal cases: results that are a leaf or an operand, seen without looking below. They come before the cache,
+//! so such calls take no entries.
+
 ghost use Rattle.std.specs.Prelude.{◌≡◌, ◌<◌, ◌≤◌, ℕ, Bool, true, false, not, ◌&&◌, ◌||◌, if◌then◌else◌, IfSome, IfNone};
 ghost use Rattle.bb_bits.specs.Bits.{xor};
 ghost use Rattle.bb_dd.specs.Inside.Operations.{value_of};
@@ -6,7 +9,6 @@ ghost use Rattle.bb_dd.specs.Inside.Terminals.{Settles, IsGiven};
 use crate::key::Operation;
 use bb_uniq::Ref;
 
-/// The complement of a leaf.
 fn not_terminal(f: Ref) -> Option<Ref>
     ensures value { IfSome result (λ r. Settles (λ a b c. not a) f.0 f.0 f.0 r.0) }
     ensures leaf { IfSome result (λ r. r.0 < 2) }
@@ -19,7 +21,6 @@ fn not_terminal(f: Ref) -> Option<Ref>
     }
 }
 
-/// The conjunction where an operand is a leaf, or both are one.
 fn and_terminal(f: Ref, g: Ref) -> Option<Ref>
     ensures value { IfSome result (λ r. Settles (λ a b c. a && b) f.0 g.0 f.0 r.0) }
     ensures given { IfSome result (λ r. IsGiven f.0 g.0 f.0 r.0) }
@@ -34,7 +35,6 @@ fn and_terminal(f: Ref, g: Ref) -> Option<Ref>
     }
 }
 
-/// The disjunction where an operand is a leaf, or both are one.
 fn or_terminal(f: Ref, g: Ref) -> Option<Ref>
     ensures value { IfSome result (λ r. Settles (λ a b c. a || b) f.0 g.0 f.0 r.0) }
     ensures given { IfSome result (λ r. IsGiven f.0 g.0 f.0 r.0) }
@@ -49,7 +49,7 @@ fn or_terminal(f: Ref, g: Ref) -> Option<Ref>
     }
 }
 
-/// The exclusive disjunction where an operand is false, or both are one.
+/// An operand that is true is no terminal case: its result, a complement, may need new nodes.
 fn xor_terminal(f: Ref, g: Ref) -> Option<Ref>
     ensures value { IfSome result (λ r. Settles (λ a b c. xor a b) f.0 g.0 f.0 r.0) }
     ensures given { IfSome result (λ r. IsGiven f.0 g.0 f.0 r.0) }
@@ -62,7 +62,6 @@ fn xor_terminal(f: Ref, g: Ref) -> Option<Ref>
     }
 }
 
-/// The choice where the condition is a leaf, both branches are one, or they are the bits of the condition.
 fn ite_terminal(f: Ref, g: Ref, h: Ref) -> Option<Ref>
     ensures value { IfSome result (λ r. Settles (λ a b c. if a then b else c) f.0 g.0 h.0 r.0) }
     ensures given { IfSome result (λ r. IsGiven f.0 g.0 h.0 r.0) }
@@ -79,7 +78,7 @@ fn ite_terminal(f: Ref, g: Ref, h: Ref) -> Option<Ref>
     }
 }
 
-/// The condition itself, where it chooses between true and false.
+/// `if f then 1 else 0` is `f`. Its negation needs new nodes.
 fn ite_of_leaves(f: Ref, g: Ref, h: Ref) -> Option<Ref>
     ensures value { IfSome result (λ r. Settles (λ a b c. if a then b else c) f.0 g.0 h.0 r.0) }
     ensures given { IfSome result (λ r. r.0 ≡ f.0) }
@@ -90,7 +89,7 @@ fn ite_of_leaves(f: Ref, g: Ref, h: Ref) -> Option<Ref>
     }
 }
 
-/// The result of an operation, where it is a leaf or an operand and this shows without looking below.
+/// None only where an operand is no leaf.
 pub fn terminal(operation: Operation, f: Ref, g: Ref, h: Ref) -> Option<Ref>
     ensures value { IfSome result (λ r. Settles (value_of operation) f.0 g.0 h.0 r.0) }
     ensures given { IfSome result (λ r. IsGiven f.0 g.0 h.0 r.0) }

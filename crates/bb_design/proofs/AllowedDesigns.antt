@@ -8,7 +8,7 @@ use Rattle.bb_ast.specs.Inside.Formed.{IsFormed, IsFormedBody, IsFormedGate}
 use Rattle.bb_ast.specs.Gates.{output_count}
 use Rattle.bb_ast.specs.Syntax.{Expression, Net, PlainConns, Order, Named, PlainBody, Ports, Nets, Regs, Supply, Assign, Gates, Calls, Always, PlainItem, PlainModule}
 use Rattle.bb_names.specs.Faults.{is_input}
-use Rattle.bb_names.specs.Spots.{Pin, module_named}
+use Rattle.bb_names.specs.Sites.{Pin, module_named}
 use Rattle.bb_bits.specs.Contents.{Contents, HasShape}
 use Rattle.bb_design.specs.Hierarchy.{Design, Scope, scopes, is_box, boxes, top_of}
 use Rattle.bb_design.specs.NetBits.{input_bits, output_bits}
@@ -20,13 +20,13 @@ use Rattle.bb_design.specs.Laws.{BitsAreThere, ScopesAreEnds}
 use Rattle.bb_design.specs.Inside.Allowed.{IsBounded, SoundTextsAreAllowed}
 use Rattle.bb_design.specs.Texts.{path_text}
 use Rattle.bb_design.specs.Worlds.{FitDesign}
-use Rattle.bb_lists.proofs.Members.{all_from, from_flat, from_map, contains_cases, none_in_nil, keeps, each_of}
+use Rattle.bb_lemmas.proofs.Members.{all_from, from_flat, from_map, contains_cases, none_in_nil, keeps, each_of}
 use Rattle.bb_design.specs.Laws.Wired.{IsWired}
 use Rattle.bb_design.proofs.ScopeLaws.{paths_lead_to_scopes}
 use Rattle.bb_design.proofs.SoundBits.{nets_there, sound_bits_are_there}
 use Rattle.bb_design.proofs.SoundConstructs.{sound_constructs_are_legal}
 use Rattle.bb_design.proofs.SoundNames.{sound_texts_have_names_apart}
-use Rattle.bb_design.proofs.SoundSpots.{source_there}
+use Rattle.bb_design.proofs.SoundSites.{source_there}
 use Rattle.bb_design.proofs.NamedTops.{tops_are_meant}
 use Rattle.std.proofs.lemmas.Option.{same_Some}
 
@@ -39,7 +39,7 @@ part_of d s c has =
     let same : y.0 ≡ c = ap (λ (u : Scope × Construct). u.1) y.2 in
     (subst (Contains (scopes d)) scope z.1, subst (λ u. Contains (constructs_at d.text u) c) scope (subst (Contains (constructs_at d.text z.0)) same y.1))
 
--- what stands in an item: no contents of a box, and gates that have inputs
+-- what is in an item: no contents of a box, and gates that have inputs
 HasInputs : Construct → Type 0
 HasInputs (GateInstance gate outs ins) = 1 ≤ length ins
 HasInputs (Assignment left right) = Unit {0}

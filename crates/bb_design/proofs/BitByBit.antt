@@ -26,8 +26,8 @@ use Rattle.bb_design.specs.Texts.{path_text}
 use Rattle.bb_design.specs.Worlds.{World, bit_in, bits_in}
 use Rattle.bb_design.specs.Laws.{WrittenBitsAreValue}
 use Rattle.bb_design.proofs.WrittenValue.{written_short}
-use Rattle.bb_lists.proofs.Ranges.{length-range}
-use Rattle.bb_lists.proofs.LowBits.{low-map, low-length}
+use Rattle.bb_lemmas.proofs.Ranges.{length-range}
+use Rattle.bb_lemmas.proofs.LowBits.{low-map, low-length}
 
 -- lists are equal where their elements are, place by place
 

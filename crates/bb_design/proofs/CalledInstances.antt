@@ -8,14 +8,14 @@ use Rattle.std.proofs.lemmas.Option.{get_or_from_slice_get}
 use Rattle.bb_bits.specs.Names.{same_name, placed}
 use Rattle.bb_ast.specs.Syntax.{PlainModule}
 use Rattle.bb_names.specs.Faults.{IsSound}
-use Rattle.bb_names.specs.Spots.{module_named}
+use Rattle.bb_names.specs.Sites.{module_named}
 use Rattle.bb_design.specs.Inside.Callees.{place_named, callees, called, callee_place, source_of, child}
 use Rattle.bb_design.specs.Hierarchy.{Instance, Scope, instances_of, instantiations, children, path_to}
-use Rattle.bb_lists.proofs.Places.{got-map}
-use Rattle.bb_lists.proofs.Members.{contains-map, into_flat, contains_here, contains_there, contains_cases, none_in_nil}
+use Rattle.bb_lemmas.proofs.Places.{got-map}
+use Rattle.bb_lemmas.proofs.Members.{contains-map, into_flat, contains_here, contains_there, contains_cases, none_in_nil}
 use Rattle.std.specs.Option.{unwrap_or}
 use Rattle.bb_design.proofs.SoundModules.{sound_texts_have_targets}
-use Rattle.bb_lists.proofs.Names.{same_self, same_turned}
+use Rattle.bb_lemmas.proofs.Names.{same_self, same_turned}
 
 abbrev names_of : List PlainModule → List (List ℕ)
 names_of ms = map (λ m. m.name) ms
@@ -54,8 +54,8 @@ module _ (text : List PlainModule) (sound : IsSound text) (m : PlainModule) (her
       (All-contains (λ (x : List ℕ × List ℕ). Contains (names_of text) x.1) (instantiations text) (m.name, i.target) (sound_texts_have_targets text sound)
       (into_flat (λ (x : PlainModule). map (λ (j : Instance). (x.name, j.target)) (instances_of x)) text m (m.name, i.target) here (contains-map (λ (j : Instance). (m.name, j.target)) (instances_of m) i has)))
 
-  pub stands : (i : Instance) → Contains (instances_of m) i → slice_get text (callee_place text i) ≡ Some (source_of text m i)
-  stands i has =
+  pub occurs : (i : Instance) → Contains (instances_of m) i → slice_get text (callee_place text i) ≡ Some (source_of text m i)
+  occurs i has =
       let t = target_there i has in
       let place : callee_place text i ≡ 0 + t.0 = ap (λ o. unwrap_or o 0) t.2 in
       ap (slice_get text) (place ∙ zero_plus t.0) ∙ t.3 ∙ ap (λ o. Some (unwrap_or o m)) (sym t.4)

@@ -1,4 +1,4 @@
--- The places of modules in a text without faults stand for their names.
+-- The places of modules in a text without faults implement their names.
 use Rattle.std.proofs.Common.{◌≡◌, ◌≢◌, ◌<◌, ◌+◌, ◌⊎◌, ℕ, Some, List, map, length, get_or, AllPairs, Contains, sym, ap, ◌∙◌, subst, inl, inr, arith}
 use Rattle.std.specs.Prelude.{slice_get}
 use Rattle.std.proofs.lemmas.List.{get_or_default, get_or-map, length-map}
@@ -6,11 +6,11 @@ use Rattle.bb_ast.specs.Syntax.{PlainModule}
 use Rattle.bb_design.specs.Inside.Callees.{place_named, callees}
 use Rattle.bb_design.specs.Hierarchy.{Instance, instances_of, instantiations}
 use Rattle.bb_design.specs.Laws.HierarchyLaws.{CalleesAreInstantiated}
-use Rattle.bb_lists.proofs.Members.{from_flat, from_map, contains-map, into_flat, from_filter, into_filter}
-use Rattle.bb_lists.proofs.Orders.{less_or_same}
+use Rattle.bb_lemmas.proofs.Members.{from_flat, from_map, contains-map, into_flat, from_filter, into_filter}
+use Rattle.bb_lemmas.proofs.Orders.{less_or_same}
 use Rattle.bb_design.proofs.SoundModules.{sound_texts_have_modules_apart}
-use Rattle.bb_lists.proofs.Names.{place-holds, holds-place}
-use Rattle.bb_lists.proofs.Places.{got-map}
+use Rattle.bb_lemmas.proofs.Names.{place-holds, holds-place}
+use Rattle.bb_lemmas.proofs.Places.{got-map}
 
 -- modules of one name are one module
 one_named : (text : List PlainModule) (a b : PlainModule) → AllPairs ◌≢◌ (map (λ m. m.name) text) → Contains text a → Contains text b → a.name ≡ b.name → a ≡ b

@@ -10,14 +10,14 @@ use Rattle.bb_names.specs.declared.net.NetInfo.{NetInfo}
 use Rattle.bb_names.specs.Faults.{IsSound}
 use Rattle.bb_names.specs.Nets.{nets_of}
 use Rattle.bb_names.specs.Ranges.{range_width}
-use Rattle.bb_names.specs.Spots.{module_named}
+use Rattle.bb_names.specs.Sites.{module_named}
 use Rattle.bb_expr.specs.Laws.FitLaws.{NetNamesDiffer}
 use Rattle.bb_design.specs.Hierarchy.{Design, Instance, Path, Scope, root, path_to, instances_of, children, below, scopes}
 use Rattle.bb_design.specs.NetBits.{Bit, bits_of_net, scope_bits, net_order}
 use Rattle.bb_design.specs.Laws.{HasNamesApart}
 use Rattle.bb_design.proofs.CalledInstances.{children_are}
 use Rattle.bb_design.specs.Inside.Callees.{child}
-use Rattle.bb_lists.proofs.Members.{from_flat, from_map, mapped_there, contains_here, contains_there, contains_cases, none_in_nil, from_find, from_filter_map, contains-map}
+use Rattle.bb_lemmas.proofs.Members.{from_flat, from_map, mapped_there, contains_here, contains_there, contains_cases, none_in_nil, from_find, from_filter_map, contains-map}
 use Rattle.bb_design.proofs.SoundNames.{sound_texts_have_names_apart}
 use Rattle.bb_bits.specs.Closures.{IsDistinct}
 
@@ -37,14 +37,14 @@ distinct_map : {A B : Type 0} (f : A → B) → ((x y : A) → f x ≡ f y → x
 distinct_map f one [] distinct = tt
 distinct_map f one (x ∷ xs) distinct = (λ has. let y = from_map f xs (f x) has in distinct.0 (subst (Contains xs) (one y.0 x y.2) y.1), distinct_map f one xs distinct.1)
 
--- what is made of things with different names is different where it tells the name
+-- what is made of things with different names is different where it says the name
 distinct_flat : {A B K : Type 0} (f : A → List B) (key : B → K) (name : A → K) (xs : List A) → ((x : A) → Contains xs x → IsDistinct (f x)) → ((x : A) (y : B) → Contains xs x → Contains (f x) y → key y ≡ name x) → IsDistinct (map name xs) → IsDistinct (flat_map f xs)
-distinct_flat f key name [] each told distinct = tt
-distinct_flat f key name (x ∷ xs) each told distinct =
-    distinct_append (f x) (flat_map f xs) (each x (contains_here x xs)) (distinct_flat f key name xs (λ z has. each z (contains_there x xs z has)) (λ z y has. told z y (contains_there x xs z has)) distinct.1)
+distinct_flat f key name [] each reported distinct = tt
+distinct_flat f key name (x ∷ xs) each reported distinct =
+    distinct_append (f x) (flat_map f xs) (each x (contains_here x xs)) (distinct_flat f key name xs (λ z has. each z (contains_there x xs z has)) (λ z y has. reported z y (contains_there x xs z has)) distinct.1)
     (λ y here later.
     let z = from_flat f xs y later in
-    distinct.0 (subst (Contains (map name xs)) (sym (told z.0 y (contains_there x xs z.0 z.1) z.2) ∙ told x y (contains_here x xs) here) (contains-map name xs z.0 z.1)))
+    distinct.0 (subst (Contains (map name xs)) (sym (reported z.0 y (contains_there x xs z.0 z.1) z.2) ∙ reported x y (contains_here x xs) here) (contains-map name xs z.0 z.1)))
 
 range_from : (a n k : ℕ) → Contains (range_with_len a n) k → a ≤ k
 range_from a zero k has = absurd (none_in_nil k has)
@@ -123,14 +123,14 @@ module _ (names : NetNamesDiffer) where
     distinct_below (suc n) s there = (
       longer (suc n) s,
       subst IsDistinct (sym (paths_flat (λ c. c ∷ below n text c) (children text s)))
-          (distinct_flat (λ c. paths (c ∷ below n text c)) key (λ (c : Scope). key c.path) (children text s) (λ c has. distinct_below n c (child_of s c has).2) told names_apart),
+          (distinct_flat (λ c. paths (c ∷ below n text c)) key (λ (c : Scope). key c.path) (children text s) (λ c has. distinct_below n c (child_of s c has).2) reported names_apart),
     )
       where
         key : Path → List ℕ
         key p = get_or p (length s.path) []
 
-        told : (c : Scope) (p : Path) → Contains (children text s) c → Contains (paths (c ∷ below n text c)) p → key p ≡ key c.path
-        told c p has at = by (contains_cases c.path (paths (below n text c)) p at)
+        reported : (c : Scope) (p : Path) → Contains (children text s) c → Contains (paths (c ∷ below n text c)) p → key p ≡ key c.path
+        reported c p has at = by (contains_cases c.path (paths (below n text c)) p at)
           where
             i : (m : List ℕ) × (c.path ≡ path_to s.path m) × Contains text c.source
             i = child_of s c has

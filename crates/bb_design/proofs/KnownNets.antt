@@ -14,10 +14,10 @@ use Rattle.bb_names.specs.Nets.{net_names, net_of, nets_of}
 use Rattle.bb_names.specs.Ranges.{range_width}
 use Rattle.bb_design.specs.Hierarchy.{Scope}
 use Rattle.bb_design.specs.NetBits.{Bit, bits_from, bits_of_net, scope_bits}
-use Rattle.bb_lists.proofs.Members.{from_flat, from_map, contains-map, into_flat, contains_here, contains_there, contains_cases, none_in_nil, kept_from, keeps, find_there, any_there, either}
-use Rattle.bb_lists.proofs.Ranges.{from_range, range_there}
+use Rattle.bb_lemmas.proofs.Members.{from_flat, from_map, contains-map, into_flat, contains_here, contains_there, contains_cases, none_in_nil, kept_from, keeps, find_there, any_there, either}
+use Rattle.bb_lemmas.proofs.Ranges.{from_range, range_there}
 
--- each name stands among those without repetition
+-- each name is among those without repetition
 pub once_there : (names : List (List ℕ)) (n : List ℕ) → Contains names n → Contains (once names) n
 once_there [] n has = absurd (none_in_nil n has)
 once_there (m ∷ names) n has = by (contains_cases m names n has) (either (same_name m n)) (once_there names n)

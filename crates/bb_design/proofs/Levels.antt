@@ -2,22 +2,22 @@
 use Rattle.std.proofs.Common.{◌≡◌, ℕ, ◌+◌, ◌<◌, ◌≤◌, Bool, true, false, if◌then◌else◌, List, [], ◌∷◌, map, Contains, refl, sym, ap, ◌∙◌, inl, inr, arith, true≢false}
 use Rattle.std.specs.Prelude.{◌⊎◌}
 use Rattle.bb_bits.specs.Closures.{Leads, One, More}
-use Rattle.bb_lists.proofs.Deciding.{Decision, Decides, decide_leads}
-use Rattle.bb_lists.proofs.Members.{contains_cases, none_in_nil, contains-map}
+use Rattle.bb_lemmas.proofs.Deciding.{Decision, Decides, decide_leads}
+use Rattle.bb_lemmas.proofs.Members.{contains_cases, none_in_nil, contains-map}
 
-abbrev is_told : {P : Type 0} → Decision P → Bool
-is_told (inl p) = true
-is_told (inr n) = false
+abbrev is_reported : {P : Type 0} → Decision P → Bool
+is_reported (inl p) = true
+is_reported (inr n) = false
 
-told_true : {P : Type 0} (h : Decision P) → P → is_told h ≡ true
-told_true (inl q) p = refl
-told_true (inr n) p = absurd (n p)
+reported_true : {P : Type 0} (h : Decision P) → P → is_reported h ≡ true
+reported_true (inl q) p = refl
+reported_true (inr n) p = absurd (n p)
 
-told_false : {P : Type 0} (h : Decision P) → (P → ⊥) → is_told h ≡ false
-told_false (inl q) n = absurd (n q)
-told_false (inr m) n = refl
+reported_false : {P : Type 0} (h : Decision P) → (P → ⊥) → is_reported h ≡ false
+reported_false (inl q) n = absurd (n q)
+reported_false (inr m) n = refl
 
-from_true : {P : Type 0} (h : Decision P) → is_told h ≡ true → P
+from_true : {P : Type 0} (h : Decision P) → is_reported h ≡ true → P
 from_true (inl p) e = p
 from_true (inr n) e = absurd (true≢false (sym e))
 
@@ -52,7 +52,7 @@ module _ {A : Type 0} where
 
 module _ {A : Type 0} (same : Decides A) (steps : List (A × A)) where
   reaches : A → A → Bool
-  reaches x z = is_told (decide_leads same steps x z)
+  reaches x z = is_reported (decide_leads same steps x z)
 
   -- how many ends of steps it leads to
   pub level : A → ℕ
@@ -61,5 +61,5 @@ module _ {A : Type 0} (same : Decides A) (steps : List (A × A)) where
   pub level_falls : (x y : A) → Contains steps (x, y) → (Leads steps y y → ⊥) → level y < level x
   unfolding level reaches
   level_falls x y has none = how_many-lt (reaches y) (reaches x) (map (λ s. s.1) steps) y
-      (λ z h. told_true (decide_leads same steps x z) (More has (from_true (decide_leads same steps y z) h)))
-      (contains-map (λ s. s.1) steps (x, y) has) (told_false (decide_leads same steps y y) none) (told_true (decide_leads same steps x y) (One has))
+      (λ z h. reported_true (decide_leads same steps x z) (More has (from_true (decide_leads same steps y z) h)))
+      (contains-map (λ s. s.1) steps (x, y) has) (reported_false (decide_leads same steps y y) none) (reported_true (decide_leads same steps x y) (One has))

@@ -21,7 +21,7 @@ pub mod SoundConstructs
 pub mod SoundModules
 pub mod SoundNames
 pub mod SoundRefusals
-pub mod SoundSpots
+pub mod SoundSites
 pub mod StageRefusals
 pub mod TermNets
 pub mod TextLaws

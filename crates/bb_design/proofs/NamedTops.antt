@@ -4,7 +4,7 @@ use lib.Pointwise.{bytes_decides}
 use Rattle.bb_bits.specs.Names.{same_name}
 use Rattle.bb_design.specs.Laws.{TopsAreMeant}
 use Rattle.bb_design.proofs.TopLaws.{top_is_only}
-use Rattle.bb_lists.proofs.Members.{from_find}
+use Rattle.bb_lemmas.proofs.Members.{from_find}
 
 pub tops_are_meant : TopsAreMeant
 tops_are_meant text None top e = top_is_only text top e

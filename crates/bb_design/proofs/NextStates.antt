@@ -1,11 +1,11 @@
--- The next state of a register is told by bits that are read, so worlds of one vector have the same cut outputs.
+-- The next state of a register is given by bits that are read, so worlds of one vector have the same cut outputs.
 use Rattle.std.proofs.Common.{◌≡◌, ◌⊎◌, ℕ, ◌≤◌, Bool, false, List, [], ◌∷◌, ◌++◌, map, flat_map, find, length, get_or, Contains, refl, sym, ap, ap₂, ◌∙◌, subst, inl, inr, arith}
 use Rattle.std.specs.List.{enumerate_from}
 use Rattle.std.proofs.lemmas.List.{map-append}
 use Rattle.std.proofs.lemmas.List.Elements.{Contains-append_left, Contains-append_right}
 use Rattle.bb_ast.specs.Syntax.{PlainAlways}
 use Rattle.bb_names.specs.Declarations.{range_of}
-use Rattle.bb_expr.specs.Cells.{Made}
+use Rattle.bb_expr.specs.Cells.{MadeTerms}
 use Rattle.bb_expr.specs.Laws.{MadeHasValue}
 use Rattle.bb_expr.specs.Terms.{Term, term_bit}
 use Rattle.bb_design.specs.Hierarchy.{Design, Scope}
@@ -14,13 +14,13 @@ use Rattle.bb_design.specs.Contexts.{width_of, context_width, value_in, made_in}
 use Rattle.bb_bits.specs.Bits.{low_bits}
 use Rattle.bb_design.specs.Constructs.{Construct, Assignment, GateInstance, Register, SupplyNet, InputConnection, OutputConnection, BoxContents, parts}
 use Rattle.bb_design.specs.Dependence.{bits_below}
-use Rattle.bb_design.specs.Reading.{operand_terms, bit_itself, read_beside, read_at, IsRead}
+use Rattle.bb_design.specs.Reading.{operand_terms, bit_itself, read_beside, read_at, IsReadBit}
 use Rattle.bb_design.specs.Registers.{RegisterBit, stored_at, stored, registers, data_terms}
 use Rattle.bb_design.specs.Texts.{bit_text}
 use Rattle.bb_design.specs.Worlds.{World, bit_in, next_bit, outputs_in}
 use Rattle.bb_net.specs.CutPoints.{CutOutput, TopOutput, NextState}
-use Rattle.bb_lists.proofs.LowBits.{low-map}
-use Rattle.bb_lists.proofs.Members.{from_flat, from_map, from_drop, into_flat, contains_here, contains_there, none_in_nil, from_find, from_filter_map}
+use Rattle.bb_lemmas.proofs.LowBits.{low-map}
+use Rattle.bb_lemmas.proofs.Members.{from_flat, from_map, from_drop, into_flat, contains_here, contains_there, none_in_nil, from_find, from_filter_map}
 use Rattle.bb_design.proofs.Operators.{closed}
 use Rattle.bb_design.proofs.ReadingLaw.{IsOperand, Below, below}
 use Rattle.bb_design.proofs.WorldLaws.{same_terms}
@@ -54,26 +54,26 @@ data_bits cells w s a =
     ap (low_bits n) (sym (cells (range_of s.source) (w s.path) a.right wide fits)) ∙ sym (low-map (term_bit (w s.path)) n (made_in s a.right wide).bits)
 
 -- what the right side of a register is made of
-abbrev right_side : Scope → PlainAlways → Made
+abbrev right_side : Scope → PlainAlways → MadeTerms
 right_side s a = made_in s a.right (context_width s a.left a.right)
 
 -- and what they are made of is read
-data_read : (d : Design) (s : Scope) (a : PlainAlways) → Contains (parts d) (s, Register a) → (t : Term) → Contains (data_terms s a) t → (c : Bit) → Contains (bits_below s.path t) c → IsRead d c
+data_read : (d : Design) (s : Scope) (a : PlainAlways) → Contains (parts d) (s, Register a) → (t : Term) → Contains (data_terms s a) t → (c : Bit) → Contains (bits_below s.path t) c → IsReadBit d c
 unfolding Below IsOperand
 data_read d s a has t at c low = by (below s.path (right_side s a).cells t c (closed (range_of s.source) a.right (context_width s a.left a.right) t (from_drop _ (right_side s a).bits t at)) low)
   where
     operands : List Bit
     operands = flat_map (λ cell. flat_map (bit_itself s.path) (operand_terms cell)) (right_side s a).cells
 
-    direct : Contains (read_at (s, Register a)) c → IsRead d c
+    direct : Contains (read_at (s, Register a)) c → IsReadBit d c
     direct h = inl (Contains-append_right (top_outputs d) (flat_map read_at (parts d)) c (into_flat read_at (parts d) (s, Register a) c has h))
 
-    by : Contains (bit_itself s.path t) c ⊎ ((cell : Term) × Contains (right_side s a).cells cell × Contains (flat_map (bit_itself s.path) (operand_terms cell)) c) → IsRead d c
+    by : Contains (bit_itself s.path t) c ⊎ ((cell : Term) × Contains (right_side s a).cells cell × Contains (flat_map (bit_itself s.path) (operand_terms cell)) c) → IsReadBit d c
     by (inl h) = direct (Contains-append_right operands (read_beside (s, Register a)) c (Contains-append_right (written_bits s a.clock) (flat_map (bit_itself s.path) (data_terms s a)) c (into_flat (bit_itself s.path) (data_terms s a) t c at h)))
     by (inr h) = direct (Contains-append_left operands (read_beside (s, Register a)) c (into_flat (λ cell. flat_map (bit_itself s.path) (operand_terms cell)) (right_side s a).cells h.0 c h.1 h.2))
 
-module _ (cells : MadeHasValue) (d : Design) (w u : World) (agree : (b : Bit) → IsRead d b → bit_in w b ≡ bit_in u b) where
-  terms_same : (s : Scope) (ts : List Term) → ((t : Term) → Contains ts t → (c : Bit) → Contains (bits_below s.path t) c → IsRead d c) → map (term_bit (w s.path)) ts ≡ map (term_bit (u s.path)) ts
+module _ (cells : MadeHasValue) (d : Design) (w u : World) (agree : (b : Bit) → IsReadBit d b → bit_in w b ≡ bit_in u b) where
+  terms_same : (s : Scope) (ts : List Term) → ((t : Term) → Contains ts t → (c : Bit) → Contains (bits_below s.path t) c → IsReadBit d c) → map (term_bit (w s.path)) ts ≡ map (term_bit (u s.path)) ts
   terms_same s [] read = refl
   terms_same s (t ∷ ts) read = ap₂ ◌∷◌ (same_terms s.path w u t (λ c low. agree c (read t (contains_here t ts) c low))) (terms_same s ts (λ y has. read y (contains_there t ts y has)))
 

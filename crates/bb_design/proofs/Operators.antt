@@ -13,12 +13,12 @@ use Rattle.bb_names.specs.Ranges.{distance, range_width, place_of}
 use Rattle.bb_names.specs.Widths.{Ranges, own_width, Operand, first_at, second_at, word_step, words_at}
 use Rattle.bb_expr.specs.Lists.{extended, copies, bitwise}
 use Rattle.bb_expr.specs.Terms.{Term, Const, Net, Not, And, Or, Xor, Mux, terms}
-use Rattle.bb_expr.specs.Cells.{Made, made, makes, net_terms, inverted, operated, chained, word_made, fold_made, any_from, any_bit, selected, arm_made, arms_made, part_bits, part_cells}
+use Rattle.bb_expr.specs.Cells.{MadeTerms, made, makes, net_terms, inverted, operated, chained, word_made, fold_made, any_from, any_bit, selected, arm_made, arms_made, part_bits, part_cells}
 use Rattle.bb_word.specs.Folds.{is_odd, fold_circuit}
 use Rattle.bb_word.specs.Words.{word_circuit}
-use Rattle.bb_lists.proofs.Each.{each_reverse}
+use Rattle.bb_lemmas.proofs.Each.{each_reverse}
 use Rattle.bb_word.specs.Laws.KeptLaws.{IsKept, kept_word, kept_fold}
-use Rattle.bb_lists.proofs.Members.{contains_here, contains_there, contains_cases, none_in_nil}
+use Rattle.bb_lemmas.proofs.Members.{contains_here, contains_there, contains_cases, none_in_nil}
 
 -- each operator in a term is one of these cells
 abbrev pub OpsIn : List Term → Term → Type 0
@@ -133,14 +133,14 @@ each_selected cells c (t ∷ ts) (e ∷ es) first a b sub = each_cons (OpsIn cel
     (each_selected cells c ts es first (λ x has. a x (contains_there t ts x has)) (λ x has. b x (contains_there e es x has)) (λ x has. sub x (contains_there (Mux c t e) (selected c ts es) x has)))
 
 -- the bits of what is made have their operators among its cells
-abbrev pub IsClosed : Made → Type 0
+abbrev pub IsClosed : MadeTerms → Type 0
 IsClosed m = Each m.bits (OpsIn m.cells)
 
-closed_inverted : (o : Bool) (x : Made) → IsClosed x → IsClosed (if o then record { bits = inverted x.bits; cells = x.cells ++ inverted x.bits } else x)
+closed_inverted : (o : Bool) (x : MadeTerms) → IsClosed x → IsClosed (if o then record { bits = inverted x.bits; cells = x.cells ++ inverted x.bits } else x)
 closed_inverted true x all = each_inverted (x.cells ++ inverted x.bits) x.bits (λ t has. ops_left x.cells (inverted x.bits) t (all t has)) (λ t has. Contains-append_right x.cells (inverted x.bits) t has)
 closed_inverted false x all = all
 
-closed_chained : (op : Op) (a b : Made) → IsClosed a → IsClosed b → IsClosed (chained a b (operated op a.bits b.bits))
+closed_chained : (op : Op) (a b : MadeTerms) → IsClosed a → IsClosed b → IsClosed (chained a b (operated op a.bits b.bits))
 closed_chained op a b first second = each_operated op (a.cells ++ b.cells ++ more) a.bits b.bits
     (λ t has. ops_left (a.cells ++ b.cells) more t (ops_left a.cells b.cells t (first t has)))
     (λ t has. ops_left (a.cells ++ b.cells) more t (ops_right a.cells b.cells t (second t has)))
@@ -161,7 +161,7 @@ ops_kept cells = record {
   choice = λ c t e has p q r. (has, p, q, r);
 }
 
-closed_word : (op : WordOp) (m n : ℕ) (a b : Made) (w : ℕ) → IsClosed a → IsClosed b → IsClosed (word_made op m n a b w)
+closed_word : (op : WordOp) (m n : ℕ) (a b : MadeTerms) (w : ℕ) → IsClosed a → IsClosed b → IsClosed (word_made op m n a b w)
 closed_word op m n a b w first second =
     let circuit = word_circuit terms op (reverse a.bits) (reverse b.bits) in
     let before = a.cells ++ b.cells in
@@ -171,7 +171,7 @@ closed_word op m n a b w first second =
     let kept = kept_word terms (OpsIn all) all (ops_kept all) op (reverse a.bits) (reverse b.bits) left right (λ t has. Contains-append_right before circuit.cells t has) in
     each_extended all w (reverse circuit.bits) (each_reverse (OpsIn all) circuit.bits kept.bits)
 
-closed_fold : (op : FoldOp) (a : Made) (w : ℕ) → IsClosed a → IsClosed (fold_made op a w)
+closed_fold : (op : FoldOp) (a : MadeTerms) (w : ℕ) → IsClosed a → IsClosed (fold_made op a w)
 closed_fold op a w first =
     let circuit = fold_circuit terms op (reverse a.bits) in
     let all = a.cells ++ circuit.cells in
@@ -179,7 +179,7 @@ closed_fold op a w first =
     let kept = kept_fold terms (OpsIn all) all (ops_kept all) op (reverse a.bits) operand (λ t has. Contains-append_right a.cells circuit.cells t has) in
     each_extended all w (reverse circuit.bits) (each_reverse (OpsIn all) circuit.bits kept.bits)
 
-closed_arm : (c t e : Made) → IsClosed c → IsClosed t → IsClosed e → IsClosed (arm_made c t e)
+closed_arm : (c t e : MadeTerms) → IsClosed c → IsClosed t → IsClosed e → IsClosed (arm_made c t e)
 closed_arm c t e first second third =
     let any = any_bit c.bits in
     let last = selected any.0 t.bits e.bits in
@@ -193,7 +193,7 @@ closed_arm c t e first second third =
     (λ x has. ops_left three last x (ops_right two e.cells x (third x has)))
     (λ x has. Contains-append_right three last x has)
 
-abbrev made_seen : Ranges → Expression → (ℕ → Made) → Operand Made
+abbrev made_seen : Ranges → Expression → (ℕ → MadeTerms) → Operand MadeTerms
 made_seen ranges e a = record { width = own_width ranges e; at = a }
 
 mutual
@@ -211,12 +211,12 @@ mutual
   closed ranges (Concat all) w = each_extended (part_cells (of_parts (made_seen ranges) (makes ranges) all)) w _ (closed_parts ranges all)
   closed ranges (Repeat k all) w = each_extended (part_cells (of_parts (made_seen ranges) (makes ranges) all)) w _ (each_copies (OpsIn (part_cells (of_parts (made_seen ranges) (makes ranges) all))) k _ (closed_parts ranges all))
 
-  closed_chain : (ranges : Ranges) (rest : Operands) (w : ℕ) (m : Made) → IsClosed m
+  closed_chain : (ranges : Ranges) (rest : Operands) (w : ℕ) (m : MadeTerms) → IsClosed m
       → IsClosed (fold (λ a x. let b = x.1.at w in chained a b (operated x.0 a.bits b.bits)) m (of_operands (made_seen ranges) (makes ranges) rest))
   closed_chain ranges no_operand w m all = all
   closed_chain ranges (operand op e rest) w m all = closed_chain ranges rest w (chained m (made ranges e w) (operated op m.bits (made ranges e w).bits)) (closed_chained op m (made ranges e w) all (closed ranges e w))
 
-  closed_words : (ranges : Ranges) (rest : WordOperands) (left : Operand Made) → ((w : ℕ) → IsClosed (left.at w)) → (w : ℕ)
+  closed_words : (ranges : Ranges) (rest : WordOperands) (left : Operand MadeTerms) → ((w : ℕ) → IsClosed (left.at w)) → (w : ℕ)
       → IsClosed (words_at word_made left (of_words (made_seen ranges) (makes ranges) rest) w)
   closed_words ranges no_word left all w = all w
   closed_words ranges (word op e rest) left all w =

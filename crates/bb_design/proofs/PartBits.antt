@@ -2,12 +2,12 @@
 use Rattle.std.proofs.Common.{◌≡◌, ◌⊎◌, ℕ, List, [], ◌++◌, map, flat_map, zip, length, Contains, subst, ◌∙◌, ◌+◌, sym, inl, inr, refl, arith}
 use Rattle.std.specs.List.{enumerate_from, range_with_len}
 use Rattle.std.proofs.lemmas.List.Elements.{Contains-append_cases}
-use Rattle.bb_lists.proofs.Numbered.{from_numbered}
+use Rattle.bb_lemmas.proofs.Numbered.{from_numbered}
 use Rattle.bb_ast.specs.Syntax.{Expression}
 use Rattle.bb_names.specs.Declarations.{range_of}
 use Rattle.bb_names.specs.Nets.{net_names}
 use Rattle.bb_names.specs.Ranges.{range_width}
-use Rattle.bb_names.specs.Spots.{Use, Pin, spots_in}
+use Rattle.bb_names.specs.Sites.{Use, Pin, sites_in}
 use Rattle.bb_expr.specs.Terms.{Term}
 use Rattle.bb_expr.specs.Terms as term
 use Rattle.bb_design.specs.Hierarchy.{Scope, path_to}
@@ -19,15 +19,15 @@ use Rattle.bb_design.specs.Drivers.{Free, MadeOf, Box, Drive, driven, driven_by,
 use Rattle.bb_design.specs.GateFunctions.{on_terms, gate_gives, gate_cells}
 use Rattle.bb_design.specs.Reading.{cells_at, operand_terms, bit_itself, read_beside, read_at, copied}
 use Rattle.bb_design.specs.Registers.{data_terms}
-use Rattle.bb_lists.proofs.Members.{from_flat, from_map, contains_cases, none_in_nil}
+use Rattle.bb_lemmas.proofs.Members.{from_flat, from_map, contains_cases, none_in_nil}
 use Rattle.bb_design.proofs.KnownNets.{bits_there, filtered_there}
 use Rattle.bb_design.proofs.Operators.{Each, each_append, each_drop}
 use Rattle.bb_design.proofs.TermNets.{Names, AreNamed, HaveUsed, named, written_there, itself_there, operands_named, gate_named}
-use Rattle.bb_lists.proofs.Zips.{zip_parts}
+use Rattle.bb_lemmas.proofs.Zips.{zip_parts}
 
 -- the nets that an expression uses have their bits in the scope
 abbrev pub IsUsedWell : Scope → Expression → Type 0
-IsUsedWell s e = (how : Use) × HaveUsed s (spots_in how e)
+IsUsedWell s e = (how : Use) × HaveUsed s (sites_in how e)
 
 module _ (G : Bit → Type 0) where
   -- the nets of a construct have their bits

@@ -17,9 +17,9 @@ use Rattle.bb_design.specs.NetBits.{bits_of_net}
 use Rattle.bb_design.specs.Texts.{net_bit_text, pin_text}
 use Rattle.bb_design.proofs.AllowedDesigns.{ends}
 use Rattle.bb_design.proofs.SoundModules.{sound_texts_have_modules_apart}
-use Rattle.bb_design.proofs.SoundSpots.{source_there}
-use Rattle.bb_lists.proofs.Apart.{one_by}
-use Rattle.bb_lists.proofs.Maps.{map-twice}
+use Rattle.bb_design.proofs.SoundSites.{source_there}
+use Rattle.bb_lemmas.proofs.Apart.{one_by}
+use Rattle.bb_lemmas.proofs.Maps.{map-twice}
 
 -- the texts of the bits of a net, in a module
 abbrev net_texts : PlainModule → NetInfo → List (List ℕ)

@@ -13,13 +13,13 @@ use Rattle.bb_design.specs.NetBits.{Bit, input_bits, output_bits, bits_named, pi
 use Rattle.bb_design.specs.Contexts.{width_of, context_width, made_in}
 use Rattle.bb_design.specs.Constructs.{Construct, Assignment, GateInstance, Register, SupplyNet, InputConnection, OutputConnection, BoxContents, parts}
 use Rattle.bb_design.specs.GateFunctions.{on_terms, joins, joined, inverts, gate_gives, joined_after, joining_cells, gate_cells}
-use Rattle.bb_design.specs.Drivers.{Source, Free, MadeOf, Box, Drive, driven, driven_by, terminal_terms, drives_at, drives}
-use Rattle.bb_design.specs.Reading.{cells_at, operand_terms, bit_itself, read_beside, read_at, read_directly, copied, copied_bits, IsRead}
+use Rattle.bb_design.specs.Drivers.{DrivingSource, Free, MadeOf, Box, Drive, driven, driven_by, terminal_terms, drives_at, drives}
+use Rattle.bb_design.specs.Reading.{cells_at, operand_terms, bit_itself, read_beside, read_at, read_directly, copied, copied_bits, IsReadBit}
 use Rattle.bb_design.specs.Dependence.{bits_below, needed}
 use Rattle.bb_design.specs.Laws.{ReadNeedsRead}
-use Rattle.bb_lists.proofs.Members.{from_flat, from_map, contains-map, contains_here, contains_there, contains_cases, none_in_nil, into_flat}
+use Rattle.bb_lemmas.proofs.Members.{from_flat, from_map, contains-map, contains_here, contains_there, contains_cases, none_in_nil, into_flat}
 use Rattle.bb_design.proofs.Operators.{OpsIn, Each, Sub, ops_left, ops_right, each_nil, each_append, each_drop, closed}
-use Rattle.bb_lists.proofs.Walks.{more_behind}
+use Rattle.bb_lemmas.proofs.Walks.{more_after}
 
 -- a bit below a term is the term, or an operand of one of its cells
 unfoldable pub IsOperand : Path → List Term → Bit → Type 0
@@ -128,7 +128,7 @@ terms_need part bits terms all x has c =
     let z = from_map (λ y. driven (MadeOf part.0.path y.1) y.0) (zip bits terms) x has in
     subst (λ w. Needs part w c) z.2 (made_needs part z.0.1 z.0.0 c (all z.0.1 (zip_right bits terms z.0 z.1)))
 
-same_needs : (part : Scope × Construct) (source : Source) (bits : List Bit) → ((b c : Bit) → Needs part (driven source b) c) → (x : Drive) → Contains (map (driven source) bits) x → (c : Bit) → Needs part x c
+same_needs : (part : Scope × Construct) (source : DrivingSource) (bits : List Bit) → ((b c : Bit) → Needs part (driven source b) c) → (x : Drive) → Contains (map (driven source) bits) x → (c : Bit) → Needs part x c
 unfolding Needs
 same_needs part source bits all x has c = let z = from_map (driven source) bits x has in subst (λ w. Needs part w c) z.2 (all z.0 c)
 
@@ -181,10 +181,10 @@ read_needs_read d b c read has =
     let bit : x.0.bit ≡ b = ap (λ z. z.0) y.2 in
     by x.0 x.1 bit (drive_needs d x.0 x.1 c there)
   where
-    copy : Contains (copied_bits d) (b, c) → Contains (read_directly d) b ⊎ ((e : Bit) × Contains (read_directly d) e × Leads (copied_bits d) e b) → IsRead d c
+    copy : Contains (copied_bits d) (b, c) → Contains (read_directly d) b ⊎ ((e : Bit) × Contains (read_directly d) e × Leads (copied_bits d) e b) → IsReadBit d c
     copy step (inl direct) = inr (b, direct, One step)
-    copy step (inr far) = inr (far.0, far.1, more_behind (copied_bits d) far.2 step)
+    copy step (inr far) = inr (far.0, far.1, more_after (copied_bits d) far.2 step)
 
-    by : (x : Drive) → Contains (drives d) x → x.bit ≡ b → Contains (copied x.source) c ⊎ Contains (read_directly d) c → IsRead d c
+    by : (x : Drive) → Contains (drives d) x → x.bit ≡ b → Contains (copied x.source) c ⊎ Contains (read_directly d) c → IsReadBit d c
     by x in_drives bit (inl here) = copy (subst (λ z. Contains (copied_bits d) (z, c)) bit (into_flat (λ y. map (λ e. (y.bit, e)) (copied y.source)) (drives d) x (x.bit, c) in_drives (contains-map {B = Bit × Bit} (λ e. (x.bit, e)) (copied x.source) c here))) read
     by x in_drives bit (inr direct) = inl direct

@@ -5,9 +5,9 @@ use Rattle.std.specs.List.{enumerate_from}
 use Rattle.std.specs.Option.{option_and_then}
 use Rattle.bb_ast.specs.Syntax.{Expression, Net, PlainAlways, PlainConns, Order, Named, PlainBody, Ports, Nets, Regs, Supply, Assign, Gates, Calls, Always, PlainModule}
 use Rattle.bb_names.specs.Faults.{is_input}
-use Rattle.bb_names.specs.Spots.{Pin, module_named, pin_named, pin_at}
+use Rattle.bb_names.specs.Sites.{Pin, module_named, pin_named, pin_at}
 use Rattle.bb_design.specs.Constructs.{Assignment, Register, SupplyNet, InputConnection, OutputConnection, initial_construct, gate_construct, connection, connections, body_constructs}
-use Rattle.bb_lists.proofs.Members.{from_flat, from_map, contains_cases, none_in_nil}
+use Rattle.bb_lemmas.proofs.Members.{from_flat, from_map, contains_cases, none_in_nil}
 
 module _ (text : List PlainModule) where
   initial_stores : (x : List ℕ × Option Expression) (a : PlainAlways) → Contains (initial_construct x) (Register a) → ⊥

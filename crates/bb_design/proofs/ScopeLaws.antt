@@ -6,12 +6,12 @@ use Rattle.std.proofs.lemmas.List.Elements.{All-contains}
 use lib.Pointwise.{bytes_decides}
 use Rattle.bb_bits.specs.Names.{same_name}
 use Rattle.bb_ast.specs.Syntax.{PlainModule}
-use Rattle.bb_names.specs.Spots.{module_named}
+use Rattle.bb_names.specs.Sites.{module_named}
 use Rattle.bb_design.specs.Hierarchy.{Instance, Path, Scope, instances_of, module_of, module_under, module_at, root, path_to, children, below, too_low, instances, scopes}
 use Rattle.bb_design.specs.Refusals.{IsShallow}
 use Rattle.bb_design.specs.Laws.{HasNamesApart, PathsLeadToScopes}
-use Rattle.bb_lists.proofs.Members.{from_flat, into_flat, contains_here, contains_there, contains_cases, none_in_nil, from_find, from_filter_map, find_there, mapped_there, into_filter}
-use Rattle.bb_lists.proofs.Orders.{less_or_same}
+use Rattle.bb_lemmas.proofs.Members.{from_flat, into_flat, contains_here, contains_there, contains_cases, none_in_nil, from_find, from_filter_map, find_there, mapped_there, into_filter}
+use Rattle.bb_lemmas.proofs.Orders.{less_or_same}
 
 abbrev scope : Path → PlainModule → Scope
 scope path m = record { path = path; source = m }
@@ -30,10 +30,10 @@ named_child text s n t e =
     let gives : option_map (λ m. scope (path_to s.path i.0.name) m) (module_named text i.0.target) ≡ Some (scope (path_to s.path n) t) = ap (option_map (λ m. scope (path_to s.path i.0.name) m)) i.2 ∙ ap (λ k. Some (scope (path_to s.path k) t)) name in
     into_filter (λ i. option_map (λ m. scope (path_to s.path i.name) m) (module_named text i.target)) (instances_of s.source) i.0 (scope (path_to s.path n) t) f.0 gives
 
-behind : (path : Path) (n : List ℕ) (p : Path) → path_to path n ++ p ≡ path ++ n ∷ p
-behind path n p = append_assoc path (n ∷ []) p
+after : (path : Path) (n : List ℕ) (p : Path) → path_to path n ++ p ≡ path ++ n ∷ p
+after path n p = append_assoc path (n ∷ []) p
 
--- the end of a path stands below
+-- the end of a path is below
 ends_below : (n : ℕ) (text : List PlainModule) (s : Scope) (k : List ℕ) (p : Path) (m : PlainModule) → length p < n → module_under text s.source (k ∷ p) ≡ Some m → Contains (below n text s) (scope (s.path ++ k ∷ p) m)
 unfolding below
 ends_below zero text s k p m fits e = absurd (omega (arith, fits))
@@ -45,7 +45,7 @@ ends_below (suc n) text s k [] m fits e =
 ends_below (suc n) text s k (j ∷ p) m fits e =
     let t = both_there (module_of text s.source k) (λ t. module_under text t (j ∷ p)) m e in
     let c = scope (path_to s.path k) t.0 in
-    subst (λ z. Contains (below (suc n) text s) (scope z m)) (behind s.path k (j ∷ p))
+    subst (λ z. Contains (below (suc n) text s) (scope z m)) (after s.path k (j ∷ p))
     (into_flat (λ c. c ∷ below n text c) (children text s) c (scope (c.path ++ j ∷ p) m) (named_child text s k t.0 t.1) (contains_there c (below n text c) _ (ends_below n text c j p m (omega (arith, fits)) t.2)))
 
 -- a long path passes a scope at each level
@@ -91,7 +91,7 @@ child_named text s c apart has =
     let found : module_of text s.source i.0.name ≡ Some m.0 = ap (option_and_then (λ j. module_named text j.target)) (found_by_name (instances_of s.source) apart i.0 i.1) ∙ m.1 in
     (i.0.name, sym (ap (λ (z : Scope). z.path) m.2), found ∙ ap Some source, subst (Contains text) source (from_find (λ x. same_name x.name i.0.target) text m.0 m.1).0)
 
--- what stands below is the end of a path
+-- what is below is the end of a path
 below_reached : (n : ℕ) (text : List PlainModule) → All HasNamesApart text → (s : Scope) → Contains text s.source → (c : Scope) → Contains (below n text s) c → (p : Path) × (c.path ≡ s.path ++ p) × (module_under text s.source p ≡ Some c.source)
 unfolding below
 below_reached zero text apart s there c has = absurd (none_in_nil c has)
@@ -103,7 +103,7 @@ below_reached (suc n) text apart s there c has =
     by : (k : Scope) (i : List ℕ) → k.path ≡ path_to s.path i → module_of text s.source i ≡ Some k.source → (k ≡ c) ⊎ Contains (below n text k) c
         → (Contains (below n text k) c → (p : Path) × (c.path ≡ k.path ++ p) × (module_under text k.source p ≡ Some c.source)) → (p : Path) × (c.path ≡ s.path ++ p) × (module_under text s.source p ≡ Some c.source)
     by k i at leads (inl same) rest = (i ∷ [], sym (ap (λ (z : Scope). z.path) same) ∙ at, ap (option_and_then (λ t. module_under text t [])) leads ∙ ap (λ (z : Scope). Some z.source) same)
-    by k i at leads (inr more) rest = let r = rest more in (i ∷ r.0, r.1 ∙ ap (λ z. z ++ r.0) at ∙ behind s.path i r.0, ap (option_and_then (λ t. module_under text t r.0)) leads ∙ r.2)
+    by k i at leads (inr more) rest = let r = rest more in (i ∷ r.0, r.1 ∙ ap (λ z. z ++ r.0) at ∙ after s.path i r.0, ap (option_and_then (λ t. module_under text t r.0)) leads ∙ r.2)
 
 pub paths_lead_to_scopes : PathsLeadToScopes
 paths_lead_to_scopes d top apart = record {

@@ -13,24 +13,24 @@ use Rattle.bb_names.specs.declared.net.NetKind.TheVariants.{Wire}
 use Rattle.bb_names.specs.Declarations.{Declaration, declarations, declared_by, declared_by_head, net_declaration, supply_kind, instance_declaration, range_of, direction_of, port_direction}
 use Rattle.bb_names.specs.Faults.{is_input, IsSound}
 use Rattle.bb_names.specs.Ranges.{range_width}
-use Rattle.bb_names.specs.Spots.{Use, Read, Driven, Stored, Pin, Spot, Declared, Placed, Target, Joined, PortName, Terminal, Clock, Whole, Used, gate_spots, initial_spots, item_spots, conns_spots, joined_spots, spots_in, use_at, module_named, pin_named, pin_at, place_count}
+use Rattle.bb_names.specs.Sites.{Use, Read, Driven, Stored, Pin, Site, Declared, Placed, Target, Joined, PortName, Terminal, Clock, Whole, Used, gate_sites, initial_sites, item_sites, conns_sites, joined_sites, sites_in, use_at, module_named, pin_named, pin_at, place_count}
 use Rattle.bb_bits.specs.Earlier.{each_from}
 use Rattle.bb_bits.specs.Closures.{Leads, One, More}
 use Rattle.bb_design.specs.Hierarchy.{Instance, instance_of, instances_in, instances_of, Design, Scope, root, path_to, is_box, scopes}
 use Rattle.bb_design.specs.NetBits.{Bit, scope_bits, pin_bits, net_order, top_inputs, top_outputs}
 use Rattle.bb_design.specs.Constructs.{Construct, Assignment, Register, SupplyNet, InputConnection, OutputConnection, BoxContents, initial_construct, gate_construct, connection, connections, body_constructs, constructs_at, parts}
 use Rattle.bb_design.specs.Drivers.{Free, Drive, driven, drives_at, drives}
-use Rattle.bb_design.specs.Reading.{read_at, copied, copied_bits, IsRead}
+use Rattle.bb_design.specs.Reading.{read_at, copied, copied_bits, IsReadBit}
 use Rattle.bb_design.specs.Refusals.{IsShallow, design_on}
 use Rattle.bb_design.specs.Laws.{BitsAreThere, SoundBitsAreThere}
-use Rattle.bb_lists.proofs.Members.{from_flat, from_map, all_from, contains-map, into_flat, mapped_there, contains_here, contains_there, contains_cases, none_in_nil, from_find, into_filter}
+use Rattle.bb_lemmas.proofs.Members.{from_flat, from_map, all_from, contains-map, into_flat, mapped_there, contains_here, contains_there, contains_cases, none_in_nil, from_find, into_filter}
 use Rattle.bb_design.proofs.KnownNets.{header_net, declared_net, bits_there, filtered_there}
 use Rattle.bb_design.proofs.PartBits.{IsUsedWell, HasNets, IsThere, PartThere, part_there}
 use Rattle.bb_design.proofs.ScopeLaws.{both_there}
-use Rattle.bb_design.proofs.SoundConstructs.{spot_sound}
-use Rattle.bb_lists.proofs.Earlier.{into_each}
-use Rattle.bb_design.specs.Laws.SoundSpots.{IsSoundSpot}
-use Rattle.bb_design.proofs.SoundSpots.{has_used, child_there, source_there}
+use Rattle.bb_design.proofs.SoundConstructs.{site_sound}
+use Rattle.bb_lemmas.proofs.Earlier.{into_each}
+use Rattle.bb_design.specs.Laws.SoundSites.{IsSoundSite}
+use Rattle.bb_design.proofs.SoundSites.{has_used, child_there, source_there}
 use Rattle.bb_design.proofs.TermNets.{HasUsed}
 
 -- the pin is a port of a module
@@ -54,20 +54,20 @@ module _ (d : Design) (s : Scope) where
   abbrev IsBit : Bit → Type 0
   IsBit b = Contains (net_order d) b
 
-  abbrev AreSound : List Spot → Type 0
-  AreSound spots = (z : Spot) → Contains spots z → IsSoundSpot d.text s z
+  abbrev AreSound : List Site → Type 0
+  AreSound sites = (z : Site) → Contains sites z → IsSoundSite d.text s z
 
-  used_well : (how : Use) (e : Expression) → AreSound (spots_in how e) → IsUsedWell s e
+  used_well : (how : Use) (e : Expression) → AreSound (sites_in how e) → IsUsedWell s e
   used_well how e sound = (how, λ z has. has_used d.text s z (sound z has))
 
-  net_used_well : (n : List ℕ) → IsSoundSpot d.text s (Used Driven n None) → IsUsedWell s (Net n)
+  net_used_well : (n : List ℕ) → IsSoundSite d.text s (Used Driven n None) → IsUsedWell s (Net n)
   net_used_well n sound = (Driven, λ z has. whole z (contains_cases (Whole (Net n)) (Used Driven n None ∷ []) z has))
     where
-      only : (z : Spot) → (Used Driven n None ≡ z) ⊎ Contains [] z → HasUsed s z
+      only : (z : Site) → (Used Driven n None ≡ z) ⊎ Contains [] z → HasUsed s z
       only z (inl e) = subst (HasUsed s) e (has_used d.text s (Used Driven n None) sound)
       only z (inr none) = absurd (none_in_nil z none)
 
-      whole : (z : Spot) → (Whole (Net n) ≡ z) ⊎ Contains (Used Driven n None ∷ []) z → HasUsed s z
+      whole : (z : Site) → (Whole (Net n) ≡ z) ⊎ Contains (Used Driven n None ∷ []) z → HasUsed s z
       whole z (inl e) = subst (HasUsed s) e tt
       whole z (inr more) = only z (contains_cases (Used Driven n None) [] z more)
 
@@ -75,31 +75,31 @@ module _ (d : Design) (s : Scope) where
   abbrev HasPins : List ℕ → Option PlainModule → Type 0
   HasPins i target = (m : PlainModule) (p : Pin) → target ≡ Some m → IsPinOf m p → (b : Bit) → Contains (pin_bits (path_to s.path i) p) b → IsBit b
 
-  initial_nets : (x : List ℕ × Option Expression) → AreSound (initial_spots x) → (c : Construct) → Contains (initial_construct x) c → HasNets IsBit s c
+  initial_nets : (x : List ℕ × Option Expression) → AreSound (initial_sites x) → (c : Construct) → Contains (initial_construct x) c → HasNets IsBit s c
   initial_nets (n, None) sound c has = absurd (none_in_nil c has)
   initial_nets (n, Some e) sound c has = by (contains_cases (Assignment (Net n) e) [] c has)
     where
       by : (Assignment (Net n) e ≡ c) ⊎ Contains [] c → HasNets IsBit s c
-      by (inl same) = subst (HasNets IsBit s) same (net_used_well n (sound (Used Driven n None) (contains_here (Used Driven n None) (spots_in Read e))), used_well Read e (λ z h. sound z (contains_there (Used Driven n None) (spots_in Read e) z h)))
+      by (inl same) = subst (HasNets IsBit s) same (net_used_well n (sound (Used Driven n None) (contains_here (Used Driven n None) (sites_in Read e))), used_well Read e (λ z h. sound z (contains_there (Used Driven n None) (sites_in Read e) z h)))
       by (inr none) = absurd (none_in_nil c none)
 
-  gate_nets : (gate : Gate) (terms : List Expression) → AreSound (gate_spots gate terms) → HasNets IsBit s (gate_construct gate terms)
+  gate_nets : (gate : Gate) (terms : List Expression) → AreSound (gate_sites gate terms) → HasNets IsBit s (gate_construct gate terms)
   gate_nets gate terms sound =
       let n = output_count gate (length terms) in
-      let outs = flat_map (λ e. Terminal gate true e ∷ spots_in Driven e) (take n terms) in
-      let ins = flat_map (λ e. Terminal gate false e ∷ spots_in Read e) (drop n terms) in (
-        λ e has. used_well Driven e (λ z h. sound z (Contains-append_left outs ins z (into_flat (λ e. Terminal gate true e ∷ spots_in Driven e) (take n terms) e z has (contains_there (Terminal gate true e) (spots_in Driven e) z h)))),
-        λ e has. used_well Read e (λ z h. sound z (Contains-append_right outs ins z (into_flat (λ e. Terminal gate false e ∷ spots_in Read e) (drop n terms) e z has (contains_there (Terminal gate false e) (spots_in Read e) z h)))),
+      let outs = flat_map (λ e. Terminal gate true e ∷ sites_in Driven e) (take n terms) in
+      let ins = flat_map (λ e. Terminal gate false e ∷ sites_in Read e) (drop n terms) in (
+        λ e has. used_well Driven e (λ z h. sound z (Contains-append_left outs ins z (into_flat (λ e. Terminal gate true e ∷ sites_in Driven e) (take n terms) e z has (contains_there (Terminal gate true e) (sites_in Driven e) z h)))),
+        λ e has. used_well Read e (λ z h. sound z (Contains-append_right outs ins z (into_flat (λ e. Terminal gate false e ∷ sites_in Read e) (drop n terms) e z has (contains_there (Terminal gate false e) (sites_in Read e) z h)))),
       )
 
-  connection_nets : (i : List ℕ) (pin : Option Pin) (e : Option Expression) → AreSound (joined_spots pin e) → ((p : Pin) → pin ≡ Some p → (b : Bit) → Contains (pin_bits (path_to s.path i) p) b → IsBit b)
+  connection_nets : (i : List ℕ) (pin : Option Pin) (e : Option Expression) → AreSound (joined_sites pin e) → ((p : Pin) → pin ≡ Some p → (b : Bit) → Contains (pin_bits (path_to s.path i) p) b → IsBit b)
       → (c : Construct) → Contains (connection i pin e) c → HasNets IsBit s c
   connection_nets i None e sound pins c has = absurd (none_in_nil c has)
   connection_nets i (Some pin) None sound pins c has = absurd (none_in_nil c has)
   connection_nets i (Some pin) (Some e) sound pins c has = by (contains_cases (if is_input pin.dir then InputConnection i pin e else OutputConnection i pin e) [] c has)
     where
       used : IsUsedWell s e
-      used = used_well (use_at pin.dir) e (λ z h. sound z (contains_there (Joined pin e) (spots_in (use_at pin.dir) e) z h))
+      used = used_well (use_at pin.dir) e (λ z h. sound z (contains_there (Joined pin e) (sites_in (use_at pin.dir) e) z h))
 
       side : (b : Bool) → HasNets IsBit s (if b then InputConnection i pin e else OutputConnection i pin e)
       side true = (used, pins pin refl)
@@ -109,29 +109,29 @@ module _ (d : Design) (s : Scope) where
       by (inl same) = subst (HasNets IsBit s) same (side (is_input pin.dir))
       by (inr none) = absurd (none_in_nil c none)
 
-  conns_nets : (target : Option PlainModule) (x : List ℕ × PlainConns) → AreSound (conns_spots target x.1) → HasPins x.0 target → (c : Construct) → Contains (connections target x) c → HasNets IsBit s c
+  conns_nets : (target : Option PlainModule) (x : List ℕ × PlainConns) → AreSound (conns_sites target x.1) → HasPins x.0 target → (c : Construct) → Contains (connections target x) c → HasNets IsBit s c
   conns_nets target (i, Order places) sound pins c has =
       let y = from_flat (λ y. connection i (option_and_then (λ m. pin_at m y.0) target) y.1) (enumerate_from 0 places) c has in
       connection_nets i (option_and_then (λ m. pin_at m y.0.0) target) y.0.1
-      (λ z h. sound z (into_flat (λ y. joined_spots (option_and_then (λ m. pin_at m y.0) target) y.1) (enumerate_from 0 places) y.0 z y.1 h))
+      (λ z h. sound z (into_flat (λ y. joined_sites (option_and_then (λ m. pin_at m y.0) target) y.1) (enumerate_from 0 places) y.0 z y.1 h))
       (λ p e. let m = both_there target (λ m. pin_at m y.0.0) p e in pins m.0 p m.1 (pin_at_port m.0 y.0.0 p m.2)) c y.2
   conns_nets target (i, Named all) sound pins c has =
       let y = from_flat (λ y. connection i (option_and_then (λ m. pin_named m y.0) target) y.1) all c has in
       connection_nets i (option_and_then (λ m. pin_named m y.0.0) target) y.0.1
-      (λ z h. sound z (into_each (λ before y. PortName target (map (λ z. z.0) before) y.0 ∷ joined_spots (option_and_then (λ m. pin_named m y.0) target) y.1) [] all y.0 z y.1
-      (λ earlier. contains_there (PortName target (map (λ z. z.0) earlier) y.0.0) (joined_spots (option_and_then (λ m. pin_named m y.0.0) target) y.0.1) z h)))
+      (λ z h. sound z (into_each (λ before y. PortName target (map (λ z. z.0) before) y.0 ∷ joined_sites (option_and_then (λ m. pin_named m y.0) target) y.1) [] all y.0 z y.1
+      (λ earlier. contains_there (PortName target (map (λ z. z.0) earlier) y.0.0) (joined_sites (option_and_then (λ m. pin_named m y.0.0) target) y.0.1) z h)))
       (λ p e. let m = both_there target (λ m. pin_named m y.0.0) p e in pins m.0 p m.1 (y.0.0, m.2)) c y.2
 
-  abbrev call_spots : List Declaration → List ℕ → List (List ℕ × PlainConns) → List ℕ × PlainConns → List Spot
-  call_spots earlier target before x = Declared (earlier ++ map (λ z. instance_declaration z.0) before) (instance_declaration x.0) ∷ Placed (module_named d.text target) x.0 (place_count x.1) ∷ conns_spots (module_named d.text target) x.1
+  abbrev call_sites : List Declaration → List ℕ → List (List ℕ × PlainConns) → List ℕ × PlainConns → List Site
+  call_sites earlier target before x = Declared (earlier ++ map (λ z. instance_declaration z.0) before) (instance_declaration x.0) ∷ Placed (module_named d.text target) x.0 (place_count x.1) ∷ conns_sites (module_named d.text target) x.1
 
-  body_nets : (earlier : List Declaration) (body : PlainBody) → AreSound (item_spots d.text earlier body) → ((x : Declaration) → Contains (declared_by body) x → Contains (declarations s.source) x)
+  body_nets : (earlier : List Declaration) (body : PlainBody) → AreSound (item_sites d.text earlier body) → ((x : Declaration) → Contains (declared_by body) x → Contains (declarations s.source) x)
       → ((i : Instance) → Contains (instances_in body) i → HasPins i.name (module_named d.text i.target)) → (c : Construct) → Contains (body_constructs d.text body) c → HasNets IsBit s c
   body_nets earlier (Ports port names) sound declares pins c has = absurd (none_in_nil c has)
   body_nets earlier (Nets range nets) sound declares pins c has =
       let y = from_flat initial_construct nets c has in
-      initial_nets y.0 (λ z h. sound z (into_each (λ before x. Declared (earlier ++ map (λ y. net_declaration Wire range y.0) before) (net_declaration Wire range x.0) ∷ initial_spots x) [] nets y.0 z y.1
-      (λ before. contains_there (Declared (earlier ++ map (λ y. net_declaration Wire range y.0) before) (net_declaration Wire range y.0.0)) (initial_spots y.0) z h))) c y.2
+      initial_nets y.0 (λ z h. sound z (into_each (λ before x. Declared (earlier ++ map (λ y. net_declaration Wire range y.0) before) (net_declaration Wire range x.0) ∷ initial_sites x) [] nets y.0 z y.1
+      (λ before. contains_there (Declared (earlier ++ map (λ y. net_declaration Wire range y.0) before) (net_declaration Wire range y.0.0)) (initial_sites y.0) z h))) c y.2
   body_nets earlier (Regs range names) sound declares pins c has = absurd (none_in_nil c has)
   body_nets earlier (Supply high range names) sound declares pins c has =
       let y = from_map (SupplyNet high) names c has in
@@ -139,30 +139,30 @@ module _ (d : Design) (s : Scope) where
       subst (HasNets IsBit s) y.2 (declared_net s.source x (declares x (contains-map (net_declaration (supply_kind high) range) names y.0 y.1)) refl)
   body_nets earlier (Assign all) sound declares pins c has =
       let y = from_map (λ x. Assignment x.0 x.1) all c has in
-      let spots : AreSound (spots_in Driven y.0.0 ++ spots_in Read y.0.1) = λ z h. sound z (into_flat (λ x. spots_in Driven x.0 ++ spots_in Read x.1) all y.0 z y.1 h) in
-      subst (HasNets IsBit s) y.2 (used_well Driven y.0.0 (λ z h. spots z (Contains-append_left (spots_in Driven y.0.0) (spots_in Read y.0.1) z h)), used_well Read y.0.1 (λ z h. spots z (Contains-append_right (spots_in Driven y.0.0) (spots_in Read y.0.1) z h)))
+      let sites : AreSound (sites_in Driven y.0.0 ++ sites_in Read y.0.1) = λ z h. sound z (into_flat (λ x. sites_in Driven x.0 ++ sites_in Read x.1) all y.0 z y.1 h) in
+      subst (HasNets IsBit s) y.2 (used_well Driven y.0.0 (λ z h. sites z (Contains-append_left (sites_in Driven y.0.0) (sites_in Read y.0.1) z h)), used_well Read y.0.1 (λ z h. sites z (Contains-append_right (sites_in Driven y.0.0) (sites_in Read y.0.1) z h)))
   body_nets earlier (Gates gate all) sound declares pins c has =
       let y = from_map (λ x. gate_construct gate x.1) all c has in
-      subst (HasNets IsBit s) y.2 (gate_nets gate y.0.1 (λ z h. sound z (into_flat (λ x. gate_spots gate x.1) all y.0 z y.1 h)))
+      subst (HasNets IsBit s) y.2 (gate_nets gate y.0.1 (λ z h. sound z (into_flat (λ x. gate_sites gate x.1) all y.0 z y.1 h)))
   body_nets earlier (Calls target calls) sound declares pins c has =
       let y = from_flat (connections (module_named d.text target)) calls c has in
-      conns_nets (module_named d.text target) y.0 (λ z h. sound z (contains_there (Target target) (each_from (call_spots earlier target) [] calls) z (into_each (call_spots earlier target) [] calls y.0 z y.1
-      (λ before. contains_there (Declared (earlier ++ map (λ z. instance_declaration z.0) before) (instance_declaration y.0.0)) (Placed (module_named d.text target) y.0.0 (place_count y.0.1) ∷ conns_spots (module_named d.text target) y.0.1) z
-      (contains_there (Placed (module_named d.text target) y.0.0 (place_count y.0.1)) (conns_spots (module_named d.text target) y.0.1) z h)))))
+      conns_nets (module_named d.text target) y.0 (λ z h. sound z (contains_there (Target target) (each_from (call_sites earlier target) [] calls) z (into_each (call_sites earlier target) [] calls y.0 z y.1
+      (λ before. contains_there (Declared (earlier ++ map (λ z. instance_declaration z.0) before) (instance_declaration y.0.0)) (Placed (module_named d.text target) y.0.0 (place_count y.0.1) ∷ conns_sites (module_named d.text target) y.0.1) z
+      (contains_there (Placed (module_named d.text target) y.0.0 (place_count y.0.1)) (conns_sites (module_named d.text target) y.0.1) z h)))))
       (pins (instance_of target y.0) (contains-map (instance_of target) calls y.0 y.1)) c y.2
   body_nets earlier (Always r) sound declares pins c has = by (contains_cases (Register r) [] c has)
     where
-      rest : AreSound (spots_in Read r.clock ++ spots_in Stored r.left ++ spots_in Read r.right)
-      rest z h = sound z (contains_there (Clock r.clock) (spots_in Read r.clock ++ spots_in Stored r.left ++ spots_in Read r.right) z h)
+      rest : AreSound (sites_in Read r.clock ++ sites_in Stored r.left ++ sites_in Read r.right)
+      rest z h = sound z (contains_there (Clock r.clock) (sites_in Read r.clock ++ sites_in Stored r.left ++ sites_in Read r.right) z h)
 
-      first : AreSound (spots_in Read r.clock ++ spots_in Stored r.left)
-      first z h = rest z (Contains-append_left (spots_in Read r.clock ++ spots_in Stored r.left) (spots_in Read r.right) z h)
+      first : AreSound (sites_in Read r.clock ++ sites_in Stored r.left)
+      first z h = rest z (Contains-append_left (sites_in Read r.clock ++ sites_in Stored r.left) (sites_in Read r.right) z h)
 
       nets : HasNets IsBit s (Register r)
       nets = (
-        used_well Read r.clock (λ z h. first z (Contains-append_left (spots_in Read r.clock) (spots_in Stored r.left) z h)),
-        used_well Stored r.left (λ z h. first z (Contains-append_right (spots_in Read r.clock) (spots_in Stored r.left) z h)),
-        used_well Read r.right (λ z h. rest z (Contains-append_right (spots_in Read r.clock ++ spots_in Stored r.left) (spots_in Read r.right) z h)),
+        used_well Read r.clock (λ z h. first z (Contains-append_left (sites_in Read r.clock) (sites_in Stored r.left) z h)),
+        used_well Stored r.left (λ z h. first z (Contains-append_right (sites_in Read r.clock) (sites_in Stored r.left) z h)),
+        used_well Read r.right (λ z h. rest z (Contains-append_right (sites_in Read r.clock ++ sites_in Stored r.left) (sites_in Read r.right) z h)),
       )
 
       by : (Register r ≡ c) ⊎ Contains [] c → HasNets IsBit s c
@@ -185,8 +185,8 @@ module _ (text : List PlainModule) (top : PlainModule) (sound : IsSound text) (i
       in_item : Contains (flat_map (λ item. body_constructs text item.body) s.source.items) c → HasNets (IsBit d s) s c
       in_item h =
           let item = from_flat (λ item. body_constructs text item.body) s.source.items c h in
-          let spots = spot_sound text sound s.source (source_there d s in_text has) item.0 item.1 in
-          body_nets d s spots.0 item.0.body spots.1
+          let sites = site_sound text sound s.source (source_there d s in_text has) item.0 item.1 in
+          body_nets d s sites.0 item.0.body sites.1
           (λ x k. Contains-append_right (flat_map declared_by_head s.source.heads) (flat_map (λ item. declared_by item.body) s.source.items) x (into_flat (λ (item : PlainItem). declared_by item.body) s.source.items item.0 x item.1 k))
           (λ i k. pins_there s has i (into_flat (λ (item : PlainItem). instances_in item.body) s.source.items item.0 i item.1 k)) c item.2
 
@@ -231,7 +231,7 @@ module _ (text : List PlainModule) (top : PlainModule) (sound : IsSound text) (i
   directly b (inl h) = into_flat scope_bits (scopes d) (root d) b root_there (filtered_there (root d) _ b h)
   directly b (inr h) = let part = from_flat read_at (parts d) b h in (each_part part.0 part.1).read b part.2
 
-  each_read : (b : Bit) → IsRead d b → IsIn b
+  each_read : (b : Bit) → IsReadBit d b → IsIn b
   each_read b (inl h) = directly b (Contains-append_cases (top_outputs d) (flat_map read_at (parts d)) b h)
   each_read b (inr h) = ends h.0 b h.2
 

@@ -7,13 +7,13 @@ use Rattle.bb_ast.specs.Syntax.{PlainBody, Ports, Nets, Regs, Supply, Assign, Ga
 use Rattle.bb_names.specs.declared.fault.NameFault.{NameFault}
 use Rattle.bb_names.specs.declared.fault.NameFault.TheVariants as name_faults
 use Rattle.bb_names.specs.Faults.{Rows, twice, unknown, kinds, statement_faults, module_faults}
-use Rattle.bb_names.specs.Spots.{Spot, ModuleName, Target, header_spots, item_spots, module_named}
+use Rattle.bb_names.specs.Sites.{Site, ModuleName, Target, header_sites, item_sites, module_named}
 use Rattle.bb_bits.specs.Earlier.{each_from}
 use Rattle.bb_design.specs.Hierarchy.{Instance, instance_of, instances_in, instances_of, instantiations}
 use Rattle.bb_design.specs.Laws.HierarchyLaws.{SoundTextsHaveModulesApart, SoundTextsHaveTargets}
-use Rattle.bb_lists.proofs.Members.{from_flat, from_map, all_from, none_of, left_nil, right_nil, flat_nil, map_nil, contains_here, contains_there, none_in_nil}
-use Rattle.bb_lists.proofs.Apart.{push_name}
-use Rattle.bb_design.proofs.SoundConstructs.{not_told, spot_sound}
+use Rattle.bb_lemmas.proofs.Members.{from_flat, from_map, all_from, none_of, left_nil, right_nil, flat_nil, map_nil, contains_here, contains_there, none_in_nil}
+use Rattle.bb_lemmas.proofs.Apart.{push_name}
+use Rattle.bb_design.proofs.SoundConstructs.{not_reported, site_sound}
 
 abbrev module_names : List PlainModule → List (List ℕ)
 module_names ms = map (λ m. m.name) ms
@@ -22,9 +22,9 @@ modules_apart : (text before ms : List PlainModule) → each_from (module_faults
 modules_apart text before [] e apart = subst (λ l. AllPairs ◌≢◌ (module_names l)) (sym (append-nil before)) apart
 modules_apart text before (m ∷ ms) e apart =
     let here = left_nil (module_faults text before m) _ e in
-    let header = left_nil (statement_faults text m m.line (header_spots before m)) _ here in
-    let rows = map_nil (name_faults.Twice m.line) (flat_map (twice text m) (header_spots before m)) (flat_nil (λ (x : (ℕ → List ℕ → NameFault) × Rows). map (x.0 m.line) (flat_map (x.1 text m) (header_spots before m))) kinds header (name_faults.Twice, twice) (0, omega arith, refl)) in
-    let new = not_told _ m.name (flat_nil (twice text m) (header_spots before m) rows (ModuleName before m.name) (0, omega arith, refl)) in
+    let header = left_nil (statement_faults text m m.line (header_sites before m)) _ here in
+    let rows = map_nil (name_faults.Twice m.line) (flat_map (twice text m) (header_sites before m)) (flat_nil (λ (x : (ℕ → List ℕ → NameFault) × Rows). map (x.0 m.line) (flat_map (x.1 text m) (header_sites before m))) kinds header (name_faults.Twice, twice) (0, omega arith, refl)) in
+    let new = not_reported _ m.name (flat_nil (twice text m) (header_sites before m) rows (ModuleName before m.name) (0, omega arith, refl)) in
     let next : AllPairs ◌≢◌ (module_names (before ++ m ∷ [])) = subst (AllPairs ◌≢◌) (sym (map-append (λ (x : PlainModule). x.name) before (m ∷ [])))
     (push_name (module_names before) m.name apart (λ k has same. true≢false (sym ((bytes_decides m.name k).1 (sym same)) ∙ none_of (same_name m.name) (module_names before) new k has))) in
     subst (λ l. AllPairs ◌≢◌ (module_names l)) (append_assoc before (m ∷ []) ms) (modules_apart text (before ++ m ∷ []) ms (right_nil (module_faults text before m) _ e) next)
@@ -42,7 +42,7 @@ found_name (m ∷ ms) n e = by (same_name m.name n) refl e (found_name ms n)
     by false other h rest = contains_there m.name (module_names ms) n (rest h)
 
 -- what an item without faults instantiates is a module
-body_target : (text : List PlainModule) (m : PlainModule) (earlier : List _) (body : PlainBody) → ((z : Spot) → Contains (item_spots text earlier body) z → unknown text m z ≡ [])
+body_target : (text : List PlainModule) (m : PlainModule) (earlier : List _) (body : PlainBody) → ((z : Site) → Contains (item_sites text earlier body) z → unknown text m z ≡ [])
     → (i : Instance) → Contains (instances_in body) i → Contains (module_names text) i.target
 body_target text m earlier (Ports port names) sound i has = absurd (none_in_nil i has)
 body_target text m earlier (Nets range nets) sound i has = absurd (none_in_nil i has)
@@ -52,7 +52,7 @@ body_target text m earlier (Assign all) sound i has = absurd (none_in_nil i has)
 body_target text m earlier (Gates gate all) sound i has = absurd (none_in_nil i has)
 body_target text m earlier (Calls target calls) sound i has =
     let x = from_map (instance_of target) calls i has in
-    subst (Contains (module_names text)) (ap (λ (j : Instance). j.target) x.2) (found_name text target (not_told _ target (sound (Target target) (0, omega arith, refl))))
+    subst (Contains (module_names text)) (ap (λ (j : Instance). j.target) x.2) (found_name text target (not_reported _ target (sound (Target target) (0, omega arith, refl))))
 body_target text m earlier (Always r) sound i has = absurd (none_in_nil i has)
 
 pub sound_texts_have_targets : SoundTextsHaveTargets
@@ -60,6 +60,6 @@ sound_texts_have_targets text sound = all_from (λ x. Contains (module_names tex
     let m = from_flat _ text x has in
     let i = from_map _ (instances_of m.0) x m.2 in
     let item = from_flat (λ (item : PlainItem). instances_in item.body) m.0.items i.0 i.1 in
-    let sound_item = spot_sound text sound m.0 m.1 item.0 item.1 in
+    let sound_item = site_sound text sound m.0 m.1 item.0 item.1 in
     subst (Contains (module_names text)) (ap (λ z. z.1) i.2)
     (body_target text m.0 sound_item.0 item.0.body (λ z at. sound_item.1 z at (name_faults.Unknown, unknown) (1, omega arith, refl)) i.0 item.2))

@@ -10,14 +10,14 @@ use Rattle.bb_names.specs.declared.fault.NameFault.{NameFault}
 use Rattle.bb_names.specs.declared.fault.NameFault.TheVariants as name_faults
 use Rattle.bb_names.specs.Declarations.{Declaration, declared_by_head, declared_by, instance_declaration, is_port}
 use Rattle.bb_names.specs.Faults.{clashes, declares_supply, same_range, Rows, twice, kinds, statement_faults, module_faults}
-use Rattle.bb_names.specs.Spots.{Spot, Declared, Target, Placed, header_spots, item_spots, conns_spots, module_named, place_count}
+use Rattle.bb_names.specs.Sites.{Site, Declared, Target, Placed, header_sites, item_sites, conns_sites, module_named, place_count}
 use Rattle.bb_bits.specs.Earlier.{each_from}
 use Rattle.bb_design.specs.Hierarchy.{Instance, instance_of, instances_in}
 use Rattle.bb_design.specs.Laws.{HasNamesApart, SoundTextsHaveNamesApart}
-use Rattle.bb_lists.proofs.Members.{from_flat, from_map, all_from, contains-map, into_flat, left_nil, right_nil, flat_nil, map_nil, contains_here, contains_there, none_in_nil, none_of}
-use Rattle.bb_design.proofs.SoundConstructs.{not_told}
-use Rattle.bb_lists.proofs.Earlier.{each_nil}
-use Rattle.bb_lists.proofs.Apart.{push_name}
+use Rattle.bb_lemmas.proofs.Members.{from_flat, from_map, all_from, contains-map, into_flat, left_nil, right_nil, flat_nil, map_nil, contains_here, contains_there, none_in_nil, none_of}
+use Rattle.bb_design.proofs.SoundConstructs.{not_reported}
+use Rattle.bb_lemmas.proofs.Earlier.{each_nil}
+use Rattle.bb_lemmas.proofs.Apart.{push_name}
 
 -- an instance clashes with every earlier declaration of its name
 clash_names : (a b c i r : Bool) → (a && (b || c || i || true || r)) ≡ false → a ≡ false
@@ -54,17 +54,17 @@ call-names [] = refl
 call-names (x ∷ xs) = ap (λ l. x.0 ∷ l) (call-names xs)
 
 module _ (text : List PlainModule) (m : PlainModule) where
-  -- what stands in a list of instances
-  abbrev call_spots : List Declaration → Option PlainModule → List (List ℕ × PlainConns) → List ℕ × PlainConns → List Spot
-  call_spots earlier target before x = Declared (earlier ++ map (λ y. instance_declaration y.0) before) (instance_declaration x.0) ∷ Placed target x.0 (place_count x.1) ∷ conns_spots target x.1
+  -- what is in a list of instances
+  abbrev call_sites : List Declaration → Option PlainModule → List (List ℕ × PlainConns) → List ℕ × PlainConns → List Site
+  call_sites earlier target before x = Declared (earlier ++ map (λ y. instance_declaration y.0) before) (instance_declaration x.0) ∷ Placed target x.0 (place_count x.1) ∷ conns_sites target x.1
 
   calls_apart : (earlier : List Declaration) (target : Option PlainModule) (prior : List (List ℕ)) → ((n : List ℕ) → Contains prior n → Contains (names_of earlier) n) → (before calls : List (List ℕ × PlainConns))
-      → ((z : Spot) → Contains (each_from (call_spots earlier target) before calls) z → twice text m z ≡ []) → AllPairs ◌≢◌ (prior ++ map (λ x. x.0) before) → AllPairs ◌≢◌ (prior ++ map (λ x. x.0) (before ++ calls))
+      → ((z : Site) → Contains (each_from (call_sites earlier target) before calls) z → twice text m z ≡ []) → AllPairs ◌≢◌ (prior ++ map (λ x. x.0) before) → AllPairs ◌≢◌ (prior ++ map (λ x. x.0) (before ++ calls))
   calls_apart earlier target prior sub before [] sound apart = subst (λ l. AllPairs ◌≢◌ (prior ++ map (λ x. x.0) l)) (sym (append-nil before)) apart
   calls_apart earlier target prior sub before (x ∷ calls) sound apart =
-      let here = call_spots earlier target before x in
-      let more = each_from (call_spots earlier target) (before ++ x ∷ []) calls in
-      let off = not_told _ x.0 (sound (Declared (earlier ++ call_declarations before) (instance_declaration x.0)) (Contains-append_left here more _ (contains_here _ (Placed target x.0 (place_count x.1) ∷ conns_spots target x.1)))) in
+      let here = call_sites earlier target before x in
+      let more = each_from (call_sites earlier target) (before ++ x ∷ []) calls in
+      let off = not_reported _ x.0 (sound (Declared (earlier ++ call_declarations before) (instance_declaration x.0)) (Contains-append_left here more _ (contains_here _ (Placed target x.0 (place_count x.1) ∷ conns_sites target x.1)))) in
       let other : (k : List ℕ) → Contains (prior ++ map (λ y. y.0) before) k → k ≢ x.0 = λ k has. differs off k (Contains-append_cases prior (map (λ y. y.0) before) k has) in
       let next : AllPairs ◌≢◌ (prior ++ map (λ y. y.0) (before ++ x ∷ [])) = subst (AllPairs ◌≢◌) (append_assoc prior (map (λ y. y.0) before) (x.0 ∷ []) ∙ ap (λ l. prior ++ l) (sym (map-append (λ (y : List ℕ × PlainConns). y.0) before (x ∷ [])))) (push_name (prior ++ map (λ y. y.0) before) x.0 apart other) in
       subst (λ l. AllPairs ◌≢◌ (prior ++ map (λ y. y.0) l)) (append_assoc before (x ∷ []) calls)
@@ -107,7 +107,7 @@ module _ (text : List PlainModule) (m : PlainModule) where
       subst (Contains (names_of (earlier_than before))) d.2 (contains-map (λ (d : Declaration). d.name) (earlier_than before) d.0
       (Contains-append_right (flat_map declared_by_head m.heads) (flat_map (λ x. declared_by x.body) before) d.0 (into_flat (λ (x : PlainItem). declared_by x.body) before item.0 d.0 item.1 d.1)))
 
-  body_apart : (before : List PlainItem) (body : PlainBody) → ((z : Spot) → Contains (item_spots text (earlier_than before) body) z → twice text m z ≡ []) → AllPairs ◌≢◌ (item_names before) → AllPairs ◌≢◌ (item_names before ++ map (λ (i : Instance). i.name) (instances_in body))
+  body_apart : (before : List PlainItem) (body : PlainBody) → ((z : Site) → Contains (item_sites text (earlier_than before) body) z → twice text m z ≡ []) → AllPairs ◌≢◌ (item_names before) → AllPairs ◌≢◌ (item_names before ++ map (λ (i : Instance). i.name) (instances_in body))
   body_apart before (Ports port names) sound apart = subst (AllPairs ◌≢◌) (sym (append-nil (item_names before))) apart
   body_apart before (Nets range nets) sound apart = subst (AllPairs ◌≢◌) (sym (append-nil (item_names before))) apart
   body_apart before (Regs range names) sound apart = subst (AllPairs ◌≢◌) (sym (append-nil (item_names before))) apart
@@ -116,21 +116,21 @@ module _ (text : List PlainModule) (m : PlainModule) where
   body_apart before (Gates gate all) sound apart = subst (AllPairs ◌≢◌) (sym (append-nil (item_names before))) apart
   body_apart before (Calls target calls) sound apart = subst (λ l. AllPairs ◌≢◌ (item_names before ++ l)) (sym (instance-names target calls))
       (calls_apart text m (earlier_than before) (module_named text target) (item_names before) (items_declare before) [] calls
-      (λ z has. sound z (contains_there (Target target) (each_from (call_spots text m (earlier_than before) (module_named text target)) [] calls) z has)) (subst (AllPairs ◌≢◌) (sym (append-nil (item_names before))) apart))
+      (λ z has. sound z (contains_there (Target target) (each_from (call_sites text m (earlier_than before) (module_named text target)) [] calls) z has)) (subst (AllPairs ◌≢◌) (sym (append-nil (item_names before))) apart))
   body_apart before (Always r) sound apart = subst (AllPairs ◌≢◌) (sym (append-nil (item_names before))) apart
 
-  items_apart : (before items : List PlainItem) → each_from (λ before item. statement_faults text m item.line (item_spots text (earlier_than before) item.body)) before items ≡ [] → AllPairs ◌≢◌ (item_names before) → AllPairs ◌≢◌ (item_names (before ++ items))
+  items_apart : (before items : List PlainItem) → each_from (λ before item. statement_faults text m item.line (item_sites text (earlier_than before) item.body)) before items ≡ [] → AllPairs ◌≢◌ (item_names before) → AllPairs ◌≢◌ (item_names (before ++ items))
   items_apart before [] e apart = subst (λ l. AllPairs ◌≢◌ (item_names l)) (sym (append-nil before)) apart
   items_apart before (item ∷ items) e apart =
-      let spots = item_spots text (earlier_than before) item.body in
-      let here = left_nil (statement_faults text m item.line spots) _ e in
-      let sound : (z : Spot) → Contains spots z → twice text m z ≡ [] = λ z has. flat_nil (twice text m) spots (map_nil (name_faults.Twice item.line) (flat_map (twice text m) spots)
-      (flat_nil (λ (x : (ℕ → List ℕ → NameFault) × Rows). map (x.0 item.line) (flat_map (x.1 text m) spots)) kinds here (name_faults.Twice, twice) (0, omega arith, refl))) z has in
+      let sites = item_sites text (earlier_than before) item.body in
+      let here = left_nil (statement_faults text m item.line sites) _ e in
+      let sound : (z : Site) → Contains sites z → twice text m z ≡ [] = λ z has. flat_nil (twice text m) sites (map_nil (name_faults.Twice item.line) (flat_map (twice text m) sites)
+      (flat_nil (λ (x : (ℕ → List ℕ → NameFault) × Rows). map (x.0 item.line) (flat_map (x.1 text m) sites)) kinds here (name_faults.Twice, twice) (0, omega arith, refl))) z has in
       let one : item_names (item ∷ []) ≡ map (λ (i : Instance). i.name) (instances_in item.body) = ap (map (λ (i : Instance). i.name)) (append-nil (instances_in item.body)) in
       let next : AllPairs ◌≢◌ (item_names (before ++ item ∷ [])) = subst (AllPairs ◌≢◌) (ap (λ l. item_names before ++ l) (sym one) ∙ sym (names-append before (item ∷ []))) (body_apart before item.body sound apart) in
-      subst (λ l. AllPairs ◌≢◌ (item_names l)) (append_assoc before (item ∷ []) items) (items_apart (before ++ item ∷ []) items (right_nil (statement_faults text m item.line spots) _ e) next)
+      subst (λ l. AllPairs ◌≢◌ (item_names l)) (append_assoc before (item ∷ []) items) (items_apart (before ++ item ∷ []) items (right_nil (statement_faults text m item.line sites) _ e) next)
 
 pub sound_texts_have_names_apart : SoundTextsHaveNamesApart
 sound_texts_have_names_apart text sound = all_from HasNamesApart text (λ m has.
     let in_module = each_nil (module_faults text) [] text sound m has in
-    items_apart text m [] m.items (right_nil (statement_faults text m m.line (header_spots in_module.0 m)) _ in_module.1) (λ i j d less within. absurd (omega (arith, within))))
+    items_apart text m [] m.items (right_nil (statement_faults text m m.line (header_sites in_module.0 m)) _ in_module.1) (λ i j d less within. absurd (omega (arith, within))))

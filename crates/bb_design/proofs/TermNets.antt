@@ -13,21 +13,21 @@ use Rattle.bb_ast.specs.Folds.{fold_by, of_operands, of_words, of_arms, of_parts
 use Rattle.bb_bits.specs.Numbers.{bits_of}
 use Rattle.bb_names.specs.Declarations.{range_of}
 use Rattle.bb_names.specs.Ranges.{distance, range_width, place_of}
-use Rattle.bb_names.specs.Spots.{Use, Spot, Number, Whole, Used, with_inside, part_spots, inside, is_plain, spots_in}
+use Rattle.bb_names.specs.Sites.{Use, Site, Number, Whole, Used, with_inside, part_sites, inside, is_plain, sites_in}
 use Rattle.bb_names.specs.Widths.{Ranges, own_width, Operand, first_at, second_at, word_step, words_at}
 use Rattle.bb_expr.specs.Lists.{extended, copies, bitwise}
 use Rattle.bb_expr.specs.Terms.{Term, Const, Net, Not, And, Or, Xor, Mux, terms}
-use Rattle.bb_expr.specs.Cells.{Made, made, makes, net_terms, inverted, operated, chained, word_made, fold_made, any_from, any_bit, selected, arm_made, arms_made, part_bits, part_cells}
+use Rattle.bb_expr.specs.Cells.{MadeTerms, made, makes, net_terms, inverted, operated, chained, word_made, fold_made, any_from, any_bit, selected, arm_made, arms_made, part_bits, part_cells}
 use Rattle.bb_design.specs.Hierarchy.{Scope}
 use Rattle.bb_design.specs.NetBits.{Bit, bits_from, scope_bits, assigned, written_bits}
 use Rattle.bb_design.specs.GateFunctions.{on_terms, joins, joined, inverts, gate_gives, joined_after, joining_cells, gate_cells}
 use Rattle.bb_design.specs.Reading.{operand_terms, bit_itself}
 use Rattle.bb_word.specs.Folds.{is_odd, fold_circuit}
 use Rattle.bb_word.specs.Words.{word_circuit}
-use Rattle.bb_lists.proofs.Each.{each_reverse}
+use Rattle.bb_lemmas.proofs.Each.{each_reverse}
 use Rattle.bb_word.specs.Laws.KeptLaws.{IsKept, kept_word, kept_fold}
-use Rattle.bb_lists.proofs.Members.{from_map, contains_here, contains_there, contains_cases, none_in_nil}
-use Rattle.bb_lists.proofs.Ranges.{from_range}
+use Rattle.bb_lemmas.proofs.Members.{from_map, contains_here, contains_there, contains_cases, none_in_nil}
+use Rattle.bb_lemmas.proofs.Ranges.{from_range}
 use Rattle.bb_design.proofs.Operators.{Each, each_nil, each_cons, each_append, each_replicate, each_copies}
 
 by_parts : {A B C : Type 0} → A ⊎ B → (A → C) → (B → C) → C
@@ -49,34 +49,34 @@ module _ (s : Scope) where
   Names (Xor a b) = Names a × Names b
   Names (Mux c t e) = Names c × Names t × Names e
 
-  pub record AreNamed (m : Made) : Type 0 where
+  pub record AreNamed (m : MadeTerms) : Type 0 where
     pub bits : Each m.bits Names
     pub cells : Each m.cells Names
 
-  -- it has the bits that are used at a spot
-  abbrev pub HasUsed : Spot → Type 0
+  -- it has the bits that are used at a site
+  abbrev pub HasUsed : Site → Type 0
   HasUsed (Used how n None) = (k : ℕ) → k < range_width (range_of s.source n) → HasBit n k
   HasUsed (Used how n (Some bits)) = (k : ℕ) → k < distance bits.0 bits.1 + 1 → HasBit n (place_of (range_of s.source n) bits.0 + k)
-  HasUsed spot = Unit {0}
+  HasUsed site = Unit {0}
 
-  abbrev pub HaveUsed : List Spot → Type 0
-  HaveUsed spots = (z : Spot) → Contains spots z → HasUsed z
+  abbrev pub HaveUsed : List Site → Type 0
+  HaveUsed sites = (z : Site) → Contains sites z → HasUsed z
 
-  front : (xs ys : List Spot) → HaveUsed (xs ++ ys) → HaveUsed xs
-  front xs ys all z has = all z (Contains-append_left xs ys z has)
+  prefix : (xs ys : List Site) → HaveUsed (xs ++ ys) → HaveUsed xs
+  prefix xs ys all z has = all z (Contains-append_left xs ys z has)
 
-  back : (xs ys : List Spot) → HaveUsed (xs ++ ys) → HaveUsed ys
+  back : (xs ys : List Site) → HaveUsed (xs ++ ys) → HaveUsed ys
   back xs ys all z has = all z (Contains-append_right xs ys z has)
 
-  behind : (x : Spot) (xs : List Spot) → HaveUsed (x ∷ xs) → HaveUsed xs
-  behind x xs all z has = all z (contains_there x xs z has)
+  after : (x : Site) (xs : List Site) → HaveUsed (x ∷ xs) → HaveUsed xs
+  after x xs all z has = all z (contains_there x xs z has)
 
-  only : (x y : Spot) → HaveUsed (x ∷ y ∷ []) → HasUsed y
+  only : (x y : Site) → HaveUsed (x ∷ y ∷ []) → HasUsed y
   only x y all = all y (contains_there x (y ∷ []) y (contains_here y []))
 
-  part_behind : (b : Bool) (xs : List Spot) → HaveUsed (if b then Number ∷ xs else xs) → HaveUsed xs
-  part_behind true xs all = behind Number xs all
-  part_behind false xs all = all
+  part_after : (b : Bool) (xs : List Site) → HaveUsed (if b then Number ∷ xs else xs) → HaveUsed xs
+  part_after true xs all = after Number xs all
+  part_after false xs all = all
 
   from_zero : (n : List ℕ) (count : ℕ) → ((k : ℕ) → k < count → HasBit n k) → (k : ℕ) → k < count → HasBit n (0 + k)
   from_zero n count all k lt = let same : k ≡ 0 + k = omega arith in subst (HasBit n) same (all k lt)
@@ -141,11 +141,11 @@ module _ (s : Scope) where
       (selected_named c ts es first (λ x has. a x (contains_there t ts x has)) (λ x has. b x (contains_there e es x has)))
 
   -- what is made
-  not_named : (o : Bool) (x : Made) → AreNamed x → AreNamed (if o then record { bits = inverted x.bits; cells = x.cells ++ inverted x.bits } else x)
+  not_named : (o : Bool) (x : MadeTerms) → AreNamed x → AreNamed (if o then record { bits = inverted x.bits; cells = x.cells ++ inverted x.bits } else x)
   not_named true x h = let not = inverted_named x.bits h.bits in record { bits = not; cells = each_append Names x.cells (inverted x.bits) h.cells not }
   not_named false x h = h
 
-  chained_named : (op : Op) (a b : Made) → AreNamed a → AreNamed b → AreNamed (chained a b (operated op a.bits b.bits))
+  chained_named : (op : Op) (a b : MadeTerms) → AreNamed a → AreNamed b → AreNamed (chained a b (operated op a.bits b.bits))
   chained_named op a b first second =
       let both = operated_named op a.bits b.bits first.bits second.bits in
       record { bits = both.bits; cells = each_append Names (a.cells ++ b.cells) (operated op a.bits b.bits).cells (each_append Names a.cells b.cells first.cells second.cells) both.cells }
@@ -162,7 +162,7 @@ module _ (s : Scope) where
     choice = λ c t e has p q r. (p, q, r);
   }
 
-  word_named : (op : WordOp) (m n : ℕ) (a b : Made) (w : ℕ) → AreNamed a → AreNamed b → AreNamed (word_made op m n a b w)
+  word_named : (op : WordOp) (m n : ℕ) (a b : MadeTerms) (w : ℕ) → AreNamed a → AreNamed b → AreNamed (word_made op m n a b w)
   word_named op m n a b w first second =
       let circuit = word_circuit terms op (reverse a.bits) (reverse b.bits) in
       let kept = kept_word terms Names circuit.cells (names_kept circuit.cells) op (reverse a.bits) (reverse b.bits) (each_reverse Names a.bits first.bits) (each_reverse Names b.bits second.bits) (λ t has. has) in
@@ -171,7 +171,7 @@ module _ (s : Scope) where
         cells = each_append Names (a.cells ++ b.cells) circuit.cells (each_append Names a.cells b.cells first.cells second.cells) kept.cells;
       }
 
-  fold_named : (op : FoldOp) (a : Made) (w : ℕ) → AreNamed a → AreNamed (fold_made op a w)
+  fold_named : (op : FoldOp) (a : MadeTerms) (w : ℕ) → AreNamed a → AreNamed (fold_made op a w)
   fold_named op a w first =
       let circuit = fold_circuit terms op (reverse a.bits) in
       let kept = kept_fold terms Names circuit.cells (names_kept circuit.cells) op (reverse a.bits) (each_reverse Names a.bits first.bits) (λ t has. has) in
@@ -180,7 +180,7 @@ module _ (s : Scope) where
         cells = each_append Names a.cells circuit.cells first.cells kept.cells;
       }
 
-  arm_named : (c t e : Made) → AreNamed c → AreNamed t → AreNamed e → AreNamed (arm_made c t e)
+  arm_named : (c t e : MadeTerms) → AreNamed c → AreNamed t → AreNamed e → AreNamed (arm_made c t e)
   arm_named c t e first second third =
       let any = any_bit_named c.bits first.bits in
       let last = selected_named (any_bit c.bits).0 t.bits e.bits any.0 second.bits third.bits in
@@ -192,64 +192,64 @@ module _ (s : Scope) where
   abbrev ranges : Ranges
   ranges = range_of s.source
 
-  abbrev seen : Expression → (ℕ → Made) → Operand Made
+  abbrev seen : Expression → (ℕ → MadeTerms) → Operand MadeTerms
   seen e a = record { width = own_width ranges e; at = a }
 
-  abbrev spots_of : Use → Expression → List Spot → Expression × List Spot
-  spots_of how e spots = (e, spots)
+  abbrev sites_of : Use → Expression → List Site → Expression × List Site
+  sites_of how e sites = (e, sites)
 
-  -- the spots behind the first
-  abbrev inner_spots : Use → Expression → List Spot
-  inner_spots how e = fold_by (spots_of how) (inside how) e
+  -- the sites after the first
+  abbrev inner_sites : Use → Expression → List Site
+  inner_sites how e = fold_by (sites_of how) (inside how) e
 
-  abbrev operand_spots : Use → Operands → List Spot
-  operand_spots how rest = flat_map (λ x. with_inside x.1) (of_operands (spots_of how) (inside how) rest)
+  abbrev operand_sites : Use → Operands → List Site
+  operand_sites how rest = flat_map (λ x. with_inside x.1) (of_operands (sites_of how) (inside how) rest)
 
-  abbrev word_spots : Use → WordOperands → List Spot
-  word_spots how rest = flat_map (λ x. with_inside x.1) (of_words (spots_of how) (inside how) rest)
+  abbrev word_sites : Use → WordOperands → List Site
+  word_sites how rest = flat_map (λ x. with_inside x.1) (of_words (sites_of how) (inside how) rest)
 
-  abbrev arm_spots : Use → Arms → List Spot
-  arm_spots how arms = flat_map (λ x. with_inside x.0 ++ with_inside x.1) (of_arms (spots_of how) (inside how) arms)
+  abbrev arm_sites : Use → Arms → List Site
+  arm_sites how arms = flat_map (λ x. with_inside x.0 ++ with_inside x.1) (of_arms (sites_of how) (inside how) arms)
 
-  abbrev parts_spots : Use → Parts → List Spot
-  parts_spots how parts = flat_map part_spots (of_parts (spots_of how) (inside how) parts)
+  abbrev parts_sites : Use → Parts → List Site
+  parts_sites how parts = flat_map part_sites (of_parts (sites_of how) (inside how) parts)
 
-  abbrev first_spots : Use → Expression → List Spot
-  first_spots how e = if is_plain e then Number ∷ spots_in how e else spots_in how e
+  abbrev first_sites : Use → Expression → List Site
+  first_sites how e = if is_plain e then Number ∷ sites_in how e else sites_in how e
 
   mutual
-    pub named : (how : Use) (e : Expression) (w : ℕ) → HaveUsed (spots_in how e) → AreNamed (made ranges e w)
+    pub named : (how : Use) (e : Expression) (w : ℕ) → HaveUsed (sites_in how e) → AreNamed (made ranges e w)
     named how (NetOf n) w all = record { bits = extended_named w (net_terms n 0 (range_width (ranges n))) (terms_has n 0 (range_width (ranges n)) (from_zero n (range_width (ranges n)) (only (Whole (NetOf n)) (Used how n None) all))); cells = each_nil Names }
     named how (BitOf n i) w all = record { bits = extended_named w (net_terms n (place_of (ranges n) i) 1) (terms_has n (place_of (ranges n) i) 1 (λ k lt. only (Whole (BitOf n i)) (Used how n (Some (i, i))) all k (omega (arith, lt)))); cells = each_nil Names }
     named how (Part n i j) w all = record { bits = extended_named w (net_terms n (place_of (ranges n) i) (distance i j + 1)) (terms_has n (place_of (ranges n) i) (distance i j + 1) (only (Whole (Part n i j)) (Used how n (Some (i, j))) all)); cells = each_nil Names }
     named how (Sized bits) w all = record { bits = extended_named w (map Const bits) (constants_named bits); cells = each_nil Names }
     named how (Plain n) w all = record { bits = extended_named w (map Const (bits_of 32 n)) (constants_named (bits_of 32 n)); cells = each_nil Names }
-    named how (NotOf k e) w all = not_named (is_odd k) (made ranges e w) (named how e w (behind (Whole (NotOf k e)) (spots_in how e) all))
-    named how (Fold op e) w all = fold_named op (made ranges e (own_width ranges e)) w (named how e (own_width ranges e) (behind (Whole (Fold op e)) (spots_in how e) all))
+    named how (NotOf k e) w all = not_named (is_odd k) (made ranges e w) (named how e w (after (Whole (NotOf k e)) (sites_in how e) all))
+    named how (Fold op e) w all = fold_named op (made ranges e (own_width ranges e)) w (named how e (own_width ranges e) (after (Whole (Fold op e)) (sites_in how e) all))
     named how (Chain e rest) w all =
-        let inner = behind (Whole (Chain e rest)) (inner_spots how (Chain e rest)) all in
-        named_chain how rest w (made ranges e w) (named how e w (front (spots_in how e) (operand_spots how rest) inner)) (back (spots_in how e) (operand_spots how rest) inner)
+        let inner = after (Whole (Chain e rest)) (inner_sites how (Chain e rest)) all in
+        named_chain how rest w (made ranges e w) (named how e w (prefix (sites_in how e) (operand_sites how rest) inner)) (back (sites_in how e) (operand_sites how rest) inner)
     named how (Words e rest) w all =
-        let inner = behind (Whole (Words e rest)) (inner_spots how (Words e rest)) all in
-        named_words how rest (seen e (made ranges e)) (λ v. named how e v (front (spots_in how e) (word_spots how rest) inner)) (back (spots_in how e) (word_spots how rest) inner) w
+        let inner = after (Whole (Words e rest)) (inner_sites how (Words e rest)) all in
+        named_words how rest (seen e (made ranges e)) (λ v. named how e v (prefix (sites_in how e) (word_sites how rest) inner)) (back (sites_in how e) (word_sites how rest) inner) w
     named how (Cond arms last) w all =
-        let inner = behind (Whole (Cond arms last)) (inner_spots how (Cond arms last)) all in
-        named_arms how arms w last (named how last w (back (arm_spots how arms) (spots_in how last) inner))
-        (front (arm_spots how arms) (spots_in how last) inner)
+        let inner = after (Whole (Cond arms last)) (inner_sites how (Cond arms last)) all in
+        named_arms how arms w last (named how last w (back (arm_sites how arms) (sites_in how last) inner))
+        (prefix (arm_sites how arms) (sites_in how last) inner)
     named how (Concat parts) w all =
-        let inner = named_parts how parts (behind (Whole (Concat parts)) (inner_spots how (Concat parts)) all) in
+        let inner = named_parts how parts (after (Whole (Concat parts)) (inner_sites how (Concat parts)) all) in
         record { bits = extended_named w (part_bits (of_parts seen (makes ranges) parts)) inner.0; cells = inner.1 }
     named how (Repeat k parts) w all =
-        let inner = named_parts how parts (behind (Whole (Repeat k parts)) (inner_spots how (Repeat k parts)) all) in
+        let inner = named_parts how parts (after (Whole (Repeat k parts)) (inner_sites how (Repeat k parts)) all) in
         record { bits = extended_named w (copies k (part_bits (of_parts seen (makes ranges) parts))) (each_copies Names k (part_bits (of_parts seen (makes ranges) parts)) inner.0); cells = inner.1 }
 
-    named_chain : (how : Use) (rest : Operands) (w : ℕ) (m : Made) → AreNamed m → HaveUsed (operand_spots how rest)
+    named_chain : (how : Use) (rest : Operands) (w : ℕ) (m : MadeTerms) → AreNamed m → HaveUsed (operand_sites how rest)
         → AreNamed (fold (λ a x. let b = x.1.at w in chained a b (operated x.0 a.bits b.bits)) m (of_operands seen (makes ranges) rest))
     named_chain how no_operand w m h all = h
     named_chain how (operand op e rest) w m h all = named_chain how rest w (chained m (made ranges e w) (operated op m.bits (made ranges e w).bits))
-        (chained_named op m (made ranges e w) h (named how e w (front (spots_in how e) (operand_spots how rest) all))) (back (spots_in how e) (operand_spots how rest) all)
+        (chained_named op m (made ranges e w) h (named how e w (prefix (sites_in how e) (operand_sites how rest) all))) (back (sites_in how e) (operand_sites how rest) all)
 
-    named_words : (how : Use) (rest : WordOperands) (left : Operand Made) → ((w : ℕ) → AreNamed (left.at w)) → HaveUsed (word_spots how rest) → (w : ℕ)
+    named_words : (how : Use) (rest : WordOperands) (left : Operand MadeTerms) → ((w : ℕ) → AreNamed (left.at w)) → HaveUsed (word_sites how rest) → (w : ℕ)
         → AreNamed (words_at word_made left (of_words seen (makes ranges) rest) w)
     named_words how no_word left h all w = h w
     named_words how (word op e rest) left h all w =
@@ -257,29 +257,29 @@ module _ (s : Scope) where
         (λ v.
         let l = first_at op left.width (own_width ranges e) v in
         let r = second_at op left.width (own_width ranges e) v in
-        word_named op l r (left.at l) (made ranges e r) v (h l) (named how e r (front (spots_in how e) (word_spots how rest) all)))
-        (back (spots_in how e) (word_spots how rest) all)
+        word_named op l r (left.at l) (made ranges e r) v (h l) (named how e r (prefix (sites_in how e) (word_sites how rest) all)))
+        (back (sites_in how e) (word_sites how rest) all)
         w
 
-    named_arms : (how : Use) (arms : Arms) (w : ℕ) (last : Expression) → AreNamed (made ranges last w) → HaveUsed (arm_spots how arms)
+    named_arms : (how : Use) (arms : Arms) (w : ℕ) (last : Expression) → AreNamed (made ranges last w) → HaveUsed (arm_sites how arms)
         → AreNamed (arms_made (of_arms seen (makes ranges) arms) (seen last (made ranges last)) w)
     named_arms how no_arm w last h all = h
     named_arms how (arm c e rest) w last h all =
-        let here = front (spots_in how c ++ spots_in how e) (arm_spots how rest) all in
-        arm_named (made ranges c (own_width ranges c)) (made ranges e w) (arms_made (of_arms seen (makes ranges) rest) (seen last (made ranges last)) w) (named how c (own_width ranges c) (front (spots_in how c) (spots_in how e) here)) (named how e w (back (spots_in how c) (spots_in how e) here))
-        (named_arms how rest w last h (back (spots_in how c ++ spots_in how e) (arm_spots how rest) all))
+        let here = prefix (sites_in how c ++ sites_in how e) (arm_sites how rest) all in
+        arm_named (made ranges c (own_width ranges c)) (made ranges e w) (arms_made (of_arms seen (makes ranges) rest) (seen last (made ranges last)) w) (named how c (own_width ranges c) (prefix (sites_in how c) (sites_in how e) here)) (named how e w (back (sites_in how c) (sites_in how e) here))
+        (named_arms how rest w last h (back (sites_in how c ++ sites_in how e) (arm_sites how rest) all))
 
-    named_parts : (how : Use) (parts : Parts) → HaveUsed (parts_spots how parts)
+    named_parts : (how : Use) (parts : Parts) → HaveUsed (parts_sites how parts)
         → Each (part_bits (of_parts seen (makes ranges) parts)) Names × Each (part_cells (of_parts seen (makes ranges) parts)) Names
     named_parts how no_part all = (each_nil Names, each_nil Names)
     named_parts how (part e rest) all =
-        let first = first_spots how e in
-        let here = named how e (own_width ranges e) (part_behind (is_plain e) (spots_in how e) (front first (parts_spots how rest) all)) in
-        let others = named_parts how rest (back first (parts_spots how rest) all) in
+        let first = first_sites how e in
+        let here = named how e (own_width ranges e) (part_after (is_plain e) (sites_in how e) (prefix first (parts_sites how rest) all)) in
+        let others = named_parts how rest (back first (parts_sites how rest) all) in
         (each_append Names (made ranges e (own_width ranges e)).bits (part_bits (of_parts seen (makes ranges) rest)) here.bits others.0, each_append Names (made ranges e (own_width ranges e)).cells (part_cells (of_parts seen (makes ranges) rest)) here.cells others.1)
 
   mutual
-    pub written_there : (how : Use) (e : Expression) → HaveUsed (spots_in how e) → (b : Bit) → Contains (written_bits s e) b → Contains (scope_bits s) b
+    pub written_there : (how : Use) (e : Expression) → HaveUsed (sites_in how e) → (b : Bit) → Contains (written_bits s e) b → Contains (scope_bits s) b
     written_there how (NetOf n) all b has = bits_has n 0 (range_width (ranges n)) (from_zero n (range_width (ranges n)) (only (Whole (NetOf n)) (Used how n None) all)) b has
     written_there how (BitOf n i) all b has = bits_has n (place_of (ranges n) i) 1 (λ k lt. only (Whole (BitOf n i)) (Used how n (Some (i, i))) all k (omega (arith, lt))) b has
     written_there how (Part n i j) all b has = bits_has n (place_of (ranges n) i) (distance i j + 1) (only (Whole (Part n i j)) (Used how n (Some (i, j))) all) b has
@@ -291,14 +291,14 @@ module _ (s : Scope) where
     written_there how (Words e rest) all b has = absurd (none_in_nil b has)
     written_there how (Cond arms last) all b has = absurd (none_in_nil b has)
     written_there how (Repeat k parts) all b has = absurd (none_in_nil b has)
-    written_there how (Concat parts) all b has = written_parts how parts (behind (Whole (Concat parts)) (inner_spots how (Concat parts)) all) b has
+    written_there how (Concat parts) all b has = written_parts how parts (after (Whole (Concat parts)) (inner_sites how (Concat parts)) all) b has
 
-    written_parts : (how : Use) (parts : Parts) → HaveUsed (parts_spots how parts) → (b : Bit)
+    written_parts : (how : Use) (parts : Parts) → HaveUsed (parts_sites how parts) → (b : Bit)
         → Contains (flat_map (λ bits. bits) (of_parts (λ e a. a) (assigned s) parts)) b → Contains (scope_bits s) b
     written_parts how no_part all b has = absurd (none_in_nil b has)
     written_parts how (part e rest) all b has = by_parts (Contains-append_cases (written_bits s e) (flat_map (λ bits. bits) (of_parts (λ e a. a) (assigned s) rest)) b has)
-        (written_there how e (part_behind (is_plain e) (spots_in how e) (front (first_spots how e) (parts_spots how rest) all)) b)
-        (written_parts how rest (back (first_spots how e) (parts_spots how rest) all) b)
+        (written_there how e (part_after (is_plain e) (sites_in how e) (prefix (first_sites how e) (parts_sites how rest) all)) b)
+        (written_parts how rest (back (first_sites how e) (parts_sites how rest) all) b)
 
   -- a term that is a bit of a net, and the operands of a cell
   pub itself_there : (t : Term) → Names t → (b : Bit) → Contains (bit_itself s.path t) b → Contains (scope_bits s) b

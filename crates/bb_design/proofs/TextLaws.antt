@@ -5,7 +5,7 @@ use Rattle.bb_design.specs.Hierarchy.{Path, path_to}
 use Rattle.bb_design.specs.Texts.{path_text}
 use Rattle.bb_design.specs.Laws.{HasNoDot, PathsAreCalledApart}
 
--- names before a dot are equal, and so is what stands behind it
+-- names before a dot are equal, and so is what follows it
 cut_same : (n m r s : List ℕ) → HasNoDot n → HasNoDot m → n ++ 46 ∷ r ≡ m ++ 46 ∷ s → (n ≡ m) × (r ≡ s)
 cut_same [] [] r s a b e = (refl, ap (drop 1) e)
 cut_same [] (y ∷ m) r s a b e = absurd (All-head (λ c. c ≢ 46) y m b (sym (ap (λ l. get_or l 0 0) e)))
@@ -14,7 +14,7 @@ cut_same (x ∷ n) (y ∷ m) r s a b e =
     let rest = cut_same n m r s (All-tail (λ c. c ≢ 46) x n a) (All-tail (λ c. c ≢ 46) y m b) (ap (drop 1) e) in
     (ap₂ ◌∷◌ (ap (λ l. get_or l 0 0) e) rest.0, rest.1)
 
--- a name without a dot is no name with a dot behind it
+-- a name without a dot is no name with a dot after it
 no_cut : (n m s : List ℕ) → HasNoDot n → n ≡ m ++ 46 ∷ s → ⊥
 no_cut [] [] s a e = grind (arith, e)
 no_cut [] (y ∷ m) s a e = grind (arith, e)

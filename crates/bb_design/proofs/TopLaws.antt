@@ -3,7 +3,7 @@ use Rattle.std.proofs.Common.{◌≡◌, ◌⊎◌, Bool, not, List, [], ◌∷�
 use Rattle.bb_ast.specs.Syntax.{PlainModule}
 use Rattle.bb_design.specs.Hierarchy.{is_instantiated, roots, the_only, top_of}
 use Rattle.bb_design.specs.Laws.{TopIsOnly}
-use Rattle.bb_lists.proofs.Members.{contains_cases, contains_here, keeps, kept_from, none_in_nil}
+use Rattle.bb_lemmas.proofs.Members.{contains_cases, contains_here, keeps, kept_from, none_in_nil}
 
 module _ {A : Type 0} where
   pub the_only_is : (xs : List A) (x : A) → the_only xs ≡ Some x → xs ≡ x ∷ []

@@ -10,11 +10,11 @@ use Rattle.bb_bits.specs.Closures.{Leads, One, More}
 use Rattle.bb_design.specs.Hierarchy.{Instance, instances_of, instantiations}
 use Rattle.bb_design.specs.Laws.HierarchyLaws.{WalksAreByPlaces}
 use Rattle.bb_design.proofs.CalleeLaw.{callees_are_instantiated}
-use Rattle.bb_lists.proofs.Names.{place-holds}
-use Rattle.bb_lists.proofs.Places.{mapped_at, there_at}
-use Rattle.bb_lists.proofs.Members.{from_filter, from_flat, from_map, contains-map, into_flat}
+use Rattle.bb_lemmas.proofs.Names.{place-holds}
+use Rattle.bb_lemmas.proofs.Places.{mapped_at, there_at}
+use Rattle.bb_lemmas.proofs.Members.{from_filter, from_flat, from_map, contains-map, into_flat}
 use Rattle.bb_design.proofs.SoundModules.{sound_texts_have_targets}
-use Rattle.bb_lists.proofs.Numbered.{at-place, placed-at}
+use Rattle.bb_lemmas.proofs.Numbered.{at-place, placed-at}
 
 -- a place below the length has a module
 module-at : (text : List PlainModule) (k : ℕ) (n : List ℕ) → slice_get (map (λ m. m.name) text) k ≡ Some n → (m : PlainModule) × (slice_get text k ≡ Some m)

@@ -10,7 +10,7 @@ use Rattle.bb_design.specs.Laws.DrivenWorlds.{IsGiven, IsLegal, ConstructsHoldBi
 use Rattle.bb_design.specs.Laws.{ScopesAreEnds}
 use Rattle.bb_design.specs.Refusals.{IsShallow}
 use Rattle.bb_design.specs.Worlds.{World, Holds, IsWorld}
-use Rattle.bb_lists.proofs.Members.{from_flat, from_map, all_from, contains-map, into_flat}
+use Rattle.bb_lemmas.proofs.Members.{from_flat, from_map, all_from, contains-map, into_flat}
 
 module _ (law : ConstructsHoldBitByBit) (d : Design) (contents : Contents) (w : World) (ends : ScopesAreEnds d) (shallow : IsShallow d) (widths : All (λ x. IsLegal contents x.0 x.1) (parts d)) where
   part_there : (s : Scope) (c : Construct) → Contains (scopes d) s → Contains (constructs_at d.text s) c → Contains (parts d) (s, c)

@@ -9,17 +9,17 @@ use Rattle.bb_design.specs.Hierarchy.{Design, Scope}
 use Rattle.bb_design.specs.NetBits.{Bit, same_bit, net_order, input_bits, top_inputs, written_bits}
 use Rattle.bb_design.specs.Constructs.{Construct, Assignment, GateInstance, Register, SupplyNet, InputConnection, OutputConnection, BoxContents, parts}
 use Rattle.bb_design.specs.Registers.{RegisterBit, stored_at, stored, registers}
-use Rattle.bb_design.specs.Drivers.{Source, Free, MadeOf, Box, Drive, driven, drives_at, drives, driven_bits}
+use Rattle.bb_design.specs.Drivers.{DrivingSource, Free, MadeOf, Box, Drive, driven, drives_at, drives, driven_bits}
 use Rattle.bb_design.specs.Dependence.{needed, dependences}
 use Rattle.bb_design.specs.Texts.{path_text, bit_text}
 use Rattle.bb_design.specs.Worlds.{World, Vector, HasVector, bits_in}
 use Rattle.bb_net.specs.CutPoints.{TopInput, State}
 use Rattle.bb_design.specs.Refusals.{AreDrivenOnce, IsAcyclic}
 use Rattle.bb_design.specs.Laws.DrivenWorlds.{Gives, IsGiven, IsDrivenWorld, VectorsHaveWorlds}
-use Rattle.bb_lists.proofs.Members.{from_flat, from_map, all_from, contains-map, into_flat, contains_here, contains_there, contains_cases, none_in_nil, find_there, from_filter_map, from_find}
+use Rattle.bb_lemmas.proofs.Members.{from_flat, from_map, all_from, contains-map, into_flat, contains_here, contains_there, contains_cases, none_in_nil, find_there, from_filter_map, from_find}
 use Rattle.bb_design.proofs.WorldLaws.{same_bit_is, same_bit_self, same_terms, same_bits}
-use Rattle.bb_lists.proofs.Apart.{apart_append, one_by}
-use Rattle.bb_lists.proofs.Numbered.{from_numbered}
+use Rattle.bb_lemmas.proofs.Apart.{apart_append, one_by}
+use Rattle.bb_lemmas.proofs.Numbered.{from_numbered}
 
 -- the world with these bits
 abbrev world_of : (Bit → Bool) → World
@@ -65,12 +65,12 @@ tops_are_first d = map-append (λ (u : Drive). u.bit) (map (driven Free) (top_in
 
 module _ (d : Design) (contents : Contents) (x : Vector) where
   -- what a source gives, where the bits that it needs are known
-  value_by : (Bit → Bool) → Source → Bit → Bool
+  value_by : (Bit → Bool) → DrivingSource → Bit → Bool
   value_by bit Free b = if list_any (same_bit b) (top_inputs d) then x (TopInput (bit_text d b)) else x (State (bit_text d b))
   value_by bit (MadeOf path t) b = term_bit (world_of bit path) t
   value_by bit (Box s pin) b = output_bit (contents (path_text s.path)) (bits_in (world_of bit) (input_bits s)) pin
 
-  value_same : (f g : Bit → Bool) (s : Source) (b : Bit) → ((c : Bit) → Contains (needed s) c → f c ≡ g c) → value_by f s b ≡ value_by g s b
+  value_same : (f g : Bit → Bool) (s : DrivingSource) (b : Bit) → ((c : Bit) → Contains (needed s) c → f c ≡ g c) → value_by f s b ≡ value_by g s b
   unfolding value_by
   value_same f g Free b same = refl
   value_same f g (MadeOf path t) b same = same_terms path (world_of f) (world_of g) t same
@@ -123,7 +123,7 @@ module _ (d : Design) (contents : Contents) (x : Vector) where
     final_is y has = ap (λ o. value_at (within (acyclic.0 y.bit)) o y.bit) (source_found y has)
         ∙ value_same (within (acyclic.0 y.bit)) final y.source y.bit (λ c need. steady (acyclic.0 y.bit) (suc (acyclic.0 c)) c (falls y has c need) (omega arith))
 
-    given : (y : Drive) (s : Source) → final y.bit ≡ value_by final s y.bit → Gives contents (world_of final) s (final y.bit)
+    given : (y : Drive) (s : DrivingSource) → final y.bit ≡ value_by final s y.bit → Gives contents (world_of final) s (final y.bit)
     unfolding value_by
     given y Free e = tt
     given y (MadeOf path t) e = e

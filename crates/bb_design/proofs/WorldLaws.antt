@@ -2,7 +2,7 @@
 use Rattle.std.proofs.Common.{◌≡◌, ◌⊎◌, ℕ, zero, suc, ◌<◌, ◌==◌, Bool, true, false, not, ◌&&◌, ◌||◌, if◌then◌else◌, List, [], ◌∷◌, ◌++◌, map, flat_map, find, Contains, refl, sym, ap, ap₂, ◌∙◌, subst, inl, inr, arith}
 use Rattle.std.specs.List.{enumerate_from}
 use Rattle.std.proofs.lemmas.List.Elements.{All-contains, Contains-append_cases, Contains-append_left, Contains-append_right}
-use Rattle.bb_lists.proofs.Bits.{and_both}
+use Rattle.bb_lemmas.proofs.Bits.{and_both}
 use lib.Pointwise.{pointwise, pointwise_decides, bytes_decides}
 use Rattle.bb_bits.specs.Names.{same_name}
 use Rattle.bb_bits.specs.Contents.{Contents, output_bit}
@@ -11,17 +11,17 @@ use Rattle.bb_design.specs.Hierarchy.{Path, Design, Scope, path_to}
 use Rattle.bb_design.specs.NetBits.{Bit, same_bit, net_order, input_bits, top_inputs, written_bits}
 use Rattle.bb_design.specs.Constructs.{Construct, Assignment, GateInstance, Register, SupplyNet, InputConnection, OutputConnection, BoxContents, parts}
 use Rattle.bb_design.specs.Registers.{RegisterBit, stored_at, stored, registers}
-use Rattle.bb_design.specs.Drivers.{Source, Free, MadeOf, Box, Drive, driven, drives_at, drives, driven_bits}
+use Rattle.bb_design.specs.Drivers.{DrivingSource, Free, MadeOf, Box, Drive, driven, drives_at, drives, driven_bits}
 use Rattle.bb_design.specs.Dependence.{bits_below, needed, dependences}
-use Rattle.bb_design.specs.Reading.{IsRead}
+use Rattle.bb_design.specs.Reading.{IsReadBit}
 use Rattle.bb_design.specs.Texts.{path_text, bit_text}
 use Rattle.bb_design.specs.Worlds.{World, Vector, HasVector, bit_in, bits_in}
 use Rattle.bb_net.specs.CutPoints.{TopInput, State}
 use Rattle.bb_design.specs.Refusals.{AreDriven, IsAcyclic}
 use Rattle.bb_design.specs.Laws.{BitsAreThere, ReadNeedsRead}
 use Rattle.bb_design.specs.Laws.DrivenWorlds.{Gives, IsGiven, IsDrivenWorld, WorldsAgreeWhereRead}
-use Rattle.bb_lists.proofs.Members.{from_flat, from_map, contains-map, into_flat, contains_here, contains_there, find_there, into_filter}
-use Rattle.bb_lists.proofs.Numbered.{numbered_there}
+use Rattle.bb_lemmas.proofs.Members.{from_flat, from_map, contains-map, into_flat, contains_here, contains_there, find_there, into_filter}
+use Rattle.bb_lemmas.proofs.Numbered.{numbered_there}
 
 -- the test on bits is equality
 pub same_bit_is : (b c : Bit) → same_bit b c ≡ true → b ≡ c
@@ -42,12 +42,12 @@ same_bit_self b =
 
 -- a drive without source
 
-is_free : Source → Bool
+is_free : DrivingSource → Bool
 is_free Free = true
 is_free (MadeOf path t) = false
 is_free (Box s pin) = false
 
-not_free : (source : Source) (x : Drive) (b : Bit) → is_free source ≡ false → driven source b ≡ x → x.source ≡ Free → ⊥
+not_free : (source : DrivingSource) (x : Drive) (b : Bit) → is_free source ≡ false → driven source b ≡ x → x.source ≡ Free → ⊥
 unfolding is_free
 not_free source x b off e free = grind (arith, sym off ∙ ap (λ (y : Drive). is_free y.source) e ∙ ap is_free free)
 
@@ -115,12 +115,12 @@ same_bits w v (b ∷ bits) same = ap₂ ◌∷◌ (same b (contains_here b bits)
 module _ (read_law : ReadNeedsRead) (d : Design) (contents : Contents) (x : Vector) (w v : World) (there : BitsAreThere d) (driven_all : AreDriven d) (acyclic : IsAcyclic d)
     (first : IsDrivenWorld d contents w) (second : IsDrivenWorld d contents v) (one : HasVector d x w) (two : HasVector d x v) where
   -- a source gives the same bit where what it needs has the same bits
-  same_source : (y : Drive) → Contains (drives d) y → (s : Source) → y.source ≡ s → Gives contents w s (bit_in w y.bit) → Gives contents v s (bit_in v y.bit) → ((c : Bit) → Contains (needed s) c → bit_in w c ≡ bit_in v c) → bit_in w y.bit ≡ bit_in v y.bit
+  same_source : (y : Drive) → Contains (drives d) y → (s : DrivingSource) → y.source ≡ s → Gives contents w s (bit_in w y.bit) → Gives contents v s (bit_in v y.bit) → ((c : Bit) → Contains (needed s) c → bit_in w c ≡ bit_in v c) → bit_in w y.bit ≡ bit_in v y.bit
   same_source y has Free e a b same = free_bit d x w v there one two y has e
   same_source y has (MadeOf path t) e a b same = a ∙ same_terms path w v t same ∙ sym b
   same_source y has (Box s pin) e a b same = a ∙ ap (λ ins. output_bit (contents (path_text s.path)) ins pin) (same_bits w v (input_bits s) same) ∙ sym b
 
-  agree : (n : ℕ) (b : Bit) → acyclic.0 b < n → IsRead d b → bit_in w b ≡ bit_in v b
+  agree : (n : ℕ) (b : Bit) → acyclic.0 b < n → IsReadBit d b → bit_in w b ≡ bit_in v b
   agree zero b lt read = absurd (omega (arith, lt))
   agree (suc n) b lt read =
       let y = from_map (λ u. u.bit) (drives d) b (driven_all b read) in

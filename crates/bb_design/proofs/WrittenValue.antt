@@ -4,7 +4,7 @@ use Rattle.std.proofs.lemmas.Grind.{common_steps}
 use Rattle.std.proofs.lemmas.List.{length-map, map-append}
 use Rattle.std.specs.Prelude.{sum}
 use Rattle.std.specs.List.{flat_map, list_all, range_with_len}
-use Rattle.bb_lists.proofs.Bits.{and_both}
+use Rattle.bb_lemmas.proofs.Bits.{and_both}
 use Rattle.bb_ast.specs.Assignable.{assigning, is_assignable}
 use Rattle.bb_ast.specs.Folds.{of_parts}
 use Rattle.bb_ast.specs.Syntax.{Expression, Net, Bit, Part, Sized, Plain, Not, Fold, Chain, Words, Cond, Concat, Repeat, Parts, no_part, part}
@@ -19,7 +19,7 @@ use Rattle.bb_design.specs.NetBits.{assigned, bits_from, written_bits}
 use Rattle.bb_design.specs.Contexts.{width_of, value_in}
 use Rattle.bb_design.specs.Worlds.{World, bit_in, bits_in}
 use Rattle.bb_design.specs.Laws.{WrittenBitsAreValue}
-use Rattle.bb_lists.proofs.Ranges.{length-range}
+use Rattle.bb_lemmas.proofs.Ranges.{length-range}
 
 -- nothing is filled up where the width is that of the bits
 extended_none : {A : Type 0} (null : A) (w : ℕ) (bits : List A) → length bits ≡ w → extended null w bits ≡ bits

@@ -1,7 +1,7 @@
--- What stands in a module, construct by construct, in text order. Declarations without assignment and open ports are none. An
--- output terminal of a gate stands before its inputs: of buf and not all terminals but the last are outputs, of the other
--- gates the first is (IEEE 1364-2005, 7.2 and 7.3). A connection by order belongs to the port of the header at its place, one by
--- name to the port of that name (12.3.5 and 12.3.6).
+-- The constructs of a module, in text order. Declarations without assignment and open ports are none. An output
+-- terminal of a gate comes before its inputs: of buf and not all terminals but the last are outputs, of the other gates
+-- the first is (IEEE 1364-2005, 7.2 and 7.3). A connection by order belongs to the port of the header at its place, one
+-- by name to the port of that name (12.3.5 and 12.3.6).
 use Rattle.std.specs.Prelude.{ℕ, Bool, if◌then◌else◌, List, [], ◌∷◌, map, length, take, drop, Option, Some, None}
 use Rattle.std.specs.List.{flat_map, enumerate_from}
 use Rattle.std.specs.Option.{option_and_then}
@@ -9,7 +9,7 @@ use Rattle.bb_ast.specs.declared.module.Gate.{Gate}
 use Rattle.bb_ast.specs.Gates.{output_count}
 use Rattle.bb_ast.specs.Syntax.{Expression, Net, PlainConns, Order, Named, PlainAlways, PlainBody, Nets, Supply, Assign, Gates, Calls, Always, PlainModule}
 use Rattle.bb_names.specs.Faults.{is_input}
-use Rattle.bb_names.specs.Spots.{Pin, module_named, pin_named, pin_at}
+use Rattle.bb_names.specs.Sites.{Pin, module_named, pin_named, pin_at}
 use Rattle.bb_design.specs.Hierarchy.{Design, Scope, is_box, scopes}
 
 pub data Construct : Type 0 where

@@ -1,8 +1,10 @@
--- What drives the bits of a design. Each of these drives a bit: that it is a bit of an input port of the top; that it is a bit of
--- a supply net; that it is an output pin of a box; each place of it on the left of an assignment or of <=; each output terminal of
--- a gate that is the bit; each place of it in the connection of an output port; and what is connected to it, where it is a bit of an
--- input port of an instance (IEEE 1364-2005, 4.6.1, 6.1, 7.1 and 12.3.9). The standard resolves several drivers of a net; here a bit may
--- have one. All drivers are one list, and a bit stands in it as often as it is driven.
+-- What drives the bits of a design. Each of these drives a bit: that it is a bit of an input port of the top; that it
+-- is a bit of a supply net; that it is an output pin of a box; each place of it on the left of an assignment or of <=;
+-- each output terminal of a gate that is the bit; each place of it in the connection of an output port; and what is
+-- connected to it, where it is a bit of an input port of an instance (IEEE 1364-2005, 4.6.1, 6.1, 7.1 and 12.3.9). The
+-- standard resolves several drivers of a net; here a bit may have one. All drivers are one list, and a bit is in it as
+-- often as it is driven. A driver carries what drives the bit, so that buffers, reading and dependence come from this
+-- list too.
 use Rattle.std.specs.Prelude.{ℕ, List, ◌++◌, map}
 use Rattle.std.specs.List.{flat_map, zip, enumerate_from}
 use Rattle.bb_ast.specs.Syntax.{Expression}
@@ -14,20 +16,20 @@ use Rattle.bb_design.specs.Contexts.{width_of, made_in, assigned_terms}
 use Rattle.bb_design.specs.Constructs.{Construct, Assignment, GateInstance, Register, SupplyNet, InputConnection, OutputConnection, BoxContents, parts}
 use Rattle.bb_design.specs.GateFunctions.{on_terms, gate_gives}
 
--- what gives a driven bit its value
-pub data Source : Type 0 where
+-- what drives a bit
+pub data DrivingSource : Type 0 where
   -- nothing in the design: it is an input of the top, or a register
-  Free : Source
+  Free : DrivingSource
   -- what is made of the nets of the scope at a path
-  MadeOf : Path → Term → Source
-  -- the box at a scope, which gives the bit at its output pin with this number
-  Box : Scope → ℕ → Source
+  MadeOf : Path → Term → DrivingSource
+  -- the box at a scope, which drives the bit at its output pin with this number
+  Box : Scope → ℕ → DrivingSource
 
 pub record Drive : Type 0 where
   pub bit : Bit
-  pub source : Source
+  pub source : DrivingSource
 
-abbrev pub driven : Source → Bit → Drive
+abbrev pub driven : DrivingSource → Bit → Drive
 driven source b = record { bit = b; source = source }
 
 -- bits and what they are made of in the scope at a path, place by place

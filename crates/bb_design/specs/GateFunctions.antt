@@ -1,6 +1,6 @@
--- What a gate makes of its inputs (IEEE 1364-2005, 7.2 and 7.3): and, or and xor take them together from the left, so that of
--- one input it is that input, and xor is the parity; nand, nor, xnor and not invert. buf and not have one input, and all their
--- outputs are the same.
+-- What a gate makes of its inputs (IEEE 1364-2005, 7.2 and 7.3): and, or and xor take them together from the left, so
+-- that of one input it is that input, and xor is the parity; nand, nor, xnor and not invert. buf and not have one
+-- input, and all their outputs are the same.
 use Rattle.std.specs.Prelude.{Bool, true, false, not, ◌&&◌, ◌||◌, if◌then◌else◌, List, [], ◌∷◌, ◌++◌, fold}
 use Rattle.bb_ast.specs.declared.module.Gate.{Gate}
 use Rattle.bb_ast.specs.declared.module.Gate.TheVariants as gates
@@ -8,7 +8,7 @@ use Rattle.bb_bits.specs.Bits.{xor}
 use Rattle.bb_expr.specs.Terms.{Term}
 use Rattle.bb_expr.specs.Terms as term
 
--- the operations on what stands for a bit; nothing is what no inputs give, and every gate has an input
+-- the operations on what represents a bit; nothing is what no inputs give, and every gate has an input
 pub record Operations (A : Type 0) : Type 0 where
   pub nothing : A
   pub inverse : A → A

@@ -1,14 +1,14 @@
--- The hierarchy of a design (IEEE 1364-2005, 12.1 and 12.5, in a profile). A design is a text with one of its modules on top.
--- Each instance in a module stands for a copy of the module that it names; a path is the list of the names of instances that
--- lead to a copy, from the top downwards. A scope is such a copy, the top itself among them. A box is an instance of an empty
--- module.
+-- The hierarchy of a design (IEEE 1364-2005, 12.1 and 12.5, in a profile). A design is a text with one of its modules
+-- on top. Each instance in a module is a copy of the module that it names; a path is the list of the names of instances
+-- that lead to a copy, from the top downwards. A scope is such a copy, the top itself among them. A black box is an
+-- instance of an empty module.
 use Rattle.std.specs.Prelude.{ℕ, zero, suc, Bool, true, false, not, ◌&&◌, List, [], ◌∷◌, ◌++◌, map, Option, Some, None, option_map}
 use Rattle.std.specs.List.{find, filter, filter_map, flat_map, list_any}
 use Rattle.std.specs.Option.{option_and_then}
 use Rattle.bb_bits.specs.Names.{same_name}
 use Rattle.bb_ast.specs.Syntax.{PlainConns, PlainBody, Calls, PlainModule}
 use Rattle.bb_names.specs.Nets.{is_empty}
-use Rattle.bb_names.specs.Spots.{module_named}
+use Rattle.bb_names.specs.Sites.{module_named}
 
 -- an instance of a module: its name, the name of its module, and what is connected to its ports
 pub record Instance : Type 0 where
@@ -23,7 +23,7 @@ abbrev pub instances_in : PlainBody → List Instance
 instances_in (Calls target calls) = map (instance_of target) calls
 instances_in body = []
 
--- the instances that stand in a module, in text order
+-- the instances in a module, in text order
 abbrev pub instances_of : PlainModule → List Instance
 instances_of m = flat_map (λ item. instances_in item.body) m.items
 
@@ -79,21 +79,22 @@ root d = record { path = []; source = d.top }
 abbrev pub path_to : Path → List ℕ → Path
 path_to path n = path ++ n ∷ []
 
--- the scopes of the instances that stand in a scope, in text order
+-- the scopes of the instances in a scope, in text order
 abbrev pub children : List PlainModule → Scope → List Scope
 children text s = filter_map (λ i. option_map (λ m. record { path = path_to s.path i.name; source = m }) (module_named text i.target)) (instances_of s.source)
 
--- the scopes below a scope, down to so many levels: each instance in text order, followed by those below it
+-- the scopes below a scope, down to this many levels: each instance in text order, followed by those below it
 unfoldable pub below : ℕ → List PlainModule → Scope → List Scope
 below zero text s = []
 below (suc n) text s = flat_map (λ c. c ∷ below n text c) (children text s)
 
--- no instance may be as many levels below the top: the top has the depth 1, what is one level below it has the depth 2, and 64
--- is the greatest depth
+-- no instance may be as many levels below the top: the top has the depth 1, what is one level below it has the depth 2,
+-- and 64 is the greatest depth
 abbrev pub too_low : ℕ
 too_low = 64
 
--- all instances of a design, in elaboration order; in one that is too deep, those down to the first level that is too low
+-- all instances of a design, in elaboration order; in one that is too deep, those down to the first level that is too
+-- deep
 abbrev pub instances : Design → List Scope
 instances d = below too_low d.text (root d)
 

@@ -5,7 +5,7 @@ pub mod DesignLaws
 pub mod DriveLaws
 pub mod DrivenWorlds
 pub mod HierarchyLaws
-pub mod SoundSpots
+pub mod SoundSites
 pub mod Wired
 use Rattle.std.specs.Prelude.{◌≡◌, ◌≢◌, ◌⊎◌, ℕ, true, false, List, [], map, All, AllPairs, Contains, Option, Some, None}
 use Rattle.bb_ast.specs.Assignable.{is_assignable}
@@ -16,19 +16,19 @@ use Rattle.bb_design.specs.Hierarchy.{Path, Design, Scope, instances_of, is_inst
 use Rattle.bb_design.specs.NetBits.{Bit, net_order, written_bits}
 use Rattle.bb_design.specs.Contexts.{width_of, value_in}
 use Rattle.bb_design.specs.Drivers.{driven_bits}
-use Rattle.bb_design.specs.Reading.{IsRead}
+use Rattle.bb_design.specs.Reading.{IsReadBit}
 use Rattle.bb_design.specs.Dependence.{dependences}
-use Rattle.bb_design.specs.Refusals.{IsShallow, design_on, IsSoundText, IsFirstRefusal}
+use Rattle.bb_design.specs.Refusals.{IsShallow, design_on, IsSoundText, IsFirstDesignRefusal}
 use Rattle.bb_design.specs.Texts.{path_text}
 use Rattle.bb_design.specs.Worlds.{World, bits_in}
 
 -- no text is sound and refused
 abbrev pub NotSoundAndRefused : Type 0
-NotSoundAndRefused = (text : List PlainModule) (name : Option (List ℕ)) (fault : ElabFault) → IsSoundText text name → IsFirstRefusal text name fault → ⊥
+NotSoundAndRefused = (text : List PlainModule) (name : Option (List ℕ)) (fault : ElabFault) → IsSoundText text name → IsFirstDesignRefusal text name fault → ⊥
 
 -- there is one first refusal at most
 abbrev pub FirstRefusalsAreOne : Type 0
-FirstRefusalsAreOne = (text : List PlainModule) (name : Option (List ℕ)) (e f : ElabFault) → IsFirstRefusal text name e → IsFirstRefusal text name f → e ≡ f
+FirstRefusalsAreOne = (text : List PlainModule) (name : Option (List ℕ)) (e f : ElabFault) → IsFirstDesignRefusal text name e → IsFirstDesignRefusal text name f → e ≡ f
 
 -- a module of the text that none instantiates, and there is no other
 pub record TopIsOnly (text : List PlainModule) (top : PlainModule) : Type 0 where
@@ -64,20 +64,20 @@ WrittenBitsAreValue = (w : World) (s : Scope) (e : Expression) → is_assignable
 -- the bits that are driven or read are bits of the design
 pub record BitsAreThere (d : Design) : Type 0 where
   pub driven : All (Contains (net_order d)) (driven_bits d)
-  pub read : (b : Bit) → IsRead d b → Contains (net_order d) b
+  pub read : (b : Bit) → IsReadBit d b → Contains (net_order d) b
 
--- as they are in a text without faults, where the design is not too deep: else scopes on the first level that is too low are
--- listed, but the instances in them, whose ports they drive, are not
+-- as they are in a text without faults, where the design is not too deep: otherwise scopes on the first level that is
+-- too deep are listed, but the instances in them, whose ports they drive, are not
 abbrev pub SoundBitsAreThere : Type 0
 SoundBitsAreThere = (text : List PlainModule) (top : PlainModule) → IsSound text → Contains text top → IsShallow (design_on text top) → BitsAreThere (design_on text top)
 
 -- a text without faults is sound or has a first refusal
 abbrev pub SoundOrRefused : Type 0
-SoundOrRefused = (text : List PlainModule) (name : Option (List ℕ)) → IsSound text → IsSoundText text name ⊎ ((fault : ElabFault) × IsFirstRefusal text name fault)
+SoundOrRefused = (text : List PlainModule) (name : Option (List ℕ)) → IsSound text → IsSoundText text name ⊎ ((fault : ElabFault) × IsFirstDesignRefusal text name fault)
 
 -- what a read bit depends on is read
 abbrev pub ReadNeedsRead : Type 0
-ReadNeedsRead = (d : Design) (b c : Bit) → IsRead d b → Contains (dependences d) (b, c) → IsRead d c
+ReadNeedsRead = (d : Design) (b c : Bit) → IsReadBit d b → Contains (dependences d) (b, c) → IsReadBit d c
 
 -- instances of one module have different names, as in a text without faults
 abbrev pub HasNamesApart : PlainModule → Type 0

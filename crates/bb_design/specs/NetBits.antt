@@ -1,6 +1,6 @@
 -- The bits of a design: for each scope and each net of its module, the bits of the net, the leftmost, which is the most
--- significant, first (IEEE 1364-2005, 4.3.1). Net order lists the bits of the top in the order of its nets, then those of each
--- instance in elaboration order. The pins of a box are the bits of its ports, in the order of its header.
+-- significant, first (IEEE 1364-2005, 4.3.1). Net order lists the bits of the top in the order of its nets, then those
+-- of each instance in elaboration order. The pins of a box are the bits of its ports, in the order of its header.
 use Rattle.std.specs.Prelude.{ℕ, ◌+◌, ◌&&◌, ◌==◌, Bool, not, List, [], map, option_to_list}
 use Rattle.std.specs.List.{filter, flat_map, list_any, range_with_len}
 use lib.Pointwise.{pointwise}
@@ -12,7 +12,7 @@ use Rattle.bb_names.specs.Declarations.{range_of}
 use Rattle.bb_names.specs.Faults.{is_input}
 use Rattle.bb_names.specs.Nets.{nets_of}
 use Rattle.bb_names.specs.Ranges.{distance, range_width, place_of}
-use Rattle.bb_names.specs.Spots.{Pin}
+use Rattle.bb_names.specs.Sites.{Pin}
 use Rattle.bb_design.specs.Hierarchy.{Path, Design, Scope, root, scopes}
 
 -- a bit of a net in the scope at a path; its place in the net is counted from the leftmost on
@@ -25,7 +25,7 @@ pub record Bit : Type 0 where
 abbrev pub same_bit : Bit → Bit → Bool
 same_bit b c = pointwise same_name b.path c.path && same_name b.net c.net && b.place == c.place
 
--- so many bits of a net, from a place on
+-- this many bits of a net, from a place on
 abbrev pub bits_from : Path → List ℕ → ℕ → ℕ → List Bit
 bits_from path n place count = map (λ k. record { path = path; net = n; place = k }) (range_with_len place count)
 
@@ -76,7 +76,7 @@ assigned s = record {
   repeat = λ k all. [];
 }
 
--- the bits of what stands on a written side: nets, selects, and such things side by side; each as often as it stands there,
--- the most significant first
+-- the bits of a written side: nets, selects, and concatenations; each as often as it occurs there, the most significant
+-- first
 abbrev pub written_bits : Scope → Expression → List Bit
 written_bits s = fold_expression (assigned s)

@@ -1,7 +1,8 @@
--- Which bits matter. A cell reads its operands; a register reads its data and its clock, a box its input pins, and from outside the
--- outputs of the top are read. A bit is a copy of another where it has its value by constructs alone that make no cell: what is
--- read of the copy is read of the other. No other bit is read. The standard has no such rule: a net without
--- driver has the value z there (IEEE 1364-2005, 4.2.1), which only matters where the net is read.
+-- Which bits matter. A cell reads its operands; a register reads its data and its clock, a box its input pins, and from
+-- outside the outputs of the top are read. A bit is a buffer (copy) of another where it has its value by constructs
+-- alone that make no cell: what is read of the buffer is read of the other. No other bit is read. The standard has no
+-- such rule: a net without driver has the value z there (IEEE 1364-2005, 4.2.1), which only matters where the net is
+-- read.
 use Rattle.std.specs.Prelude.{◌⊎◌, List, [], ◌∷◌, ◌++◌, map, Contains}
 use Rattle.std.specs.List.{flat_map}
 use Rattle.bb_expr.specs.Terms.{Term, Const, Net, Not, And, Or, Xor, Mux}
@@ -12,7 +13,7 @@ use Rattle.bb_design.specs.Constructs.{Construct, Assignment, GateInstance, Regi
 use Rattle.bb_design.specs.GateFunctions.{gate_cells}
 use Rattle.bb_design.specs.Registers.{data_terms}
 use Rattle.bb_bits.specs.Closures.{Leads}
-use Rattle.bb_design.specs.Drivers.{Source, Free, MadeOf, Box, drives, terminal_terms}
+use Rattle.bb_design.specs.Drivers.{DrivingSource, Free, MadeOf, Box, drives, terminal_terms}
 
 -- the cells of a construct, but for the output pins of a box: each is what its operator is made of
 abbrev pub cells_at : Scope × Construct → List Term
@@ -48,20 +49,20 @@ read_beside (s, c) = []
 abbrev pub read_at : Scope × Construct → List Bit
 read_at x = flat_map (λ cell. flat_map (bit_itself x.0.path) (operand_terms cell)) (cells_at x) ++ read_beside x
 
--- the bits that are read as they stand
+-- the bits that are read directly
 abbrev pub read_directly : Design → List Bit
 read_directly d = top_outputs d ++ flat_map read_at (parts d)
 
--- the bit of which a driven bit is a copy, where it is one
-abbrev pub copied : Source → List Bit
+-- the bit of which a driven bit is a buffer, where it is one
+abbrev pub copied : DrivingSource → List Bit
 copied Free = []
 copied (MadeOf path t) = bit_itself path t
 copied (Box s pin) = []
 
--- each copy with the bit of which it is one
+-- each buffer with the bit that it buffers
 abbrev pub copied_bits : Design → List (Bit × Bit)
 copied_bits d = flat_map (λ x. map (λ c. (x.bit, c)) (copied x.source)) (drives d)
 
 -- a bit is read
-abbrev pub IsRead : Design → Bit → Type 0
-IsRead d b = Contains (read_directly d) b ⊎ ((c : Bit) × Contains (read_directly d) c × Leads (copied_bits d) c b)
+abbrev pub IsReadBit : Design → Bit → Type 0
+IsReadBit d b = Contains (read_directly d) b ⊎ ((c : Bit) × Contains (read_directly d) c × Leads (copied_bits d) c b)

@@ -1,6 +1,8 @@
--- Why a design is refused. There are nine causes in one order, and the first that holds is told, with a name. For each cause
--- stands here when it holds and which name is told of it, and beside it what holds where it does not. The causes are what the
--- standard forbids or leaves without a meaning in two values, the limits, and texts that would name two things.
+-- Why a design is refused. There are nine causes in one order, and the first that holds is reported, with a name. For
+-- each cause the definitions say when it holds and which name is reported, and beside it what holds where it does not.
+-- That is said positively: where there is no recursion and no loop, modules or bits have levels that fall along each
+-- step. Causes after depth are met only where the design is not too deep. The causes are what the standard forbids or
+-- leaves without a meaning in two values, the limits, and texts that would name two things.
 use Rattle.std.specs.Prelude.{◌≡◌, ◌≢◌, ◌⊎◌, ℕ, ◌<◌, ◌≤◌, List, map, length, All, AllPairs, Contains, Option, Some, None, slice_index_or}
 use Rattle.bb_ast.specs.Syntax.{PlainModule}
 use Rattle.bb_design.specs.declared.fault.ElabFault.{ElabFault}
@@ -10,7 +12,7 @@ use Rattle.bb_design.specs.Hierarchy.{Design, Scope, top_of, instances, boxes, i
 use Rattle.bb_design.specs.NetBits.{Bit, net_order, top_inputs, top_outputs}
 use Rattle.bb_design.specs.Registers.{registers}
 use Rattle.bb_design.specs.Drivers.{driven_bits}
-use Rattle.bb_design.specs.Reading.{IsRead}
+use Rattle.bb_design.specs.Reading.{IsReadBit}
 use Rattle.bb_design.specs.Dependence.{dependences, IsOnLoop}
 use Rattle.bb_design.specs.Sizes.{cells_in, bits_and_instances}
 use Rattle.bb_design.specs.Texts.{path_text, bit_text}
@@ -28,7 +30,7 @@ IsRecursive d n = IsReached d n × Leads (instantiations d.text) n n
 abbrev pub IsHierarchy : Design → Type 0
 IsHierarchy d = (level : List ℕ → ℕ) × All (λ x. IsReached d x.0 → level x.1 < level x.0) (instantiations d.text)
 
--- depth: an instance stands too many levels below the top
+-- depth: an instance is too many levels below the top
 
 abbrev pub IsTooLow : Scope → Type 0
 IsTooLow s = too_low ≤ length s.path
@@ -44,13 +46,13 @@ most_bits = 1000000
 abbrev pub most_cells : ℕ
 most_cells = 2000000
 
-abbrev pub IsTooLarge : Design → Type 0
-IsTooLarge d = (most_bits < bits_and_instances d) ⊎ (most_cells < cells_in d)
+abbrev pub IsTooLargeDesign : Design → Type 0
+IsTooLargeDesign d = (most_bits < bits_and_instances d) ⊎ (most_cells < cells_in d)
 
-abbrev pub IsSmall : Design → Type 0
-IsSmall d = (bits_and_instances d ≤ most_bits) × (cells_in d ≤ most_cells)
+abbrev pub IsSmallDesign : Design → Type 0
+IsSmallDesign d = (bits_and_instances d ≤ most_bits) × (cells_in d ≤ most_cells)
 
--- drivers: a bit stands at two places in the list of driven bits; or it is read and stands at none
+-- drivers: a bit is at two places in the list of driven bits; or it is read and at none
 
 abbrev pub IsDrivenTwice : Design → Bit → Type 0
 IsDrivenTwice d b = (i j : ℕ) × (i < j) × (j < length (driven_bits d)) × (slice_index_or (driven_bits d) i b ≡ b) × (slice_index_or (driven_bits d) j b ≡ b)
@@ -59,17 +61,17 @@ abbrev pub AreDrivenOnce : Design → Type 0
 AreDrivenOnce d = AllPairs ◌≢◌ (driven_bits d)
 
 abbrev pub IsUndriven : Design → Bit → Type 0
-IsUndriven d b = IsRead d b × (Contains (driven_bits d) b → ⊥)
+IsUndriven d b = IsReadBit d b × (Contains (driven_bits d) b → ⊥)
 
 abbrev pub AreDriven : Design → Type 0
-AreDriven d = (b : Bit) → IsRead d b → Contains (driven_bits d) b
+AreDriven d = (b : Bit) → IsReadBit d b → Contains (driven_bits d) b
 
--- loops: a bit lies on a closed walk of dependence; else bits have levels, each a higher one than the bits on which it depends
+-- loops: a bit is on a loop of dependence; else bits have levels, each a higher one than the bits on which it depends
 
 abbrev pub IsAcyclic : Design → Type 0
 IsAcyclic d = (level : Bit → ℕ) × All (λ x. level x.1 < level x.0) (dependences d)
 
--- texts that stand twice: of boxes in elaboration order; of register bits, of inputs and of outputs in net order
+-- repeated texts: of boxes in elaboration order; of register bits, of inputs and of outputs in net order
 
 abbrev pub box_paths : Design → List (List ℕ)
 box_paths d = map (λ s. path_text s.path) (boxes d)
@@ -83,85 +85,85 @@ input_texts d = map (bit_text d) (top_inputs d)
 abbrev pub output_texts : Design → List (List ℕ)
 output_texts d = map (bit_text d) (top_outputs d)
 
--- no text stands twice
-abbrev pub AreApart : List (List ℕ) → Type 0
-AreApart texts = AllPairs ◌≢◌ texts
+-- no text is repeated
+abbrev pub AreDistinctTexts : List (List ℕ) → Type 0
+AreDistinctTexts texts = AllPairs ◌≢◌ texts
 
-pub data Cause : Type 0 where
-  Recursion : Cause
-  Depth : Cause
-  Size : Cause
-  TwoDrivers : Cause
-  NoDriver : Cause
-  Cycle : Cause
-  BoxTexts : Cause
-  RegisterTexts : Cause
-  PortTexts : Cause
+pub data DesignCause : Type 0 where
+  Recursion : DesignCause
+  Depth : DesignCause
+  Size : DesignCause
+  TwoDrivers : DesignCause
+  NoDriver : DesignCause
+  Cycle : DesignCause
+  BoxTexts : DesignCause
+  RegisterTexts : DesignCause
+  PortTexts : DesignCause
 
 -- their order
-abbrev pub rank : Cause → ℕ
-rank Recursion = 0
-rank Depth = 1
-rank Size = 2
-rank TwoDrivers = 3
-rank NoDriver = 4
-rank Cycle = 5
-rank BoxTexts = 6
-rank RegisterTexts = 7
-rank PortTexts = 8
+abbrev pub cause_rank : DesignCause → ℕ
+cause_rank Recursion = 0
+cause_rank Depth = 1
+cause_rank Size = 2
+cause_rank TwoDrivers = 3
+cause_rank NoDriver = 4
+cause_rank Cycle = 5
+cause_rank BoxTexts = 6
+cause_rank RegisterTexts = 7
+cause_rank PortTexts = 8
 
--- the refusal for a cause, told with a name
-abbrev pub fault_of : Cause → List ℕ → ElabFault
-fault_of Recursion n = faults.Recursive n
-fault_of Depth n = faults.TooDeep n
-fault_of Size n = faults.TooLarge
-fault_of TwoDrivers n = faults.DrivenTwice n
-fault_of NoDriver n = faults.Undriven n
-fault_of Cycle n = faults.Loop n
-fault_of BoxTexts n = faults.BoxTwice n
-fault_of RegisterTexts n = faults.RegTwice n
-fault_of PortTexts n = faults.PortTwice n
+-- the refusal for a cause, reported with a name
+abbrev pub elab_fault_of : DesignCause → List ℕ → ElabFault
+elab_fault_of Recursion n = faults.Recursive n
+elab_fault_of Depth n = faults.TooDeep n
+elab_fault_of Size n = faults.TooLarge
+elab_fault_of TwoDrivers n = faults.DrivenTwice n
+elab_fault_of NoDriver n = faults.Undriven n
+elab_fault_of Cycle n = faults.Loop n
+elab_fault_of BoxTexts n = faults.BoxTwice n
+elab_fault_of RegisterTexts n = faults.RegTwice n
+elab_fault_of PortTexts n = faults.PortTwice n
 
 -- the first bit in net order of which it holds has this text
 abbrev pub IsFirstBit : Design → (Bit → Type 0) → List ℕ → Type 0
 IsFirstBit d P n = (b : Bit) × IsFirst P (net_order d) b × (n ≡ bit_text d b)
 
--- the cause holds, and this name is told: the first module in text order, the path of the first instance in elaboration order, the
--- text of the first bit in net order, or the first text that stands there already
-abbrev pub IsTold : Design → Cause → List ℕ → Type 0
-IsTold d Recursion n = IsFirst (IsRecursive d) (map (λ m. m.name) d.text) n
-IsTold d Depth n = (s : Scope) × IsFirst IsTooLow (instances d) s × (n ≡ path_text s.path)
-IsTold d Size n = IsTooLarge d
-IsTold d TwoDrivers n = IsFirstBit d (IsDrivenTwice d) n
-IsTold d NoDriver n = IsFirstBit d (IsUndriven d) n
-IsTold d Cycle n = IsFirstBit d (IsOnLoop d) n
-IsTold d BoxTexts n = IsFirstRepeat (box_paths d) n
-IsTold d RegisterTexts n = IsFirstRepeat (register_texts d) n
-IsTold d PortTexts n = IsFirstRepeat (input_texts d) n ⊎ (AreApart (input_texts d) × IsFirstRepeat (output_texts d) n)
+-- the cause holds, and this name is reported: the first module in text order, the path of the first instance in
+-- elaboration order, the text of the first bit in net order, or the first text that repeats one before it
+abbrev pub IsReportedOfDesign : Design → DesignCause → List ℕ → Type 0
+IsReportedOfDesign d Recursion n = IsFirst (IsRecursive d) (map (λ m. m.name) d.text) n
+IsReportedOfDesign d Depth n = (s : Scope) × IsFirst IsTooLow (instances d) s × (n ≡ path_text s.path)
+IsReportedOfDesign d Size n = IsTooLargeDesign d
+IsReportedOfDesign d TwoDrivers n = IsFirstBit d (IsDrivenTwice d) n
+IsReportedOfDesign d NoDriver n = IsFirstBit d (IsUndriven d) n
+IsReportedOfDesign d Cycle n = IsFirstBit d (IsOnLoop d) n
+IsReportedOfDesign d BoxTexts n = IsFirstRepeat (box_paths d) n
+IsReportedOfDesign d RegisterTexts n = IsFirstRepeat (register_texts d) n
+IsReportedOfDesign d PortTexts n = IsFirstRepeat (input_texts d) n ⊎ (AreDistinctTexts (input_texts d) × IsFirstRepeat (output_texts d) n)
 
 -- what holds where the cause does not
-abbrev pub IsAbsent : Design → Cause → Type 0
-IsAbsent d Recursion = IsHierarchy d
-IsAbsent d Depth = IsShallow d
-IsAbsent d Size = IsSmall d
-IsAbsent d TwoDrivers = AreDrivenOnce d
-IsAbsent d NoDriver = AreDriven d
-IsAbsent d Cycle = IsAcyclic d
-IsAbsent d BoxTexts = AreApart (box_paths d)
-IsAbsent d RegisterTexts = AreApart (register_texts d)
-IsAbsent d PortTexts = AreApart (input_texts d) × AreApart (output_texts d)
+abbrev pub IsAbsentInDesign : Design → DesignCause → Type 0
+IsAbsentInDesign d Recursion = IsHierarchy d
+IsAbsentInDesign d Depth = IsShallow d
+IsAbsentInDesign d Size = IsSmallDesign d
+IsAbsentInDesign d TwoDrivers = AreDrivenOnce d
+IsAbsentInDesign d NoDriver = AreDriven d
+IsAbsentInDesign d Cycle = IsAcyclic d
+IsAbsentInDesign d BoxTexts = AreDistinctTexts (box_paths d)
+IsAbsentInDesign d RegisterTexts = AreDistinctTexts (register_texts d)
+IsAbsentInDesign d PortTexts = AreDistinctTexts (input_texts d) × AreDistinctTexts (output_texts d)
 
 -- a design is sound: there is no cause to refuse it
 abbrev pub IsSoundDesign : Design → Type 0
-IsSoundDesign d = (cause : Cause) → IsAbsent d cause
+IsSoundDesign d = (cause : DesignCause) → IsAbsentInDesign d cause
 
 -- the first refusal of a design: a cause holds, and none before it
 pub record IsRefusalOf (d : Design) (fault : ElabFault) : Type 0 where
-  pub cause : Cause
+  pub cause : DesignCause
   pub name : List ℕ
-  pub is : fault ≡ fault_of cause name
-  pub told : IsTold d cause name
-  pub earlier : (other : Cause) → rank other < rank cause → IsAbsent d other
+  pub is : fault ≡ elab_fault_of cause name
+  pub reported : IsReportedOfDesign d cause name
+  pub earlier : (other : DesignCause) → cause_rank other < cause_rank cause → IsAbsentInDesign d other
 
 -- the design of a text with this module on top
 abbrev pub design_on : List PlainModule → PlainModule → Design
@@ -172,6 +174,6 @@ abbrev pub IsSoundText : List PlainModule → Option (List ℕ) → Type 0
 IsSoundText text name = (top : PlainModule) × (top_of text name ≡ Some top) × IsSoundDesign (design_on text top)
 
 -- the first refusal of a text: it has no top, or is refused with it
-abbrev pub IsFirstRefusal : List PlainModule → Option (List ℕ) → ElabFault → Type 0
-IsFirstRefusal text name fault = ((top_of text name ≡ None) × (fault ≡ faults.NoTop))
+abbrev pub IsFirstDesignRefusal : List PlainModule → Option (List ℕ) → ElabFault → Type 0
+IsFirstDesignRefusal text name fault = ((top_of text name ≡ None) × (fault ≡ faults.NoTop))
     ⊎ ((top : PlainModule) × (top_of text name ≡ Some top) × IsRefusalOf (design_on text top) fault)

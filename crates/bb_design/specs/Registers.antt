@@ -1,5 +1,5 @@
--- Registers (IEEE 1364-2005, 9.2.2, 9.7.2 and 9.9.2, in a profile): a register bit is a bit on the left of <=. At the edge that it
--- names, it takes the bit of the right side that stands at its place among the low bits. Registers stand in net order.
+-- Registers (IEEE 1364-2005, 9.2.2, 9.7.2 and 9.9.2, in a profile): a register bit is a bit on the left of <=. At the
+-- edge that it names, it takes the bit of the right side at its place among the low bits. Registers are in net order.
 use Rattle.std.specs.Prelude.{ℕ, List, [], ◌++◌, map}
 use Rattle.std.specs.List.{find, filter_map, flat_map, enumerate_from}
 use Rattle.bb_ast.specs.Syntax.{PlainAlways}
@@ -24,7 +24,8 @@ stored_at (s, c) = []
 abbrev pub stored : Design → List RegisterBit
 stored d = flat_map stored_at (parts d)
 
--- the register bits in net order; where a bit is stored at two places, the first counts
+-- the register bits in net order; where a bit is stored at two places, the first counts, and the bit counts once among
+-- inputs and sizes (such a design is refused for its two drivers)
 abbrev pub registers : Design → List RegisterBit
 registers d = filter_map (λ b. find (λ r. same_bit b r.bit) (stored d)) (net_order d)
 

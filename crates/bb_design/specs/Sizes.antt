@@ -1,5 +1,5 @@
--- How large a design is. Each occurrence of an operator in each scope makes cells of its own, also for bits that are cut off
--- later; nothing is folded or shared. The limits are this checker's own; the standard has none.
+-- How large a design is. Each occurrence of an operator in each scope makes cells of its own, also for bits that are
+-- cut off later; nothing is folded or shared. The limits are this checker's own; the standard has none.
 use Rattle.std.specs.Prelude.{ℕ, ◌+◌, length, sum_by}
 use Rattle.bb_design.specs.Hierarchy.{Design, Scope, instances}
 use Rattle.bb_design.specs.NetBits.{net_order, output_bits}

@@ -1,6 +1,7 @@
--- The texts by which paths and bits are called. A path's text is its names joined by dots; the top has the empty text. A bit's
--- text is the path's text and a dot, but for the top, then the net's name, and the index in square brackets where the net has a
--- range (as in the hierarchical names of IEEE 1364-2005, 12.5, without the top's own name). A text is a list of bytes.
+-- The texts that name paths and bits. A path's text is its names joined by dots; the top has the empty text. A bit's
+-- text is the path's text and a dot, but for the top, then the net's name, and the index in square brackets where the
+-- net has a range (as in the hierarchical names of IEEE 1364-2005, 12.5, without the top's own name). A text is a list
+-- of bytes.
 use Rattle.std.specs.Prelude.{ℕ, ◌+◌, ◌-◌, List, [], ◌∷◌, ◌++◌, Option, Some, None, if◌then◌else◌, nat_le, codes, decimal}
 use Rattle.std.specs.Option.{option_and_then}
 use Rattle.bb_ast.specs.declared.module.Range.{Range}
@@ -13,7 +14,7 @@ path_text [] = []
 path_text (n ∷ []) = n
 path_text (n ∷ m ∷ path) = n ++ (codes "." ++ path_text (m ∷ path))
 
--- what stands before the name of a net
+-- what comes before the name of a net
 abbrev pub path_prefix : Path → List ℕ
 path_prefix [] = []
 path_prefix (n ∷ path) = path_text (n ∷ path) ++ codes "."
@@ -37,6 +38,6 @@ range_at d b = option_and_then (λ m. range_of m b.net) (module_at d b.path)
 abbrev pub bit_text : Design → Bit → List ℕ
 bit_text d b = path_prefix b.path ++ net_bit_text b.net (range_at d b) b.place
 
--- a pin of a box is called by the port's name, and the index where the port has a range
+-- a pin of a box is named by its port, and the index where the port has a range
 abbrev pub pin_text : Design → Bit → List ℕ
 pin_text d b = net_bit_text b.net (range_at d b) b.place

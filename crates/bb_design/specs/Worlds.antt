@@ -1,8 +1,8 @@
--- What the bits of a design may be. A world gives a bit to each bit of each net of each scope, so that each construct holds: a
--- gate's outputs are the gate's function of its inputs (IEEE 1364-2005, 7.2, 7.3), the left side of an assignment has the low bits
--- of the right side (6.1), supply nets are constant (4.6.6), a port and what is connected to it have the same bits (12.3.9), and the
--- outputs of a box are the row that its contents give for its inputs. A register may have any bit: its next state is an output.
--- Only the bits 0 and 1 are looked at.
+-- What the bits of a design may be. A world gives a bit to each bit of each net of each scope, so that each construct
+-- holds: a gate's outputs are the gate's function of its inputs (IEEE 1364-2005, 7.2, 7.3), the left side of an
+-- assignment has the low bits of the right side (6.1), supply nets are constant (4.6.6), a port and what is connected
+-- to it have the same bits (12.3.9), and the outputs of a box are the row that its contents give for its inputs. A
+-- register may have any bit: its next state is an output. Only the bits 0 and 1 are looked at.
 use Rattle.std.specs.Prelude.{◌≡◌, Bool, false, List, ◌++◌, map, length, All, Some}
 use Rattle.std.specs.List.{flat_map, slice_index_or}
 use Rattle.bb_ast.specs.Syntax.{PlainModule}
@@ -54,7 +54,7 @@ pub record HasVector (d : Design) (x : Vector) (w : World) : Type 0 where
   pub inputs : All (λ b. bit_in w b ≡ x (TopInput (bit_text d b))) (top_inputs d)
   pub states : All (λ r. bit_in w r.bit ≡ x (State (bit_text d r.bit))) (registers d)
 
--- what a register bit is to become
+-- the next state of a register bit
 abbrev pub next_bit : World → RegisterBit → Bool
 next_bit w r = slice_index_or (assigned_values (w r.scope.path) r.scope r.item.left r.item.right) r.place false
 

@@ -1,40 +1,41 @@
-//! Why a design is refused.
+//! Why a design is refused. A fault has the name that is reported, so it outlives the design.
 
 use bb_bits::Name;
 use std::alloc::{AllocError, AllocFailed};
 use thiserror::Error;
 
-/// Why a design is refused. Where several causes hold, the one that stands first here is told.
+/// Where several causes hold, the first in this order is reported: later ones are defined only where earlier ones do
+/// not hold.
 #[derive(Debug, Drop, Error)]
 pub enum ElabFault {
-    /// No module is the top: none has the given name, or without a name not exactly one is instantiated nowhere.
+    /// None has the given name, or without a name not exactly one is instantiated nowhere.
     #[error("no top")]
     NoTop,
-    /// A module instantiates itself, directly or through others: the first in the text.
+    /// Directly or through others; the first such module in the text that the top reaches.
     #[error("a module that contains itself")]
     Recursive { name: Name },
-    /// An instance has a depth over 64, the top having 1: the path of the first.
+    /// The path of the first instance, in elaboration order, whose depth is over 64, the top having depth 1.
     #[error("too deep")]
     TooDeep { name: Name },
     /// More than 1,000,000 bits of nets and instances together, or more than 2,000,000 cells.
     #[error("too large")]
     TooLarge,
-    /// A bit has two drivers: the first in net order.
+    /// The first bit in net order that has two drivers; the standard would resolve them.
     #[error("driven twice")]
     DrivenTwice { name: Name },
-    /// A bit that is read has no driver: the first in net order.
+    /// The first bit in net order that is read and has no driver: it would read `z`, which is no bit.
     #[error("not driven")]
     Undriven { name: Name },
-    /// A bit depends on itself within a cycle: the first in net order.
+    /// The first bit in net order that depends on itself within a cycle: it would be no function of the vector.
     #[error("on a combinational loop")]
     Loop { name: Name },
-    /// Two boxes have one path text: that of the second.
+    /// The path of the second of two boxes that have one path text.
     #[error("two boxes of one path")]
     BoxTwice { name: Name },
-    /// Two register bits have one text: that of the second.
+    /// The text of the second of two register bits that have one.
     #[error("two registers of one name")]
     RegTwice { name: Name },
-    /// Two bits of input ports or of output ports of the top have one text: that of the second.
+    /// The text of the second of two bits of input ports, or of output ports, of the top that have one.
     #[error("two ports of one name")]
     PortTwice { name: Name },
     #[error("out of memory")]

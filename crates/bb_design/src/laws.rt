@@ -1,4 +1,5 @@
-//! Laws of these definitions. Each function has a law as its contract and does nothing.
+//! Laws of these definitions, which a reader may expect of them. Each function has a law as its contract and does
+//! nothing.
 
 ghost use Rattle.bb_design.specs.Inside.Allowed.{SoundTextsAreAllowed};
 ghost use Rattle.bb_design.specs.Laws.BitLaws.{PinTextsGoByModules};
@@ -10,34 +11,37 @@ ghost use Rattle.bb_design.specs.Laws.{NotSoundAndRefused, FirstRefusalsAreOne, 
 use bb_bits::number_is_below;
 use bb_expr::laws::{made_has_value, net_names_differ, values_have_width};
 
-/// No text is sound and refused.
+/// No text is sound and refused; with `sound_or_refused`, sound texts are exactly those that are not refused.
 pub fn not_sound_and_refused()
     ensures { NotSoundAndRefused }
 {}
 
-/// A text has one first refusal at most.
+/// A text has one first refusal at most, so what is reported of it is a function of the text.
 pub fn first_refusals_are_one()
     ensures { FirstRefusalsAreOne }
 {}
 
-/// The top is the module of the given name, or else the one module that none instantiates.
+/// The top is the module of the given name, or else the one module that none instantiates: the definition means what it
+/// is meant to.
 pub fn tops_are_meant()
     ensures { TopsAreMeant }
 {}
 
-/// Paths of equal texts are equal, where no name of an instance is empty or has a dot in it.
+/// Paths of equal texts are equal unless the name of an instance is empty or has a dot, as an escaped one may: hence
+/// the faults of repeated texts.
 pub fn paths_are_called_apart()
     ensures { PathsAreCalledApart }
 {}
 
-/// What may be assigned has the bits that are written there.
+/// The bits of a left side are those to which its value is written, in one order.
 pub fn written_bits_are_value()
     ensures { WrittenBitsAreValue }
 {
     values_have_width();
 }
 
-/// A construct holds in a world where each bit that it drives is what its source gives.
+/// A construct holds in a world where each bit that it drives is what its source gives: the step from the definition of
+/// worlds, by constructs, to proofs bit by bit.
 pub fn constructs_hold_bit_by_bit()
     ensures { ConstructsHoldBitByBit }
 {
@@ -47,12 +51,13 @@ pub fn constructs_hold_bit_by_bit()
     number_is_below();
 }
 
-/// In a text without faults the driven and the read bits of a design that is not too deep are bits of it.
+/// Driven and read bits are bits of the design. A design that is too deep is excluded: ports of instances on the first
+/// level that is too deep are driven by scopes that are not listed.
 pub fn sound_bits_are_there()
     ensures { SoundBitsAreThere }
 {}
 
-/// A text without faults is sound or has a first refusal.
+/// A text without faults is sound or has a first refusal, so elaboration refuses none without a cause.
 pub fn sound_or_refused()
     ensures { SoundOrRefused }
 {
@@ -60,78 +65,81 @@ pub fn sound_or_refused()
     sound_bits_are_there();
 }
 
-/// What a read bit depends on is read.
+/// What a read bit depends on is read, so bits that nothing reads cannot matter.
 pub fn read_needs_read()
     ensures { ReadNeedsRead }
 {}
 
-/// Two worlds of one vector have the same bits wherever a bit is read.
+/// Two worlds of one vector have the same bits wherever a bit is read, so outputs are functions of the vector and the
+/// contents.
 pub fn worlds_agree_where_read()
     ensures { WorldsAgreeWhereRead }
 {
     read_needs_read();
 }
 
-/// Each vector and all contents have a world.
+/// Each vector and all contents have a world, so no statement about all worlds is vacuous.
 pub fn vectors_have_worlds()
     ensures { VectorsHaveWorlds }
 {}
 
-/// A path leads to each scope, and each end of a path is a scope.
+/// A path leads to each scope, and each end of a path is a scope: scopes may be found by path as well as in the list.
 pub fn paths_lead_to_scopes()
     ensures { PathsLeadToScopes }
 {}
 
-/// A world is one in which every driven bit is what its source gives.
+/// A world is one in which every driven bit is what its source gives: both ways to define it are the same.
 pub fn worlds_are_driven()
     ensures { WorldsAreDriven }
 {
     constructs_hold_bit_by_bit();
 }
 
-/// In a text without faults the constructs of a module are legal.
+/// In a text without faults terminals and ports have the widths that worlds presuppose; this is what its checks are
+/// for.
 pub fn sound_constructs_are_legal()
     ensures { SoundConstructsAreLegal }
 {}
 
-/// In a text without faults instances of one module have different names.
+/// In a text without faults instances of one module have different names, so a path leads to one scope.
 pub fn sound_texts_have_names_apart()
     ensures { SoundTextsHaveNamesApart }
 {}
 
-/// In a text without faults modules have different names.
+/// In a text without faults modules have different names, so they may be found by place as well as by name.
 #[tactic(auto, using(crate::proofs::SoundModules::sound_texts_have_modules_apart))]
 pub fn sound_texts_have_modules_apart()
     ensures { SoundTextsHaveModulesApart }
 {}
 
-/// Scopes of one module have ports of the same texts.
+/// Scopes of one module have ports of the same texts, so shared contents need no check of names of pins.
 pub fn pin_texts_go_by_modules()
     ensures { PinTextsGoByModules }
 {}
 
-/// In a text without faults what is instantiated is a module of the text.
+/// In a text without faults what is instantiated is a module of the text; a black box is an empty module and no missing
+/// one.
 #[tactic(auto, using(crate::proofs::SoundModules::sound_texts_have_targets))]
 pub fn sound_texts_have_targets()
     ensures { SoundTextsHaveTargets }
 {}
 
-/// In a text without faults a module instantiates the modules at the places of its callees.
+/// A module instantiates the modules at the places of its callees: code walks by places, definitions by names.
 pub fn callees_are_instantiated()
     ensures { CalleesAreInstantiated }
 {}
 
-/// In a text without faults walks from module to module may be told by places.
+/// The same for walks of several steps, as recursion, depth and size need.
 pub fn walks_are_by_places()
     ensures { WalksAreByPlaces }
 {}
 
-/// A sound, well-formed text without faults has a design that is allowed: one of which laws speak.
+/// A sound, well-formed text without faults has a design that is allowed, which other laws presuppose.
 pub fn sound_texts_are_allowed()
     ensures { SoundTextsAreAllowed }
 {}
 
-/// The laws of designs on which crates above rest, as one.
+/// One record, which a lemma takes as one argument instead of each law by itself.
 pub fn laws_of_designs()
     ensures { DesignLaws }
 {

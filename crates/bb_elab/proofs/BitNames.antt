@@ -10,17 +10,17 @@ use Rattle.bb_names.specs.Inside.Checked.{ModuleFacts, syntax, IsChecked}
 use Rattle.bb_names.specs.Declarations.{range_of}
 use Rattle.bb_names.specs.Nets.{net_names, net_of, nets_of}
 use Rattle.bb_names.specs.Ranges.{range_width}
-use Rattle.bb_blast.specs.declared.outline.Outline.{Outline}
+use Rattle.bb_blast.specs.declared.template.ModuleTemplate.{ModuleTemplate}
 use Rattle.bb_blast.specs.declared.placed.Placed.{Placed}
 use Rattle.bb_design.specs.Laws.{HasNamesApart}
 use Rattle.bb_design.specs.Hierarchy.{Design, Scope, scopes, module_at}
 use Rattle.bb_design.specs.NetBits.{bits_of_net, Bit, scope_bits}
-use Rattle.bb_blast.specs.Inside.Outlines.{net_start}
-use Rattle.bb_blast.specs.Inside.Outlining.{bit_count}
-use Rattle.bb_blast.specs.Inside.Placements.{IsScopeAt, ArePlaced, AreOutlined}
+use Rattle.bb_blast.specs.Inside.ModuleTemplates.{net_start}
+use Rattle.bb_blast.specs.Inside.BitBlasting.{bit_count}
+use Rattle.bb_blast.specs.Inside.Placements.{IsScopeAt, ArePlaced, AreTemplated}
 use Rattle.bb_design.specs.Texts.{net_bit_text, pin_text, range_at}
-use Rattle.bb_lists.proofs.Places.{there_at, some_at}
-use Rattle.bb_lists.proofs.Members.{from_flat, from_map}
+use Rattle.bb_lemmas.proofs.Places.{there_at, some_at}
+use Rattle.bb_lemmas.proofs.Members.{from_flat, from_map}
 use Rattle.bb_design.specs.Laws.DesignLaws.{DesignLaws}
 use Rattle.bb_blast.specs.Laws.ModuleLaws.{ModuleLaws}
 
@@ -37,7 +37,7 @@ own_path s k b e =
     let place = from_map (λ i. record { path = s.path; net = net.0.name; place = i }) (range_with_len 0 (range_width net.0.range)) b net.2 in
     ap (λ (c : Bit). c.path) (sym place.2)
 
-module _ (of_designs : DesignLaws) (of_modules : ModuleLaws) (checked : List ModuleFacts) (ok : IsChecked checked) (all : List Placed) (outlines : List Outline) (d : Design) (text : d.text ≡ map syntax checked) (are : ArePlaced d all) where
+module _ (of_designs : DesignLaws) (of_modules : ModuleLaws) (checked : List ModuleFacts) (ok : IsChecked checked) (all : List Placed) (templates : List ModuleTemplate) (d : Design) (text : d.text ≡ map syntax checked) (are : ArePlaced d all) where
   pub scope_at : (k : ℕ) → k < length all → (s : Scope) × IsScopeAt d k s
   scope_at k lt = some_at (scopes d) k (omega (arith, lt, are.count))
 
@@ -67,12 +67,12 @@ module _ (of_designs : DesignLaws) (of_modules : ModuleLaws) (checked : List Mod
         let range : range_at d made ≡ net.range = ap (option_and_then (λ m. range_of m net.name)) (source_at k s at) ∙ sym (own_range s.source j net own) in
         ap (λ r. net_bit_text net.name r place) (sym range) ∙ ap (pin_text d) bit
 
-    module _ (outlined : AreOutlined d all outlines) (y : Outline) (kept : slice_get outlines p.module ≡ Some y) (nets : List NetInfo) (starts : List ℕ) (own : nets ≡ nets_of s.source) (same : starts ≡ y.starts.items) where
+    module _ (templated : AreTemplated d all templates) (y : ModuleTemplate) (kept : slice_get templates p.module ≡ Some y) (nets : List NetInfo) (starts : List ℕ) (own : nets ≡ nets_of s.source) (same : starts ≡ y.starts.items) where
       pub starts_each : (j : ℕ) → j < length nets → slice_get starts j ≡ Some (net_start nets j)
       starts_each j lt =
-          let o = outlined k s p at there in
+          let o = templated k s p at there in
           let is : o.0 ≡ y = same_Some o.0 y (sym o.1 ∙ kept) in
-          ap (λ l. slice_get l j) (same ∙ ap (λ (x : Outline). x.starts.items) (sym is)) ∙ o.2.starts j (subst (λ l. j < length l) own lt) ∙ ap (λ l. Some (net_start l j)) (sym own)
+          ap (λ l. slice_get l j) (same ∙ ap (λ (x : ModuleTemplate). x.starts.items) (sym is)) ∙ o.2.starts j (subst (λ l. j < length l) own lt) ∙ ap (λ l. Some (net_start l j)) (sym own)
 
       pub local_there : (local : ℕ) (b : Bit) → slice_get (scope_bits s) local ≡ Some b → local < bit_count nets
       local_there local b is = omega (arith, slice_get_within (scope_bits s) local b is, of_designs.net_bits s.path (nets_of s.source), ap bit_count own)

@@ -11,8 +11,8 @@ use Rattle.bb_design.specs.Hierarchy.{Design, Scope, scopes}
 use Rattle.bb_design.specs.NetBits.{Bit, net_order, scope_bits}
 use Rattle.bb_elab.specs.Inside.PlacedPaths.{IsLastBelow}
 use Rattle.bb_blast.specs.Inside.Placements.{IsScopeAt, ArePlaced}
-use Rattle.bb_lists.proofs.Orders.{less_or_past}
-use Rattle.bb_lists.proofs.Places.{got_flat, some_at}
+use Rattle.bb_lemmas.proofs.Orders.{less_or_past}
+use Rattle.bb_lemmas.proofs.Places.{got_flat, some_at}
 
 flat-next : {A B : Type 0} (f : A → List B) (xs : List A) (k : ℕ) (x : A) → slice_get xs k ≡ Some x → length (flat_map f (take (k + 1) xs)) ≡ length (flat_map f (take k xs)) + length (f x)
 flat-next f xs k x there =

@@ -8,71 +8,71 @@ use Rattle.std.proofs.lemmas.Option.{same_Some}
 use Rattle.bb_net.specs.declared.loose.LooseCell.{LooseCell}
 use Rattle.bb_net.specs.declared.loose.LooseCell.TheVariants.{Const, Input, Copy}
 use Rattle.bb_net.specs.Loose.{LooseList, loose_at, IsLoose}
-use Rattle.bb_net.specs.Orders.{IsKept, IsSource}
+use Rattle.bb_net.specs.Orders.{IsNoCopy, IsCopySource}
 use Rattle.bb_bits.specs.Closures.{Leads, One, More}
 use Rattle.bb_elab.specs.Inside.CopyEnds.{EndsAt, AreEnds}
-use Rattle.bb_cells.specs.Inside.ReadPlaces.{copy_steps, FollowsAt}
+use Rattle.bb_implements.specs.Inside.ReadPlaces.{copy_steps, FollowsAt}
 use Rattle.bb_elab.proofs.CopyMarks.{copies_one}
-use Rattle.bb_lists.proofs.Marks.{unmarked, unmarked_less, unmarked_at}
-use Rattle.bb_lists.proofs.Orders.{less_or_same, less_or_past}
-use Rattle.bb_cells.specs.Laws.CellLaws.{CellLaws}
+use Rattle.bb_lemmas.proofs.Marks.{unmarked, unmarked_less, unmarked_at}
+use Rattle.bb_lemmas.proofs.Orders.{less_or_same, less_or_past}
+use Rattle.bb_implements.specs.Laws.CellLaws.{CellLaws}
 
 module _ (of_cells : CellLaws) (l : LooseList) where
-  kept_no_copy : (k p : ℕ) → IsKept (loose_at l k) → loose_at l k ≡ Copy p → ⊥
-  kept_no_copy k p kept is = subst IsKept is kept
+  kept_no_copy : (k p : ℕ) → IsNoCopy (loose_at l k) → loose_at l k ≡ Copy p → ⊥
+  kept_no_copy k p kept is = subst IsNoCopy is kept
 
-  pub source_unique : (n m k a b : ℕ) → IsSource n l k a → IsSource m l k b → (n ≡ m) × (a ≡ b)
+  pub source_unique : (n m k a b : ℕ) → IsCopySource n l k a → IsCopySource m l k b → (n ≡ m) × (a ≡ b)
   source_unique zero zero k a b x y = (refl, sym x.0 ∙ y.0)
   source_unique zero (suc m) k a b x y = absurd (kept_no_copy k y.0 x.1 y.2)
   source_unique (suc n) zero k a b x y = absurd (kept_no_copy k x.0 y.1 x.2)
   source_unique (suc n) (suc m) k a b x y =
       let same = copies_one y.0 x.0 (sym y.2 ∙ x.2) in
-      let r = source_unique n m x.0 a b x.3 (subst (λ p. IsSource m l p b) same y.3) in
+      let r = source_unique n m x.0 a b x.3 (subst (λ p. IsCopySource m l p b) same y.3) in
       (ap suc r.0, r.1)
 
   starts_there : (j k : ℕ) → Leads (copy_steps l.cells) j k → j < length l.cells
   starts_there j k (One has) = ((of_cells.copies l.cells j k (Const false)).0 has).0
   starts_there j k (More {y = y} has rest) = ((of_cells.copies l.cells j y (Const false)).0 has).0
 
-  leads_source : (j k : ℕ) → Leads (copy_steps l.cells) j k → k < length l.cells → IsKept (loose_at l k) → (n : ℕ) × IsSource n l j k
+  leads_source : (j k : ℕ) → Leads (copy_steps l.cells) j k → k < length l.cells → IsNoCopy (loose_at l k) → (n : ℕ) × IsCopySource n l j k
   leads_source j k (One has) there kept = (1, (k, there, ((of_cells.copies l.cells j k (Const false)).0 has).1, (refl, kept)))
   leads_source j k (More {y = y} has rest) there kept =
       let r = leads_source y k rest there kept in
       (suc r.0, (y, starts_there y k rest, ((of_cells.copies l.cells j y (Const false)).0 has).1, r.1))
 
-  pub follow_source : (j k : ℕ) → FollowsAt l.cells j k → k < length l.cells → IsKept (loose_at l k) → (n : ℕ) × IsSource n l j k
-  follow_source j k (inl same) there kept = (0, (same, subst (λ i. IsKept (loose_at l i)) (sym same) kept))
+  pub follow_source : (j k : ℕ) → FollowsAt l.cells j k → k < length l.cells → IsNoCopy (loose_at l k) → (n : ℕ) × IsCopySource n l j k
+  follow_source j k (inl same) there kept = (0, (same, subst (λ i. IsNoCopy (loose_at l i)) (sym same) kept))
   follow_source j k (inr leads) there kept = leads_source j k leads there kept
 
-  abbrev AreBehind : ℕ → ℕ → List Bool → Type 0
-  AreBehind n source marks = (j : ℕ) → slice_index_or marks j false ≡ true → (m : ℕ) × IsSource m l j source × (n < m)
+  abbrev AreAfter : ℕ → ℕ → List Bool → Type 0
+  AreAfter n source marks = (j : ℕ) → slice_index_or marks j false ≡ true → (m : ℕ) × IsCopySource m l j source × (n < m)
 
-  here_unmarked : (n k source : ℕ) (marks : List Bool) → IsSource n l k source → AreBehind n source marks → slice_index_or marks k false ≡ false
+  here_unmarked : (n k source : ℕ) (marks : List Bool) → IsCopySource n l k source → AreAfter n source marks → slice_index_or marks k false ≡ false
   here_unmarked n k source marks is before = by (slice_index_or marks k false) refl
     where
       by : (b : Bool) → slice_index_or marks k false ≡ b → slice_index_or marks k false ≡ false
       by true on = let m = before k on in let u = source_unique n m.0 k source source is m.1 in absurd (omega (arith, m.2, u.0))
       by false off = off
 
-  one_behind : (n k source : ℕ) (marks : List Bool) → k < length marks → IsSource (suc n) l k source → AreBehind (suc n) source marks → AreBehind n source (set marks k true)
-  one_behind n k source marks lt is before j on = at (less_or_same j k)
+  one_after : (n k source : ℕ) (marks : List Bool) → k < length marks → IsCopySource (suc n) l k source → AreAfter (suc n) source marks → AreAfter n source (set marks k true)
+  one_after n k source marks lt is before j on = at (less_or_same j k)
     where
-      other : j ≢ k → (m : ℕ) × IsSource m l j source × (n < m)
+      other : j ≢ k → (m : ℕ) × IsCopySource m l j source × (n < m)
       other differ = let r = before j (sym (get_or-set_other marks k j true false differ) ∙ on) in (r.0, r.1, omega (arith, r.2))
 
-      at : (j < k) ⊎ ((k < j) ⊎ (j ≡ k)) → (m : ℕ) × IsSource m l j source × (n < m)
+      at : (j < k) ⊎ ((k < j) ⊎ (j ≡ k)) → (m : ℕ) × IsCopySource m l j source × (n < m)
       at (inl h) = other (λ e. omega (arith, h, e))
       at (inr (inl h)) = other (λ e. omega (arith, h, e))
-      at (inr (inr h)) = (suc n, subst (λ i. IsSource (suc n) l i source) (sym h) is, omega arith)
+      at (inr (inr h)) = (suc n, subst (λ i. IsCopySource (suc n) l i source) (sym h) is, omega arith)
 
-  few_left : (n k source : ℕ) (marks : List Bool) → length marks ≡ length l.cells → IsSource n l k source → k < length l.cells → AreBehind n source marks → n < unmarked marks
+  few_left : (n k source : ℕ) (marks : List Bool) → length marks ≡ length l.cells → IsCopySource n l k source → k < length l.cells → AreAfter n source marks → n < unmarked marks
   few_left zero k source marks long is there before = omega (arith, unmarked_less marks k (omega (arith, there, long)) (here_unmarked 0 k source marks is before))
   few_left (suc n) k source marks long is there before =
       let lt : k < length marks = omega (arith, there, long) in
       omega (
         arith,
         unmarked_less marks k lt (here_unmarked (suc n) k source marks is before),
-        few_left n is.0 source (set marks k true) (length-set marks k true ∙ long) is.3 is.1 (one_behind n k source marks lt is before),
+        few_left n is.0 source (set marks k true) (length-set marks k true ∙ long) is.3 is.1 (one_after n k source marks lt is before),
       )
 
   none_marked : (n : ℕ) → unmarked (replicate n false) ≡ n
@@ -84,7 +84,7 @@ module _ (of_cells : CellLaws) (l : LooseList) where
   long_replicate zero = refl
   long_replicate (suc n) = ap suc (long_replicate n)
 
-  pub few_copies : (n k source : ℕ) → IsSource n l k source → k < length l.cells → n < length l.cells
+  pub few_copies : (n k source : ℕ) → IsCopySource n l k source → k < length l.cells → n < length l.cells
   few_copies n k source is there =
       let few = few_left n k source (replicate (length l.cells) false) (long_replicate (length l.cells)) is there (λ j on. absurd (unmarked_at (length l.cells) j on)) in
       omega (arith, few, none_marked (length l.cells))
@@ -92,7 +92,7 @@ module _ (of_cells : CellLaws) (l : LooseList) where
 -- Copies are followed from a place of the list to another, in so many steps: they end where they end from there, with as many
 -- fewer copies between.
 abbrev pub Comes : LooseList → ℕ → ℕ → ℕ → Type 0
-Comes l place at step = place < length l.cells → (n source : ℕ) → IsSource n l place source → (at < length l.cells) × (m : ℕ) × IsSource m l at source × (m + step ≡ n)
+Comes l place at step = place < length l.cells → (n source : ℕ) → IsCopySource n l place source → (at < length l.cells) × (m : ℕ) × IsCopySource m l at source × (m + step ≡ n)
 
 module _ (of_cells : CellLaws) (l : LooseList) (place : ℕ) where
   pub comes_first : Comes l place place 0
@@ -104,17 +104,17 @@ module _ (of_cells : CellLaws) (l : LooseList) (place : ℕ) where
   pub comes_next : (at of step : ℕ) → Comes l place at step → loose_at l at ≡ Copy of → Comes l place of (step + 1)
   comes_next at of step comes copy there n source is = by (comes there n source is)
     where
-      by : (at < length l.cells) × (m : ℕ) × IsSource m l at source × (m + step ≡ n) → (of < length l.cells) × (m : ℕ) × IsSource m l of source × (m + (step + 1) ≡ n)
+      by : (at < length l.cells) × (m : ℕ) × IsCopySource m l at source × (m + step ≡ n) → (of < length l.cells) × (m : ℕ) × IsCopySource m l of source × (m + (step + 1) ≡ n)
       by (low, zero, s, long) = absurd (kept_no_copy of_cells l at of s.1 copy)
       by (low, suc m, s, long) =
           let same = copies_one s.0 of (sym s.2 ∙ copy) in
-          (subst (λ p. p < length l.cells) same s.1, m, subst (λ p. IsSource m l p source) same s.3, omega (arith, long))
+          (subst (λ p. p < length l.cells) same s.1, m, subst (λ p. IsCopySource m l p source) same s.3, omega (arith, long))
 
   -- the walk ends at what is no copy, at what is noted, or before as many steps as there are cells
   pub ends_kept : (at step : ℕ) → Comes l place at step → ((p : ℕ) → loose_at l at ≡ Copy p → ⊥) → EndsAt l place at
   ends_kept at step comes none there n source is = by (comes there n source is)
     where
-      by : (at < length l.cells) × (m : ℕ) × IsSource m l at source × (m + step ≡ n) → at ≡ source
+      by : (at < length l.cells) × (m : ℕ) × IsCopySource m l at source × (m + step ≡ n) → at ≡ source
       by (low, zero, s, long) = s.0
       by (low, suc m, s, long) = absurd (none s.0 s.2)
 
@@ -153,11 +153,11 @@ taken_at (c ∷ cells) (suc n) zero d lt = refl
 taken_at (c ∷ cells) (suc n) (suc k) d lt = taken_at cells n k d (omega (arith, lt))
 
 module _ (of_cells : CellLaws) (l : LooseList) (loose : IsLoose l) where
-  -- inputs stand behind the two constants
+  -- inputs follow the two constants
   pub input_cell : (k : ℕ) → k < l.inputs → loose_at l (k + 2) ≡ Input k
   input_cell k lt =
       let two : k + 2 ≡ suc (suc k) = omega arith in
-      sym (taken_at l.cells (l.inputs + 2) (k + 2) (Const false) (omega (arith, lt))) ∙ ap (λ cells. get_or cells (k + 2) (Const false)) loose.front
+      sym (taken_at l.cells (l.inputs + 2) (k + 2) (Const false) (omega (arith, lt))) ∙ ap (λ cells. get_or cells (k + 2) (Const false)) loose.prefix
       ∙ ap (λ i. get_or (Const false ∷ Const true ∷ map Input (range_with_len 0 l.inputs)) i (Const false)) two ∙ get_or-map-range_with_len Input 0 l.inputs k k (Const false) lt (omega arith)
 
   pub input_there : (k : ℕ) → k < l.inputs → k + 2 < length l.cells
@@ -167,11 +167,11 @@ module _ (of_cells : CellLaws) (l : LooseList) (loose : IsLoose l) where
       by (inl h) = h
       by (inr past) = let no : Const false ≡ Input k = sym (get_or_past l.cells (k + 2) (Const false) past) ∙ input_cell k lt in cc
 
-  input_kept : (k : ℕ) → k < l.inputs → IsKept (loose_at l (k + 2))
-  input_kept k lt = subst IsKept (sym (input_cell k lt)) tt
+  input_kept : (k : ℕ) → k < l.inputs → IsNoCopy (loose_at l (k + 2))
+  input_kept k lt = subst IsNoCopy (sym (input_cell k lt)) tt
 
   -- copies lead to where they end
-  source_follows : (n place source : ℕ) → place < length l.cells → IsSource n l place source → FollowsAt l.cells place source
+  source_follows : (n place source : ℕ) → place < length l.cells → IsCopySource n l place source → FollowsAt l.cells place source
   source_follows zero place source there is = inl is.0
   source_follows (suc n) place source there is = inr (by (source_follows n is.0 source is.1 is.3))
     where
@@ -182,7 +182,7 @@ module _ (of_cells : CellLaws) (l : LooseList) (loose : IsLoose l) where
       by (inl same) = One (subst (λ p. Contains {X = ℕ × ℕ} (copy_steps l.cells) (place, p)) same copy)
       by (inr leads) = More copy leads
 
-  module _ (limit : ℕ) (few : limit ≤ l.inputs) (place n source : ℕ) (there : place < length l.cells) (is : IsSource n l place source) where
+  module _ (limit : ℕ) (few : limit ≤ l.inputs) (place n source : ℕ) (there : place < length l.cells) (is : IsCopySource n l place source) where
     -- an input to which copies lead is where they end
     input_is : (k : ℕ) → k < limit → FollowsAt l.cells place (k + 2) → source ≡ k + 2
     input_is k lt follows =

@@ -7,13 +7,13 @@ use Rattle.std.proofs.lemmas.List.{get_or_default, get_or-set_same, get_or-set_o
 use Rattle.bb_net.specs.declared.loose.LooseCell.{LooseCell}
 use Rattle.bb_net.specs.declared.loose.LooseCell.TheVariants.{Const, Input, Not, And, Or, Xor, Mux, BoxOut, Copy}
 use Rattle.bb_bits.specs.Closures.{Leads, One, More}
-use Rattle.bb_cells.specs.Inside.ReadPlaces.{read_by, copy_steps, read_places, FollowsAt, IsReadPlace, AreClosed}
+use Rattle.bb_implements.specs.Inside.ReadPlaces.{read_by, copy_steps, read_places, FollowsAt, IsReadPlace, AreClosed}
 use Rattle.bb_net.specs.Loose.{LooseList, loose_at, operands, IsLoose}
 use Rattle.bb_net.specs.Netlists.{Pins, box_at}
-use Rattle.bb_lists.proofs.Members.{from_flat, contains_here, contains_cases, none_in_nil}
-use Rattle.bb_lists.proofs.Orders.{less_or_same}
-use Rattle.bb_lists.proofs.Marks.{unmarked_at}
-use Rattle.bb_cells.specs.Laws.CellLaws.{CellLaws}
+use Rattle.bb_lemmas.proofs.Members.{from_flat, contains_here, contains_cases, none_in_nil}
+use Rattle.bb_lemmas.proofs.Orders.{less_or_same}
+use Rattle.bb_lemmas.proofs.Marks.{unmarked_at}
+use Rattle.bb_implements.specs.Laws.CellLaws.{CellLaws}
 
 pub leads_on : {A : Type 0} (steps : List (A × A)) (a b c : A) → Leads steps a b → Contains steps (b, c) → Leads steps a c
 leads_on steps a b c (One has) step = More has (One step)
@@ -200,19 +200,19 @@ module _ (of_cells : CellLaws) (l : LooseList) (loose : IsLoose l) where
       at_end (inl h) = All-contains (λ p. p < length l.cells) l.outs j loose.outs_there h
       at_end (inr h) = All-contains (λ p. p < length l.cells) clocks j timed h
 
-      behind : Contains (flat_map (λ (b : Pins). b.ins) l.boxes) j ⊎ Contains (l.outs ++ clocks) j → j < length l.cells
-      behind (inl h) =
+      after : Contains (flat_map (λ (b : Pins). b.ins) l.boxes) j ⊎ Contains (l.outs ++ clocks) j → j < length l.cells
+      after (inl h) =
           let b = from_flat (λ (b : Pins). b.ins) l.boxes j h in
           let at : box_at l.boxes b.1.0 ≡ b.0 = get_or_default l.boxes b.1.0 _ b.0 b.1.1 ∙ b.1.2 in
           All-contains (λ p. p < length l.cells) b.0.ins j (subst (λ (x : Pins). All (λ p. p < length l.cells) x.ins) at (loose.pins_there b.1.0)) b.2
-      behind (inr h) = at_end (Contains-append_cases l.outs clocks j h)
+      after (inr h) = at_end (Contains-append_cases l.outs clocks j h)
 
       by : Contains (flat_map read_by l.cells) j ⊎ Contains (flat_map (λ (b : Pins). b.ins) l.boxes ++ (l.outs ++ clocks)) j → j < length l.cells
       by (inl h) =
           let c = from_flat read_by l.cells j h in
           let at : loose_at l c.1.0 ≡ c.0 = get_or_default l.cells c.1.0 (Const false) c.0 c.1.1 ∙ c.1.2 in
           All-contains (λ p. p < length l.cells) (operands l.boxes (loose_at l c.1.0)) j (loose.there c.1.0 c.1.1) (subst (λ u. Contains (operands l.boxes u) j) (sym at) (read_operand l.boxes c.0 j c.2))
-      by (inr h) = behind (Contains-append_cases (flat_map (λ (b : Pins). b.ins) l.boxes) (l.outs ++ clocks) j h)
+      by (inr h) = after (Contains-append_cases (flat_map (λ (b : Pins). b.ins) l.boxes) (l.outs ++ clocks) j h)
 
   pub all_marked : (clocks : List ℕ) → All (λ p. p < length l.cells) clocks → (marks : List Bool) → length marks ≡ length l.cells → AreClosed l.cells marks
       → ((s : ℕ) → Contains (read_places l clocks) s → s < length l.cells → slice_index_or marks s false ≡ true) → (k : ℕ) → IsReadPlace l clocks k → slice_index_or marks k false ≡ true

@@ -1,4 +1,4 @@
--- What the number of drivers of a bit tells: whether the bit is driven, and whether it is driven twice.
+-- What the number of drivers of a bit says: whether the bit is driven, and whether it is driven twice.
 use Rattle.std.proofs.Common.{◌≡◌, ◌⊎◌, ◌<◌, ◌≤◌, ℕ, zero, suc, Bool, true, false, if◌then◌else◌, List, [], ◌∷◌, length, take, drop, get_or, Contains, Some, refl, sym, ap, ◌∙◌, subst, inl, inr, arith, true≢false}
 use Rattle.std.specs.Prelude.{slice_get}
 use Rattle.std.specs.List.{filter}
@@ -11,8 +11,8 @@ use Rattle.bb_design.specs.Drivers.{driven_bits}
 use Rattle.bb_elab.specs.Inside.DrivenNumbers.{IsFirstAt, AreCounts}
 use Rattle.bb_design.specs.Inside.Allowed.{IsBounded}
 use Rattle.bb_design.specs.Refusals.{AreDrivenOnce, IsDrivenTwice}
-use Rattle.bb_lists.proofs.Places.{some_at, split, taken}
-use Rattle.bb_lists.proofs.Members.{contains_here, contains_there, contains_cases, none_in_nil}
+use Rattle.bb_lemmas.proofs.Places.{some_at, split, taken}
+use Rattle.bb_lemmas.proofs.Members.{contains_here, contains_there, contains_cases, none_in_nil}
 use Rattle.bb_design.specs.Laws.DesignLaws.{DesignLaws}
 
 abbrev found : Bit → List Bit → ℕ
@@ -24,7 +24,7 @@ module _ (of_designs : DesignLaws) where
   found_there b (x ∷ xs) some = by (same_bit b x) refl some (found_there b xs)
     where
       by : (t : Bool) → same_bit b x ≡ t → 0 < length (if t then x ∷ filter (same_bit b) xs else filter (same_bit b) xs) → (0 < found b xs → Contains xs b) → Contains (x ∷ xs) b
-      by true e more rest = subst (Contains (x ∷ xs)) (sym ((of_designs.told_apart b x).0 e)) (contains_here x xs)
+      by true e more rest = subst (Contains (x ∷ xs)) (sym ((of_designs.distinguished b x).0 e)) (contains_here x xs)
       by false e more rest = contains_there x xs b (rest more)
 
   pub there_found : (b : Bit) (xs : List Bit) → Contains xs b → 0 < found b xs
@@ -33,36 +33,36 @@ module _ (of_designs : DesignLaws) where
     where
       by : (t : Bool) → same_bit b x ≡ t → (x ≡ b) ⊎ Contains xs b → (Contains xs b → 0 < found b xs) → 0 < length (if t then x ∷ filter (same_bit b) xs else filter (same_bit b) xs)
       by true e at rest = omega arith
-      by false e (inl same) rest = absurd (true≢false (sym (((of_designs.told_apart b b).1 refl)) ∙ ap (same_bit b) (sym same) ∙ e))
+      by false e (inl same) rest = absurd (true≢false (sym (((of_designs.distinguished b b).1 refl)) ∙ ap (same_bit b) (sym same) ∙ e))
       by false e (inr more) rest = rest more
 
--- it stands at two places
-abbrev StandsTwice : Bit → List Bit → Type 0
-StandsTwice b xs = (i j : ℕ) × (i < j) × (j < length xs) × (get_or xs i b ≡ b) × (get_or xs j b ≡ b)
+-- it is at two places
+abbrev OccursTwice : Bit → List Bit → Type 0
+OccursTwice b xs = (i j : ℕ) × (i < j) × (j < length xs) × (get_or xs i b ≡ b) × (get_or xs j b ≡ b)
 
 module _ (of_designs : DesignLaws) where
-  found_twice : (b : Bit) (xs : List Bit) → 2 ≤ found b xs → StandsTwice b xs
+  found_twice : (b : Bit) (xs : List Bit) → 2 ≤ found b xs → OccursTwice b xs
   found_twice b [] many = absurd (omega (arith, many))
   found_twice b (x ∷ xs) many = by (same_bit b x) refl many (found_twice b xs)
     where
-      later : StandsTwice b xs → StandsTwice b (x ∷ xs)
+      later : OccursTwice b xs → OccursTwice b (x ∷ xs)
       later (i, j, less, within, p, q) = (suc i, suc j, omega (arith, less), omega (arith, within), p, q)
 
-      first : x ≡ b → Contains xs b → StandsTwice b (x ∷ xs)
+      first : x ≡ b → Contains xs b → OccursTwice b (x ∷ xs)
       first is (k, lt, at) = (0, suc k, omega arith, omega (arith, lt), is, at)
 
-      by : (t : Bool) → same_bit b x ≡ t → 2 ≤ length (if t then x ∷ filter (same_bit b) xs else filter (same_bit b) xs) → (2 ≤ found b xs → StandsTwice b xs) → StandsTwice b (x ∷ xs)
-      by true e more rest = first (sym ((of_designs.told_apart b x).0 e)) (found_there of_designs b xs (omega (arith, more)))
+      by : (t : Bool) → same_bit b x ≡ t → 2 ≤ length (if t then x ∷ filter (same_bit b) xs else filter (same_bit b) xs) → (2 ≤ found b xs → OccursTwice b xs) → OccursTwice b (x ∷ xs)
+      by true e more rest = first (sym ((of_designs.distinguished b x).0 e)) (found_there of_designs b xs (omega (arith, more)))
       by false e more rest = later (rest more)
 
-  twice_found : (b : Bit) (xs : List Bit) → StandsTwice b xs → 2 ≤ found b xs
+  twice_found : (b : Bit) (xs : List Bit) → OccursTwice b xs → 2 ≤ found b xs
   twice_found b [] (i, j, less, within, p, q) = absurd (omega (arith, within))
   twice_found b (x ∷ xs) (i, zero, less, within, p, q) = absurd (omega (arith, less))
   twice_found b (x ∷ xs) (zero, suc j, less, within, p, q) = by (same_bit b x) refl
     where
       by : (t : Bool) → same_bit b x ≡ t → 2 ≤ length (if t then x ∷ filter (same_bit b) xs else filter (same_bit b) xs)
       by true e = let one = there_found of_designs b xs (j, omega (arith, within), q) in omega (arith, one)
-      by false e = absurd (true≢false (sym (((of_designs.told_apart b b).1 refl)) ∙ ap (same_bit b) (sym p) ∙ e))
+      by false e = absurd (true≢false (sym (((of_designs.distinguished b b).1 refl)) ∙ ap (same_bit b) (sym p) ∙ e))
   twice_found b (x ∷ xs) (suc i, suc j, less, within, p, q) = by (same_bit b x) (twice_found b xs (i, j, omega (arith, less), omega (arith, within), p, q))
     where
       by : (t : Bool) → 2 ≤ found b xs → 2 ≤ length (if t then x ∷ filter (same_bit b) xs else filter (same_bit b) xs)
@@ -89,7 +89,7 @@ module _ (of_designs : DesignLaws) (d : Design) (counts : List ℕ) (counted : A
         record {
           before = take k (net_order d);
           after = drop (suc k) (net_order d);
-          stands = split (net_order d) k b.0 b.1;
+          occurs = split (net_order d) k b.0 b.1;
           holds = found_twice of_designs b.0 (driven_bits d) (omega (arith, many, counted.each k b.0 b.1));
           earlier = λ y has. let j = taken (net_order d) k y has in twice_counted j.0 y j.2 (few j.0 j.1);
         },

@@ -6,7 +6,7 @@ use Rattle.std.proofs.lemmas.List.{map-append, length-map, length-drop}
 use Rattle.std.proofs.lemmas.List.Elements.{All-contains}
 use Rattle.bb_ast.specs.Syntax.{Expression}
 use Rattle.bb_names.specs.Declarations.{range_of}
-use Rattle.bb_names.specs.Spots.{Pin}
+use Rattle.bb_names.specs.Sites.{Pin}
 use Rattle.bb_expr.specs.Laws.{ValuesHaveWidth, MadeHasValue}
 use Rattle.bb_expr.specs.Terms.{Term, term_bit}
 use Rattle.bb_design.specs.Hierarchy.{Design, Path, Scope, path_to, scopes, is_box}
@@ -14,12 +14,12 @@ use Rattle.bb_design.specs.NetBits.{Bit, bits_named, pin_bits, output_bits, top_
 use Rattle.bb_design.specs.Contexts.{width_of, context_width, made_in}
 use Rattle.bb_bits.specs.Bits.{low_bits}
 use Rattle.bb_design.specs.Constructs.{Construct, Assignment, GateInstance, Register, SupplyNet, InputConnection, OutputConnection, BoxContents, body_constructs, constructs_at, parts}
-use Rattle.bb_design.specs.Drivers.{Source, Free, MadeOf, Box, Drive, driven, driven_by, terminal_terms, drives_at, driven_bits}
+use Rattle.bb_design.specs.Drivers.{DrivingSource, Free, MadeOf, Box, Drive, driven, driven_by, terminal_terms, drives_at, driven_bits}
 use Rattle.bb_design.specs.Laws.DrivenWorlds.{IsLegal}
 use Rattle.bb_design.specs.GateFunctions.{on_terms, gate_gives}
 use Rattle.bb_design.specs.Inside.Allowed.{IsBounded}
-use Rattle.bb_lists.proofs.Members.{contains_here, contains_there, contains_cases, none_in_nil}
-use Rattle.bb_lists.proofs.Ranges.{length-range}
+use Rattle.bb_lemmas.proofs.Members.{contains_here, contains_there, contains_cases, none_in_nil}
+use Rattle.bb_lemmas.proofs.Ranges.{length-range}
 use Rattle.bb_expr.specs.Terms as term
 use Rattle.bb_design.specs.Laws.DesignLaws.{DesignLaws}
 
@@ -34,7 +34,7 @@ bits_driven s (InputConnection i pin e) = pin_bits (path_to s.path i) pin
 bits_driven s (OutputConnection i pin e) = written_bits s e
 bits_driven s BoxContents = output_bits s
 
-of_driven : (source : Source) (bits : List Bit) → map (λ (x : Drive). x.bit) (map (driven source) bits) ≡ bits
+of_driven : (source : DrivingSource) (bits : List Bit) → map (λ (x : Drive). x.bit) (map (driven source) bits) ≡ bits
 of_driven source [] = refl
 of_driven source (b ∷ bits) = ap (λ l. b ∷ l) (of_driven source bits)
 

@@ -4,26 +4,26 @@ use Rattle.std.specs.Prelude.{slice_get}
 use Rattle.std.specs.Option.{option_map_or}
 use Rattle.std.specs.List.{flat_map, slice_index_or}
 use Rattle.bb_ast.specs.Syntax.{PlainModule}
-use Rattle.bb_names.specs.Spots.{Pin, module_named}
+use Rattle.bb_names.specs.Sites.{Pin, module_named}
 use Rattle.bb_expr.specs.Laws.{ValuesHaveWidth, MadeHasValue}
-use Rattle.bb_blast.specs.declared.outline.Part.{Part}
-use Rattle.bb_blast.specs.declared.outline.Outline.{Outline}
+use Rattle.bb_blast.specs.declared.template.Part.{Part}
+use Rattle.bb_blast.specs.declared.template.ModuleTemplate.{ModuleTemplate}
 use Rattle.bb_blast.specs.declared.placed.Placed.{Placed}
 use Rattle.bb_design.specs.Hierarchy.{Design, Instance, Scope, root, path_to, instances_of, scopes, is_box}
 use Rattle.bb_design.specs.NetBits.{Bit, scope_bits, net_order, bits_named, pin_bits, output_bits, top_inputs, written_bits}
 use Rattle.bb_design.specs.Constructs.{Construct, Assignment, GateInstance, Register, SupplyNet, InputConnection, OutputConnection, BoxContents, body_constructs, constructs_at}
 use Rattle.bb_design.specs.Drivers.{driven_bits}
 use Rattle.bb_design.specs.Inside.Allowed.{IsBounded}
-use Rattle.bb_blast.specs.Inside.Outlines.{IsPinIn, IsPartOf, IsOutline}
+use Rattle.bb_blast.specs.Inside.ModuleTemplates.{IsPinIn, IsPartOf, IsModuleTemplate}
 use Rattle.bb_bits.specs.Inside.Places.{AreAt, numbers_from}
-use Rattle.bb_blast.specs.Inside.Placements.{IsScopeAt, IsChildAt, IsPlacedAt, ArePlaced, AreOutlined}
-use Rattle.bb_elab.specs.Inside.DrivenNumbers.{first_inside, part_numbers, outline_numbers, scope_numbers, top_numbers, driven_numbers, IsInside, MayCountInputs, MayBeCounted}
-use Rattle.bb_lists.proofs.Places.{got, some_at, some_same}
-use Rattle.bb_lists.proofs.AtPlaces.{at_append, at_below, zip_flat}
-use Rattle.bb_lists.proofs.Zips.{zip_all, zip_other, AreNumbered, zip_numbered}
+use Rattle.bb_blast.specs.Inside.Placements.{IsScopeAt, IsChildAt, IsPlacedAt, ArePlaced, AreTemplated}
+use Rattle.bb_elab.specs.Inside.DrivenNumbers.{first_inside, part_numbers, template_numbers, scope_numbers, top_numbers, driven_numbers, IsInside, MayCountInputs, MayBeCounted}
+use Rattle.bb_lemmas.proofs.Places.{got, some_at, some_same}
+use Rattle.bb_lemmas.proofs.AtPlaces.{at_append, at_below, zip_flat}
+use Rattle.bb_lemmas.proofs.Zips.{zip_all, zip_other, AreNumbered, zip_numbered}
 use Rattle.bb_elab.proofs.DrivenBits.{bits_driven, drivers_in, driven_are}
-use Rattle.bb_blast.specs.declared.outline.Part.TheVariants as part
-use Rattle.bb_lists.proofs.FlatPlaces.{at_flat}
+use Rattle.bb_blast.specs.declared.template.Part.TheVariants as part
+use Rattle.bb_lemmas.proofs.FlatPlaces.{at_flat}
 use Rattle.bb_design.specs.Laws.DesignLaws.{DesignLaws}
 
 module _ (d : Design) (all : List Placed) (placed : ArePlaced d all) (k : ℕ) (s : Scope) (p : Placed) (here : IsScopeAt d k s) (is : IsPlacedAt d k s p) where
@@ -123,54 +123,54 @@ module _ (d : Design) (all : List Placed) (placed : ArePlaced d all) (k : ℕ) (
   part_inside (part.Input instance pin value) BoxContents at = absurd at
   part_inside (part.Output instance pin left) c at = tt
 
-  module _ (outlines : List Outline) (o : Outline) (found : slice_get outlines p.module ≡ Some o) (outlined : IsOutline d.text s.source o) where
-    pub scope_at : AreAt (net_order d) (scope_numbers all outlines p) (flat_map (bits_driven s) (constructs_at d.text s))
+  module _ (templates : List ModuleTemplate) (o : ModuleTemplate) (found : slice_get templates p.module ≡ Some o) (templated : IsModuleTemplate d.text s.source o) where
+    pub scope_at : AreAt (net_order d) (scope_numbers all templates p) (flat_map (bits_driven s) (constructs_at d.text s))
     scope_at =
-        subst (λ z. AreAt (net_order d) (option_map_or (outline_numbers all p) z []) (flat_map (bits_driven s) (constructs_at d.text s))) (sym found)
+        subst (λ z. AreAt (net_order d) (option_map_or (template_numbers all p) z []) (flat_map (bits_driven s) (constructs_at d.text s))) (sym found)
         (subst (λ b. AreAt (net_order d) (if b then numbers_from p.first o.outputs.items else flat_map (part_numbers all p) o.parts.items) (flat_map (bits_driven s) (constructs_at d.text s))) (sym is.boxed) (by (is_box s)))
       where
         constructs : List Construct
         constructs = flat_map (λ item. body_constructs d.text item.body) s.source.items
 
         by : (b : Bool) → AreAt (net_order d) (if b then numbers_from p.first o.outputs.items else flat_map (part_numbers all p) o.parts.items) (flat_map (bits_driven s) (if b then BoxContents ∷ [] else constructs))
-        by true = subst (AreAt (net_order d) (numbers_from p.first o.outputs.items)) (sym (append-nil (output_bits s))) (at_scope (output_bits s) o.outputs.items (outlined.outputs s.path))
-        by false = zip_flat (net_order d) (IsPartOf d.text s.source) (part_numbers all p) (bits_driven s) part_at o.parts.items constructs outlined.parts
+        by true = subst (AreAt (net_order d) (numbers_from p.first o.outputs.items)) (sym (append-nil (output_bits s))) (at_scope (output_bits s) o.outputs.items (templated.outputs s.path))
+        by false = zip_flat (net_order d) (IsPartOf d.text s.source) (part_numbers all p) (bits_driven s) part_at o.parts.items constructs templated.parts
 
-    pub may_be_counted : MayBeCounted all outlines (length (net_order d)) p
+    pub may_be_counted : MayBeCounted all templates (length (net_order d)) p
     may_be_counted = record {
-      outlined = (got outlines p.module o o found).0;
-      inside = λ q at boxed. subst (λ (z : Outline). All (IsInside all p) z.parts.items) (some_same o q (sym found ∙ at))
-          (zip_all (IsPartOf d.text s.source) (IsInside all p) part_inside o.parts.items (flat_map (λ item. body_constructs d.text item.body) s.source.items) outlined.parts);
-      numbers = at_below (net_order d) (scope_numbers all outlines p) (flat_map (bits_driven s) (constructs_at d.text s)) scope_at;
+      templated = (got templates p.module o o found).0;
+      inside = λ q at boxed. subst (λ (z : ModuleTemplate). All (IsInside all p) z.parts.items) (some_same o q (sym found ∙ at))
+          (zip_all (IsPartOf d.text s.source) (IsInside all p) part_inside o.parts.items (flat_map (λ item. body_constructs d.text item.body) s.source.items) templated.parts);
+      numbers = at_below (net_order d) (scope_numbers all templates p) (flat_map (bits_driven s) (constructs_at d.text s)) scope_at;
     }
 
 -- the whole design
-module _ (of_designs : DesignLaws) (d : Design) (all : List Placed) (outlines : List Outline) (placed : ArePlaced d all) (outlined : AreOutlined d all outlines) where
-  top_at : (ps : List Placed) → ((p : Placed) → slice_get ps 0 ≡ Some p → slice_get all 0 ≡ Some p) → 0 < length ps → AreAt (net_order d) (top_numbers ps outlines) (top_inputs d)
+module _ (of_designs : DesignLaws) (d : Design) (all : List Placed) (templates : List ModuleTemplate) (placed : ArePlaced d all) (templated : AreTemplated d all templates) where
+  top_at : (ps : List Placed) → ((p : Placed) → slice_get ps 0 ≡ Some p → slice_get all 0 ≡ Some p) → 0 < length ps → AreAt (net_order d) (top_numbers ps templates) (top_inputs d)
   top_at [] same some = absurd (omega (arith, some))
   top_at (p ∷ ps) same some =
       let at = same p refl in
-      let o = outlined 0 (root d) p refl at in
+      let o = templated 0 (root d) p refl at in
       let is = placed.each 0 (root d) p refl at in
-      subst (λ z. AreAt (net_order d) (option_map_or (λ (q : Outline). numbers_from p.first q.inputs.items) z []) (top_inputs d)) (sym o.1)
+      subst (λ z. AreAt (net_order d) (option_map_or (λ (q : ModuleTemplate). numbers_from p.first q.inputs.items) z []) (top_inputs d)) (sym o.1)
       (at_flat scope_bits (scopes d) 0 (root d) refl p.first is.first o.0.inputs.items (top_inputs d) (o.2.inputs []))
 
-  pub inputs_there : (p : Placed) → slice_get all 0 ≡ Some p → MayCountInputs outlines (length (net_order d)) p
+  pub inputs_there : (p : Placed) → slice_get all 0 ≡ Some p → MayCountInputs templates (length (net_order d)) p
   inputs_there p at =
-      let o = outlined 0 (root d) p refl at in
+      let o = templated 0 (root d) p refl at in
       let is = placed.each 0 (root d) p refl at in
       record {
-        outlined = (got outlines p.module o.0 o.0 o.1).0;
-        numbers = subst (λ z. All (λ k. k < length (net_order d)) (option_map_or (λ (q : Outline). numbers_from p.first q.inputs.items) z [])) (sym o.1)
+        templated = (got templates p.module o.0 o.0 o.1).0;
+        numbers = subst (λ z. All (λ k. k < length (net_order d)) (option_map_or (λ (q : ModuleTemplate). numbers_from p.first q.inputs.items) z [])) (sym o.1)
             (at_below (net_order d) (numbers_from p.first o.0.inputs.items) (top_inputs d) (at_flat scope_bits (scopes d) 0 (root d) refl p.first is.first o.0.inputs.items (top_inputs d) (o.2.inputs [])));
       }
 
-  pub scopes_there : All (MayBeCounted all outlines (length (net_order d))) all
-  scopes_there = zip_all (AreNumbered all (scopes d)) (MayBeCounted all outlines (length (net_order d)))
-      (λ p s z. let o = outlined z.0 s p z.2 z.1 in may_be_counted d all placed z.0 s p z.2 (placed.each z.0 s p z.2 z.1) outlines o.0 o.1 o.2) all (scopes d) (zip_numbered all (scopes d) placed.count)
+  pub scopes_there : All (MayBeCounted all templates (length (net_order d))) all
+  scopes_there = zip_all (AreNumbered all (scopes d)) (MayBeCounted all templates (length (net_order d)))
+      (λ p s z. let o = templated z.0 s p z.2 z.1 in may_be_counted d all placed z.0 s p z.2 (placed.each z.0 s p z.2 z.1) templates o.0 o.1 o.2) all (scopes d) (zip_numbered all (scopes d) placed.count)
 
-  pub driven_at : ValuesHaveWidth → MadeHasValue → IsBounded d → AreAt (net_order d) (driven_numbers all outlines) (driven_bits d)
-  driven_at values cells bounded = subst (AreAt (net_order d) (driven_numbers all outlines)) (sym (driven_are of_designs values cells d bounded))
-      (at_append (net_order d) (top_numbers all outlines) (flat_map (scope_numbers all outlines) all) (top_inputs d) (flat_map (drivers_in d) (scopes d)) (top_at all (λ p at. at) (omega (arith, placed.count)))
-      (zip_flat (net_order d) (AreNumbered all (scopes d)) (scope_numbers all outlines) (drivers_in d)
-      (λ p s z. let o = outlined z.0 s p z.2 z.1 in scope_at d all placed z.0 s p z.2 (placed.each z.0 s p z.2 z.1) outlines o.0 o.1 o.2) all (scopes d) (zip_numbered all (scopes d) placed.count)))
+  pub driven_at : ValuesHaveWidth → MadeHasValue → IsBounded d → AreAt (net_order d) (driven_numbers all templates) (driven_bits d)
+  driven_at values cells bounded = subst (AreAt (net_order d) (driven_numbers all templates)) (sym (driven_are of_designs values cells d bounded))
+      (at_append (net_order d) (top_numbers all templates) (flat_map (scope_numbers all templates) all) (top_inputs d) (flat_map (drivers_in d) (scopes d)) (top_at all (λ p at. at) (omega (arith, placed.count)))
+      (zip_flat (net_order d) (AreNumbered all (scopes d)) (scope_numbers all templates) (drivers_in d)
+      (λ p s z. let o = templated z.0 s p z.2 z.1 in scope_at d all placed z.0 s p z.2 (placed.each z.0 s p z.2 z.1) templates o.0 o.1 o.2) all (scopes d) (zip_numbered all (scopes d) placed.count)))

@@ -1,5 +1,5 @@
--- The flat netlist of a design whose cells are in order and whose texts are found: it stands for the design, and where no text
--- stands twice, the design is sound.
+-- The flat netlist of a design whose cells are in order and whose texts are found: it implements the design, and where no text
+-- is twice, the design is sound.
 use Rattle.std.proofs.Common.{◌≡◌, ℕ, ◌<◌, List, map, length, Contains, ap, ◌∙◌, subst, arith}
 use Rattle.std.specs.Prelude.{All, slice_index}
 use Rattle.std.specs.List.{AllZip, enumerate_from}
@@ -10,27 +10,27 @@ use Rattle.bb_net.specs.Netlists.{Netlist}
 use Rattle.bb_net.specs.Pairs.{BoxTexts as BoxTextsOf}
 use Rattle.bb_design.specs.declared.fault.ElabFault.{ElabFault}
 use Rattle.bb_net.specs.declared.flat.Reg.{Reg}
-use Rattle.bb_elab.specs.declared.growing.Grown.{Grown}
+use Rattle.bb_elab.specs.declared.elaboration.Elaborated.{Elaborated}
 use Rattle.bb_net.specs.Flats.{FlatNet, IsFlat}
 use Rattle.bb_design.specs.Hierarchy.{Design, boxes}
-use Rattle.bb_cells.specs.Laws.ListLaws.{StandingNetsAreFlat, StandingNetsArePrintable}
+use Rattle.bb_implements.specs.Laws.ListLaws.{ImplementingNetsAreFlat, ImplementingNetsArePrintable}
 use Rattle.bb_design.specs.NetBits.{net_order}
 use Rattle.bb_blast.specs.Inside.Placements.{IsScopeAt, IsStoredAt}
-use Rattle.bb_cells.specs.Places.{pins_of}
-use Rattle.bb_design.specs.Refusals.{TwoDrivers, NoDriver, Cycle, BoxTexts, RegisterTexts, PortTexts, IsAbsent, IsSoundDesign, IsRefusalOf, input_texts, output_texts}
-use Rattle.bb_design.specs.Laws.CauseLaws.{TellsOf, AreClear}
+use Rattle.bb_implements.specs.Places.{pins_of}
+use Rattle.bb_design.specs.Refusals.{TwoDrivers, NoDriver, Cycle, BoxTexts, RegisterTexts, PortTexts, IsAbsentInDesign, IsSoundDesign, IsRefusalOf, input_texts, output_texts}
+use Rattle.bb_design.specs.Laws.CauseLaws.{ReportsCause, AreClear}
 use Rattle.bb_design.specs.Registers.{RegisterBit, registers}
-use Rattle.bb_elab.specs.Inside.Stages.{HasGrown, AreArranged}
-use Rattle.bb_cells.specs.Stands.{IsRegister, StandsFor, box_number, box_texts}
-use Rattle.bb_lists.proofs.Members.{all_from}
-use Rattle.bb_lists.proofs.Places.{there_at}
-use Rattle.bb_lists.proofs.Numbered.{length-enumerated}
-use Rattle.bb_lists.proofs.Zips.{zip_length}
+use Rattle.bb_elab.specs.Inside.Stages.{IsElaborated, AreLevelized}
+use Rattle.bb_implements.specs.Implements.{IsRegister, Implements, box_number, box_texts}
+use Rattle.bb_lemmas.proofs.Members.{all_from}
+use Rattle.bb_lemmas.proofs.Places.{there_at}
+use Rattle.bb_lemmas.proofs.Numbered.{length-enumerated}
+use Rattle.bb_lemmas.proofs.Zips.{zip_length}
 use Rattle.bb_elab.proofs.FiniteDesigns.{finite_clear}
 use Rattle.bb_elab.proofs.TimedRegisters.{zip_back}
 use Rattle.bb_design.specs.Laws.DesignLaws.{DesignLaws}
 
-module _ (of_designs : DesignLaws) (text : List PlainModule) (d : Design) (g : Grown) (has : HasGrown text d g) (list : LooseList) (net : Netlist) (numbers : List ℕ) (are : AreArranged d list net numbers) where
+module _ (of_designs : DesignLaws) (text : List PlainModule) (d : Design) (g : Elaborated) (has : IsElaborated text d g) (list : LooseList) (net : Netlist) (numbers : List ℕ) (are : AreLevelized d list net numbers) where
   -- each number is that of a box
   number_there : (b : ℕ) → Contains numbers b → b < length (boxes d)
   number_there b there =
@@ -48,25 +48,25 @@ module _ (of_designs : DesignLaws) (text : List PlainModule) (d : Design) (g : G
 
   register_there : (r : RegisterBit) → Contains (registers d) r → Contains (net_order d) r.bit
   register_there r there =
-      let x = zip_back (IsStoredAt d) g.stored.items (registers d) r has.grown.registers there in
+      let x = zip_back (IsStoredAt d) g.stored.items (registers d) r has.elaborated.registers there in
       there_at (net_order d) x.0.bit r.bit x.2.bit
 
   -- no cause before the texts
   clear_of_loops : AreClear d 6
-  clear_of_loops = (of_designs.causes d).next Cycle ((of_designs.causes d).next NoDriver ((of_designs.causes d).next TwoDrivers (finite_clear of_designs d has.finite) has.grown.once) are.driven) are.acyclic
+  clear_of_loops = (of_designs.causes d).next Cycle ((of_designs.causes d).next NoDriver ((of_designs.causes d).next TwoDrivers (finite_clear of_designs d has.finite) has.elaborated.once) are.driven) are.acyclic
 
-  pub boxes_refused : (fault : ElabFault) → TellsOf d BoxTexts fault → IsRefusalOf d fault
-  boxes_refused fault tells = (of_designs.causes d).refused BoxTexts fault tells clear_of_loops
+  pub boxes_refused : (fault : ElabFault) → ReportsCause d BoxTexts fault → IsRefusalOf d fault
+  boxes_refused fault reports = (of_designs.causes d).refused BoxTexts fault reports clear_of_loops
 
-  module _ (boxes_apart : IsAbsent d BoxTexts) where
-    pub registers_refused : (fault : ElabFault) → TellsOf d RegisterTexts fault → IsRefusalOf d fault
-    registers_refused fault tells = (of_designs.causes d).refused RegisterTexts fault tells ((of_designs.causes d).next BoxTexts clear_of_loops boxes_apart)
+  module _ (boxes_apart : IsAbsentInDesign d BoxTexts) where
+    pub registers_refused : (fault : ElabFault) → ReportsCause d RegisterTexts fault → IsRefusalOf d fault
+    registers_refused fault reports = (of_designs.causes d).refused RegisterTexts fault reports ((of_designs.causes d).next BoxTexts clear_of_loops boxes_apart)
 
-    module _ (registers_apart : IsAbsent d RegisterTexts) where
-      pub ports_refused : (fault : ElabFault) → TellsOf d PortTexts fault → IsRefusalOf d fault
-      ports_refused fault tells = (of_designs.causes d).refused PortTexts fault tells ((of_designs.causes d).next RegisterTexts ((of_designs.causes d).next BoxTexts clear_of_loops boxes_apart) registers_apart)
+    module _ (registers_apart : IsAbsentInDesign d RegisterTexts) where
+      pub ports_refused : (fault : ElabFault) → ReportsCause d PortTexts fault → IsRefusalOf d fault
+      ports_refused fault reports = (of_designs.causes d).refused PortTexts fault reports ((of_designs.causes d).next RegisterTexts ((of_designs.causes d).next BoxTexts clear_of_loops boxes_apart) registers_apart)
 
-      module _ (ports_apart : IsAbsent d PortTexts) (ins : List (List ℕ)) (regs : List Reg) (outs : List (List ℕ)) (named : List BoxTextsOf)
+      module _ (ports_apart : IsAbsentInDesign d PortTexts) (ins : List (List ℕ)) (regs : List Reg) (outs : List (List ℕ)) (named : List BoxTextsOf)
           (ins_are : ins ≡ input_texts d) (regs_are : AllZip (IsRegister d) (registers d) regs) (outs_are : outs ≡ output_texts d) (named_are : named ≡ map (λ b. box_texts d (box_number d b)) numbers) where
         pub is_sound : IsSoundDesign d
         is_sound = (of_designs.causes d).sound ((of_designs.causes d).next PortTexts ((of_designs.causes d).next RegisterTexts ((of_designs.causes d).next BoxTexts clear_of_loops boxes_apart) registers_apart) ports_apart)
@@ -74,8 +74,8 @@ module _ (of_designs : DesignLaws) (text : List PlainModule) (d : Design) (g : G
         abbrev pub flat : FlatNet
         flat = record { net = net; ins = ins; regs = regs; outs = outs; boxes = named }
 
-        pub stands : StandsFor d flat
-        stands = record {
+        pub occurs : Implements d flat
+        occurs = record {
           netlist = are.netlist;
           lowering = are.lowering;
           lowered = are.lowered;
@@ -89,5 +89,5 @@ module _ (of_designs : DesignLaws) (text : List PlainModule) (d : Design) (g : G
           boxes = named_are;
         }
 
-        pub is_flat : StandingNetsAreFlat → StandingNetsArePrintable → IsFlat flat
-        is_flat law printable = law d flat (record { bounded = has.finite.bounded; sound = is_sound }) stands (printable d flat has.finite.bounded stands)
+        pub is_flat : ImplementingNetsAreFlat → ImplementingNetsArePrintable → IsFlat flat
+        is_flat law printable = law d flat (record { bounded = has.finite.bounded; sound = is_sound }) occurs (printable d flat has.finite.bounded occurs)

@@ -1,4 +1,4 @@
-pub mod ArrangedLists
+pub mod LevelizedLists
 pub mod BitNames
 pub mod BitPlaces
 pub mod ClockWalks

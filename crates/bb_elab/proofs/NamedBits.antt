@@ -8,27 +8,27 @@ use Rattle.std.proofs.lemmas.List.Elements.{filter-append}
 use Rattle.std.proofs.lemmas.Option.{slice_get-get_or, slice_get_within, get_or_from_slice_get}
 use Rattle.bb_ast.specs.Syntax.{PlainModule}
 use Rattle.bb_net.specs.Pairs.{BoxTexts}
-use Rattle.bb_elab.specs.declared.growing.Grown.{Grown}
-use Rattle.bb_blast.specs.declared.outline.Outline.{Outline}
+use Rattle.bb_elab.specs.declared.elaboration.Elaborated.{Elaborated}
+use Rattle.bb_blast.specs.declared.template.ModuleTemplate.{ModuleTemplate}
 use Rattle.bb_blast.specs.declared.placed.Placed.{Placed}
 use Rattle.bb_bits.specs.Closures.{IsFirstRepeat}
 use Rattle.bb_design.specs.Hierarchy.{Design, Scope, root, scopes, boxes, is_box}
 use Rattle.bb_bits.specs.Inside.Places.{AreAt}
 use Rattle.bb_design.specs.NetBits.{Bit, net_order}
-use Rattle.bb_blast.specs.Inside.Placements.{IsScopeAt, ArePlaced, AreOutlined}
-use Rattle.bb_elab.specs.Inside.Stages.{HasGrown}
-use Rattle.bb_cells.specs.Stands.{box_number, box_texts}
-use Rattle.bb_lists.proofs.Members.{all_from}
-use Rattle.bb_lists.proofs.Places.{head_same, some_at}
+use Rattle.bb_blast.specs.Inside.Placements.{IsScopeAt, ArePlaced, AreTemplated}
+use Rattle.bb_elab.specs.Inside.Stages.{IsElaborated}
+use Rattle.bb_implements.specs.Implements.{box_number, box_texts}
+use Rattle.bb_lemmas.proofs.Members.{all_from}
+use Rattle.bb_lemmas.proofs.Places.{head_same, some_at}
 use Rattle.bb_elab.proofs.ReadBits.{zip_there}
-use Rattle.bb_lists.proofs.Turns.{zip_both}
+use Rattle.bb_lemmas.proofs.Turns.{zip_both}
 
 pub taken-push : {A : Type 0} (xs : List A) (i : ℕ) (x : A) → slice_get xs i ≡ Some x → take (i + 1) xs ≡ take i xs ++ x ∷ []
 taken-push xs i x at =
     let next : i + 1 ≡ suc i = omega arith in
     ap (λ n. take n xs) next ∙ take-suc xs i x (slice_get_within xs i x at) ∙ ap (λ y. take i xs ++ y ∷ []) (get_or_from_slice_get xs i x x at)
 
--- what stands at the place of a number
+-- what is at the place of a number
 pub at_each : {A : Type 0} (all : List A) (ks : List ℕ) (xs : List A) → AreAt all ks xs → (i k : ℕ) → slice_get ks i ≡ Some k → (x : A) × (slice_get xs i ≡ Some x) × (slice_get all k ≡ Some x)
 at_each all [] xs at i k is = absurd (grind (arith, is))
 at_each all (l ∷ ks) [] at i k is = cc
@@ -83,12 +83,12 @@ zip_at R (u ∷ xs) [] all i x is = absurd all
 zip_at R (u ∷ xs) (y ∷ ys) all zero x is = (y, refl, subst (λ z. R z y) (grind (arith, is)) all.0)
 zip_at R (u ∷ xs) (y ∷ ys) all (suc i) x is = zip_at R xs ys all.1 i x is
 
--- the text of a bit, where the scopes and the outlines of a design are seen
-pub text_seen : (text : List PlainModule) (g : Grown) (placed : List Placed) (outlines : List Outline) → placed ≡ g.placed.items → outlines ≡ g.outlines.items → (of : Design → Bit → List ℕ) (n : List ℕ) (k : ℕ)
-    → ((d : Design) → d.text ≡ text → ArePlaced d placed → AreOutlined d placed outlines → (b : Bit) → slice_get (net_order d) k ≡ Some b → n ≡ of d b)
-    → (d : Design) → HasGrown text d g → (b : Bit) → slice_get (net_order d) k ≡ Some b → n ≡ of d b
-text_seen text g placed outlines scopes made of n k named d has = named d has.of_text (subst (ArePlaced d) (sym scopes) has.grown.scopes)
-    (subst (λ p. AreOutlined d p outlines) (sym scopes) (subst (AreOutlined d g.placed.items) (sym made) has.grown.outlined))
+-- the text of a bit, where the scopes and the templates of a design are seen
+pub text_seen : (text : List PlainModule) (g : Elaborated) (placed : List Placed) (templates : List ModuleTemplate) → placed ≡ g.placed.items → templates ≡ g.templates.items → (of : Design → Bit → List ℕ) (n : List ℕ) (k : ℕ)
+    → ((d : Design) → d.text ≡ text → ArePlaced d placed → AreTemplated d placed templates → (b : Bit) → slice_get (net_order d) k ≡ Some b → n ≡ of d b)
+    → (d : Design) → IsElaborated text d g → (b : Bit) → slice_get (net_order d) k ≡ Some b → n ≡ of d b
+text_seen text g placed templates scopes made of n k named d has = named d has.of_text (subst (ArePlaced d) (sym scopes) has.elaborated.scopes)
+    (subst (λ p. AreTemplated d p templates) (sym scopes) (subst (AreTemplated d g.placed.items) (sym made) has.elaborated.templated))
 
 -- one more text of things that go together with others
 pub zipped_more : {A B C : Type 0} (R : A → B → Type 0) (text : B → C) (ks : List A) (xs : List B) → AllZip R ks xs → (i : ℕ) (k : A) → slice_get ks i ≡ Some k → (n : C) → ((x : B) → R k x → n ≡ text x)
@@ -98,8 +98,8 @@ zipped_more R text ks xs all i k is n named old now before more =
     more ∙ ap₂ (λ l m. l ++ m ∷ []) before (named x.0 x.2) ∙ sym (map-append text (take i xs) (x.0 ∷ [])) ∙ ap (map text) (sym (taken-push xs i x.0 x.1))
 
 -- texts in which one is found again, or none
-pub told_again : (o : Option (List ℕ)) (n : List ℕ) → o ≡ Some n → (seen texts : List (List ℕ)) → seen ≡ texts → IfSome o (IsFirstRepeat seen) → IsFirstRepeat texts n
-told_again o n some seen texts same is = subst (λ l. IsFirstRepeat l n) same (subst (λ p. IfSome p (IsFirstRepeat seen)) some is)
+pub reported_again : (o : Option (List ℕ)) (n : List ℕ) → o ≡ Some n → (seen texts : List (List ℕ)) → seen ≡ texts → IfSome o (IsFirstRepeat seen) → IsFirstRepeat texts n
+reported_again o n some seen texts same is = subst (λ l. IsFirstRepeat l n) same (subst (λ p. IfSome p (IsFirstRepeat seen)) some is)
 
 pub never_again : (o : Option (List ℕ)) → o ≡ None → (seen texts : List (List ℕ)) → seen ≡ texts → IfNone o (AllPairs ◌≢◌ seen) → AllPairs ◌≢◌ texts
 never_again o none seen texts same is = subst (AllPairs ◌≢◌) same (subst (λ p. IfNone p (AllPairs ◌≢◌ seen)) none is)

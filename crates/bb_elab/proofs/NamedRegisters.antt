@@ -6,7 +6,7 @@ use Rattle.std.proofs.lemmas.List.{length-map, take_all}
 use Rattle.std.proofs.lemmas.Option.{same_Some}
 use Rattle.bb_net.specs.Loose.{LooseList}
 use Rattle.bb_net.specs.Netlists.{Netlist}
-use Rattle.bb_net.specs.Orders.{IsSource}
+use Rattle.bb_net.specs.Orders.{IsCopySource}
 use Rattle.bb_net.specs.declared.flat.Reg.{Reg}
 use Rattle.bb_blast.specs.declared.stored.Stored.{Stored}
 use Rattle.bb_design.specs.Hierarchy.{Design}
@@ -15,26 +15,26 @@ use Rattle.bb_bits.specs.Inside.Places.{AreAt}
 use Rattle.bb_blast.specs.Inside.Placements.{IsStoredAt, AreStored}
 use Rattle.bb_design.specs.Refusals.{register_texts}
 use Rattle.bb_design.specs.Registers.{RegisterBit, registers, cut_bits}
-use Rattle.bb_elab.specs.Inside.Stages.{AreArranged}
-use Rattle.bb_cells.specs.Stands.{IsRegister}
+use Rattle.bb_elab.specs.Inside.Stages.{AreLevelized}
+use Rattle.bb_implements.specs.Implements.{IsRegister}
 use Rattle.bb_design.specs.Texts.{bit_text}
-use Rattle.bb_lists.proofs.Places.{got-map}
-use Rattle.bb_lists.proofs.Members.{all_from}
+use Rattle.bb_lemmas.proofs.Places.{got-map}
+use Rattle.bb_lemmas.proofs.Members.{all_from}
 use Rattle.bb_elab.proofs.NamedBits.{taken-push, zip_at}
-use Rattle.bb_lists.proofs.AtPlaces.{at_below}
-use Rattle.bb_lists.proofs.Maps.{map-twice}
+use Rattle.bb_lemmas.proofs.AtPlaces.{at_below}
+use Rattle.bb_lemmas.proofs.Maps.{map-twice}
 use Rattle.bb_elab.proofs.ReadBits.{zip_there}
-use Rattle.bb_lists.proofs.Turns.{zip_both}
-use Rattle.bb_cells.specs.Laws.CellLaws.{CellLaws}
-use Rattle.bb_cells.specs.Laws.ListLaws.{ListsAreLoose}
+use Rattle.bb_lemmas.proofs.Turns.{zip_both}
+use Rattle.bb_implements.specs.Laws.CellLaws.{CellLaws}
+use Rattle.bb_implements.specs.Laws.ListLaws.{ListsAreLoose}
 use Rattle.bb_design.specs.Inside.Allowed.{IsBounded}
 
-module _ (of_cells : CellLaws) (d : Design) (list : LooseList) (net : Netlist) (numbers : List ℕ) (are : AreArranged d list net numbers) where
-  -- copies end behind it
-  pub clock_source : (first : ℕ) → first ≡ 2 + length (cut_bits d) → (k : ℕ) (b : Bit) → slice_get (net_order d) k ≡ Some b → (n source : ℕ) × IsSource n list (first + k) source
+module _ (of_cells : CellLaws) (d : Design) (list : LooseList) (net : Netlist) (numbers : List ℕ) (are : AreLevelized d list net numbers) where
+  -- copies end after it
+  pub clock_source : (first : ℕ) → first ≡ 2 + length (cut_bits d) → (k : ℕ) (b : Bit) → slice_get (net_order d) k ≡ Some b → (n source : ℕ) × IsCopySource n list (first + k) source
   clock_source first is k b at = are.ordered.sources (first + k) (omega (arith, is, (of_cells.net_places d are.lowering list are.listed k b at).1))
 
-  -- and numbers of 32 bits tell it
+  -- and numbers of 32 bits say it
   module _ (law : ListsAreLoose) (bounded : IsBounded d) where
     pub cells_few : length list.cells < 2 ^ 32
     cells_few = (law d are.lowering list bounded are.lowered are.listed).cells_fit

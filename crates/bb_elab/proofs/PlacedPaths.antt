@@ -8,7 +8,7 @@ use Rattle.bb_design.specs.Hierarchy.{Path, Design, Scope, path_to, scopes}
 use Rattle.bb_elab.specs.Inside.PlacedPaths.{IsPathAt, Top, Below, AreRooted}
 use Rattle.bb_blast.specs.Inside.Placements.{IsScopeAt, IsInstanceAt, ArePlaced}
 use Rattle.bb_design.specs.Texts.{path_prefix, path_text}
-use Rattle.bb_lists.proofs.Places.{some_at}
+use Rattle.bb_lemmas.proofs.Places.{some_at}
 use Rattle.bb_design.specs.Laws.DesignLaws.{DesignLaws}
 
 module _ (of_designs : DesignLaws) where

@@ -12,17 +12,17 @@ use Rattle.bb_design.specs.Hierarchy.{Design, Scope}
 use Rattle.bb_design.specs.Inside.Allowed.{IsBounded}
 use Rattle.bb_design.specs.NetBits.{Bit, net_order, top_outputs, written_bits}
 use Rattle.bb_blast.specs.Inside.Placements.{IsStoredAt, AreStored}
-use Rattle.bb_cells.specs.Places.{NetBit, Lowering, IsLowering, IsListOf}
-use Rattle.bb_design.specs.Reading.{IsRead, bit_itself, operand_terms, cells_at, read_at, read_beside, read_directly}
-use Rattle.bb_cells.specs.Inside.ReadPlaces.{IsReadPlace}
+use Rattle.bb_implements.specs.Places.{NetBit, Lowering, IsLowering, IsListOf}
+use Rattle.bb_design.specs.Reading.{IsReadBit, bit_itself, operand_terms, cells_at, read_at, read_beside, read_directly}
+use Rattle.bb_implements.specs.Inside.ReadPlaces.{IsReadPlace}
 use Rattle.bb_elab.specs.Inside.StoredNumbers.{AreTimed}
 use Rattle.bb_design.specs.Refusals.{AreDrivenOnce}
 use Rattle.bb_design.specs.Registers.{RegisterBit, registers, cut_bits, data_terms}
-use Rattle.bb_lists.proofs.Places.{got}
-use Rattle.bb_lists.proofs.Members.{from_map, contains-map, into_flat, contains_here, contains_there, contains_cases, none_in_nil}
-use Rattle.bb_lists.proofs.Orders.{less_or_past}
+use Rattle.bb_lemmas.proofs.Places.{got}
+use Rattle.bb_lemmas.proofs.Members.{from_map, contains-map, into_flat, contains_here, contains_there, contains_cases, none_in_nil}
+use Rattle.bb_lemmas.proofs.Orders.{less_or_past}
 use Rattle.bb_design.specs.Laws.DesignLaws.{DesignLaws}
-use Rattle.bb_cells.specs.Laws.CellLaws.{CellLaws}
+use Rattle.bb_implements.specs.Laws.CellLaws.{CellLaws}
 
 pub zip_there : {A B : Type 0} (R : A → B → Type 0) (xs : List A) (ys : List B) (x : A) → AllZip R xs ys → Contains xs x → (y : B) × Contains ys y × R x y
 zip_there R [] ys x all has = absurd (none_in_nil x has)
@@ -43,7 +43,7 @@ part_at marks first count k lt = get_or-take count (drop first marks) k false lt
 
 module _ (of_designs : DesignLaws) (of_cells : CellLaws) where
   pub place_read : (d : Design) (lowering : Lowering) (l : LooseList) → IsBounded d → IsLowering d lowering → (list : IsListOf d lowering l) → (stored : List Stored) → AreStored d stored → (first : ℕ) → first ≡ 2 + length (cut_bits d)
-      → (k : ℕ) (b : Bit) → slice_get (net_order d) k ≡ Some b → IsReadPlace l (map (λ x. first + x.clock) stored) (first + k) → IsRead d b
+      → (k : ℕ) (b : Bit) → slice_get (net_order d) k ≡ Some b → IsReadPlace l (map (λ x. first + x.clock) stored) (first + k) → IsReadBit d b
   place_read d lowering l bounded lowered list stored are first is k b at read =
       let g = got (net_order d) k b b at in
       let number : first + k ≡ list.number (NetBit b) = ap (λ n. n + k) is ∙ sym ((of_cells.net_places d lowering l list k b at).0) in
@@ -75,7 +75,7 @@ read_within reads count k long on = by (less_or_past k count)
 
 module _ (of_cells : CellLaws) where
   pub read_place : (d : Design) (lowering : Lowering) (l : LooseList) → IsBounded d → AreDrivenOnce d → IsLowering d lowering → (list : IsListOf d lowering l) → (stored : List Stored) → (first : ℕ) → first ≡ 2 + length (cut_bits d) → AreTimed d (map (λ (x : Stored). x.clock) stored)
-      → (k : ℕ) (b : Bit) → slice_get (net_order d) k ≡ Some b → IsRead d b → IsReadPlace l (map (λ (x : Stored). first + x.clock) stored) (first + k)
+      → (k : ℕ) (b : Bit) → slice_get (net_order d) k ≡ Some b → IsReadBit d b → IsReadPlace l (map (λ (x : Stored). first + x.clock) stored) (first + k)
   read_place d lowering l bounded once lowered list stored first is timed k b at read =
       subst (IsReadPlace l (map (λ (x : Stored). first + x.clock) stored)) ((of_cells.net_places d lowering l list k b at).0 ∙ ap (λ n. n + k) (sym is)) (of_cells.read_bits d lowering l list lowered bounded once (map (λ (x : Stored). first + x.clock) stored) there b read)
     where

@@ -8,22 +8,22 @@ use Rattle.bb_names.specs.Inside.Checked.{AreFormedAndSmall}
 use Rattle.bb_net.specs.Loose.{LooseList, IsLoose}
 use Rattle.bb_blast.specs.declared.stored.Stored.{Stored}
 use Rattle.bb_design.specs.Hierarchy.{Design}
-use Rattle.bb_cells.specs.Laws.ListLaws.{ListsAreLoose}
+use Rattle.bb_implements.specs.Laws.ListLaws.{ListsAreLoose}
 use Rattle.bb_design.specs.Inside.Allowed.{IsBounded}
 use Rattle.bb_design.specs.NetBits.{Bit, net_order}
 use Rattle.bb_blast.specs.Inside.Placements.{IsStoredAt, AreStored}
 use Rattle.bb_elab.specs.Inside.DrivenNumbers.{AreReads}
-use Rattle.bb_cells.specs.Places.{Lowering, IsLowering, IsListOf}
-use Rattle.bb_design.specs.Reading.{IsRead}
+use Rattle.bb_implements.specs.Places.{Lowering, IsLowering, IsListOf}
+use Rattle.bb_design.specs.Reading.{IsReadBit}
 use Rattle.bb_elab.specs.Inside.StoredNumbers.{AreTimed}
 use Rattle.bb_design.specs.Refusals.{AreDrivenOnce}
 use Rattle.bb_design.specs.Registers.{registers, cut_bits}
 use Rattle.bb_elab.specs.Inside.Stages.{IsReadable}
-use Rattle.bb_lists.proofs.Members.{all_from}
+use Rattle.bb_lemmas.proofs.Members.{all_from}
 use Rattle.bb_elab.proofs.ReadBits.{zip_there}
 use Rattle.bb_elab.proofs.TimedRegisters.{are_timed}
 use Rattle.bb_design.specs.Laws.DesignLaws.{DesignLaws}
-use Rattle.bb_cells.specs.Laws.CellLaws.{CellLaws}
+use Rattle.bb_implements.specs.Laws.CellLaws.{CellLaws}
 use Rattle.bb_blast.specs.Laws.ModuleLaws.{ModuleLaws}
 
 module _ (of_cells : CellLaws) (text : List PlainModule) (l : LooseList) (stored : List Stored) (bits : ℕ) (x : (d : Design) × IsReadable text d l stored bits) (first : ℕ) (is : first ≡ 2 + l.inputs) where
@@ -57,9 +57,9 @@ module _ (of_designs : DesignLaws) (of_modules : ModuleLaws) where
   -- a bit is read where its place is marked
   pub reads_are : (text : List PlainModule) (l : LooseList) (stored : List Stored) (bits : ℕ) (first : ℕ) → first ≡ 2 + l.inputs → AreFormedAndSmall text → (reads : List Bool) → length reads ≡ bits
       → ((d : Design) (lowering : Lowering) → IsBounded d → IsLowering d lowering → IsListOf d lowering l → AreStored d stored → first ≡ 2 + length (cut_bits d)
-      → (k : ℕ) (b : Bit) → slice_get (net_order d) k ≡ Some b → get_or reads k false ≡ true → IsRead d b)
+      → (k : ℕ) (b : Bit) → slice_get (net_order d) k ≡ Some b → get_or reads k false ≡ true → IsReadBit d b)
       → ((d : Design) (lowering : Lowering) → IsBounded d → AreDrivenOnce d → IsLowering d lowering → IsListOf d lowering l → first ≡ 2 + length (cut_bits d) → AreTimed d (map (λ (x : Stored). x.clock) stored)
-      → (k : ℕ) (b : Bit) → slice_get (net_order d) k ≡ Some b → k < bits → IsRead d b → get_or reads k false ≡ true)
+      → (k : ℕ) (b : Bit) → slice_get (net_order d) k ≡ Some b → k < bits → IsReadBit d b → get_or reads k false ≡ true)
       → (d : Design) → IsReadable text d l stored bits → AreReads d reads
   reads_are text l stored bits first is read reads long only all d ok =
       let lowering = ok.listed.0 in

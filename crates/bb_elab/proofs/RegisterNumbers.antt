@@ -5,24 +5,24 @@ use Rattle.std.specs.Option.{option_map_or}
 use Rattle.std.specs.List.{AllZip, cons_option, enumerate_from, filter_map, find, flat_map}
 use Rattle.std.proofs.lemmas.Grind.{flat_map-append}
 use Rattle.bb_ast.specs.Syntax.{PlainAlways}
-use Rattle.bb_blast.specs.declared.outline.Part.{Part}
-use Rattle.bb_blast.specs.declared.outline.Outline.{Outline}
+use Rattle.bb_blast.specs.declared.template.Part.{Part}
+use Rattle.bb_blast.specs.declared.template.ModuleTemplate.{ModuleTemplate}
 use Rattle.bb_blast.specs.declared.placed.Placed.{Placed}
 use Rattle.bb_blast.specs.declared.stored.Stored.{Stored}
 use Rattle.bb_design.specs.Hierarchy.{Design, Scope, scopes, is_box}
 use Rattle.bb_design.specs.NetBits.{Bit, same_bit, net_order, written_bits, scope_bits}
 use Rattle.bb_design.specs.Constructs.{Construct, Assignment, GateInstance, Register, SupplyNet, InputConnection, OutputConnection, BoxContents, body_constructs, constructs_at}
 use Rattle.bb_bits.specs.Inside.Places.{numbers_from, AreAt}
-use Rattle.bb_blast.specs.Inside.Outlines.{AreBitsIn, IsPartOf, IsOutline}
-use Rattle.bb_blast.specs.Inside.Placements.{IsScopeAt, IsPlacedAt, ArePlaced, AreOutlined, IsStoredAt, AreStored}
+use Rattle.bb_blast.specs.Inside.ModuleTemplates.{AreBitsIn, IsPartOf, IsModuleTemplate}
+use Rattle.bb_blast.specs.Inside.Placements.{IsScopeAt, IsPlacedAt, ArePlaced, AreTemplated, IsStoredAt, AreStored}
 use Rattle.bb_design.specs.Registers.{RegisterBit, stored_at, stored}
 use Rattle.bb_elab.specs.Inside.StoredNumbers.{stored_from, part_stored, scope_stored, IsStorable, MayBeNoted, AreNotes}
-use Rattle.bb_lists.proofs.Places.{got, head_same}
+use Rattle.bb_lemmas.proofs.Places.{got, head_same}
 use Rattle.bb_bits.specs.Closures.{IsDistinct}
 use Rattle.bb_elab.proofs.Tallies.{test_same}
-use Rattle.bb_lists.proofs.Zips.{zip_all, zip_by, AreNumbered, zip_numbered, zip_flat_zip}
-use Rattle.bb_blast.specs.declared.outline.Part.TheVariants as part
-use Rattle.bb_lists.proofs.FlatPlaces.{at_flat}
+use Rattle.bb_lemmas.proofs.Zips.{zip_all, zip_by, AreNumbered, zip_numbered, zip_flat_zip}
+use Rattle.bb_blast.specs.declared.template.Part.TheVariants as part
+use Rattle.bb_lemmas.proofs.FlatPlaces.{at_flat}
 use Rattle.bb_design.specs.Laws.DesignLaws.{DesignLaws}
 
 flat_flat : {A B C : Type 0} (f : B → List C) (g : A → List B) (xs : List A) → flat_map f (flat_map g xs) ≡ flat_map (λ x. flat_map f (g x)) xs
@@ -101,9 +101,9 @@ module _ (d : Design) (k : ℕ) (s : Scope) (p : Placed) (here : IsScopeAt d k s
   part_zip (part.Output instance pin left) (OutputConnection i port e) at = tt
   part_zip (part.Output instance pin left) BoxContents at = absurd at
 
-  scope_zip : (outlines : List Outline) (o : Outline) → slice_get outlines p.module ≡ Some o → IsOutline d.text s.source o → AllZip (IsStoredAt d) (scope_stored outlines p) (flat_map (λ c. stored_at (s, c)) (constructs_at d.text s))
-  scope_zip outlines o found outlined =
-      subst (λ z. AllZip (IsStoredAt d) (option_map_or (λ (q : Outline). if p.boxed then [] else flat_map (part_stored p) q.parts.items) z []) (flat_map (λ c. stored_at (s, c)) (constructs_at d.text s))) (sym found)
+  scope_zip : (templates : List ModuleTemplate) (o : ModuleTemplate) → slice_get templates p.module ≡ Some o → IsModuleTemplate d.text s.source o → AllZip (IsStoredAt d) (scope_stored templates p) (flat_map (λ c. stored_at (s, c)) (constructs_at d.text s))
+  scope_zip templates o found templated =
+      subst (λ z. AllZip (IsStoredAt d) (option_map_or (λ (q : ModuleTemplate). if p.boxed then [] else flat_map (part_stored p) q.parts.items) z []) (flat_map (λ c. stored_at (s, c)) (constructs_at d.text s))) (sym found)
       (subst (λ b. AllZip (IsStoredAt d) (if b then [] else flat_map (part_stored p) o.parts.items) (flat_map (λ c. stored_at (s, c)) (constructs_at d.text s))) (sym is.boxed) (by (is_box s)))
     where
       constructs : List Construct
@@ -111,14 +111,14 @@ module _ (d : Design) (k : ℕ) (s : Scope) (p : Placed) (here : IsScopeAt d k s
 
       by : (b : Bool) → AllZip (IsStoredAt d) (if b then [] else flat_map (part_stored p) o.parts.items) (flat_map (λ c. stored_at (s, c)) (if b then BoxContents ∷ [] else constructs))
       by true = tt
-      by false = zip_flat_zip (IsPartOf d.text s.source) (IsStoredAt d) (part_stored p) (λ c. stored_at (s, c)) part_zip o.parts.items constructs outlined.parts
+      by false = zip_flat_zip (IsPartOf d.text s.source) (IsStoredAt d) (part_stored p) (λ c. stored_at (s, c)) part_zip o.parts.items constructs templated.parts
 
 storable : (d : Design) (x : Stored) (r : RegisterBit) → IsStoredAt d x r → IsStorable (length (net_order d)) x
 storable d x r at = ((got (net_order d) x.bit r.bit r.bit at.bit).0, (got (net_order d) x.clock at.clock.0 at.clock.0 at.clock.2).0)
 
-module _ (of_designs : DesignLaws) (d : Design) (all : List Placed) (outlines : List Outline) (placed : ArePlaced d all) (outlined : AreOutlined d all outlines) where
-  each_zip : (p : Placed) (s : Scope) → AreNumbered all (scopes d) p s → AllZip (IsStoredAt d) (scope_stored outlines p) (flat_map (λ c. stored_at (s, c)) (constructs_at d.text s))
-  each_zip p s z = let o = outlined z.0 s p z.2 z.1 in scope_zip d z.0 s p z.2 (placed.each z.0 s p z.2 z.1) outlines o.0 o.1 o.2
+module _ (of_designs : DesignLaws) (d : Design) (all : List Placed) (templates : List ModuleTemplate) (placed : ArePlaced d all) (templated : AreTemplated d all templates) where
+  each_zip : (p : Placed) (s : Scope) → AreNumbered all (scopes d) p s → AllZip (IsStoredAt d) (scope_stored templates p) (flat_map (λ c. stored_at (s, c)) (constructs_at d.text s))
+  each_zip p s z = let o = templated z.0 s p z.2 z.1 in scope_zip d z.0 s p z.2 (placed.each z.0 s p z.2 z.1) templates o.0 o.1 o.2
 
   stored_are : stored d ≡ flat_map (λ s. flat_map (λ c. stored_at (s, c)) (constructs_at d.text s)) (scopes d)
   stored_are = flat_flat stored_at (λ s. map (λ c. (s, c)) (constructs_at d.text s)) (scopes d) ∙ same (scopes d)
@@ -127,17 +127,17 @@ module _ (of_designs : DesignLaws) (d : Design) (all : List Placed) (outlines : 
       same [] = refl
       same (s ∷ ss) = ap₂ ◌++◌ (flat_pairs stored_at s (constructs_at d.text s)) (same ss)
 
-  all_zip : AllZip (IsStoredAt d) (flat_map (scope_stored outlines) all) (stored d)
-  all_zip = subst (AllZip (IsStoredAt d) (flat_map (scope_stored outlines) all)) (sym stored_are)
-      (zip_flat_zip (AreNumbered all (scopes d)) (IsStoredAt d) (scope_stored outlines) (λ s. flat_map (λ c. stored_at (s, c)) (constructs_at d.text s)) each_zip all (scopes d) (zip_numbered all (scopes d) placed.count))
+  all_zip : AllZip (IsStoredAt d) (flat_map (scope_stored templates) all) (stored d)
+  all_zip = subst (AllZip (IsStoredAt d) (flat_map (scope_stored templates) all)) (sym stored_are)
+      (zip_flat_zip (AreNumbered all (scopes d)) (IsStoredAt d) (scope_stored templates) (λ s. flat_map (λ c. stored_at (s, c)) (constructs_at d.text s)) each_zip all (scopes d) (zip_numbered all (scopes d) placed.count))
 
-  pub notes_there : All (MayBeNoted outlines (length (net_order d))) all
-  notes_there = zip_all (AreNumbered all (scopes d)) (MayBeNoted outlines (length (net_order d))) one all (scopes d) (zip_numbered all (scopes d) placed.count)
+  pub notes_there : All (MayBeNoted templates (length (net_order d))) all
+  notes_there = zip_all (AreNumbered all (scopes d)) (MayBeNoted templates (length (net_order d))) one all (scopes d) (zip_numbered all (scopes d) placed.count)
     where
-      one : (p : Placed) (s : Scope) → AreNumbered all (scopes d) p s → MayBeNoted outlines (length (net_order d)) p
-      one p s z = let o = outlined z.0 s p z.2 z.1 in record {
-        outlined = (got outlines p.module o.0 o.0 o.1).0;
-        there = zip_all (IsStoredAt d) (IsStorable (length (net_order d))) (storable d) (scope_stored outlines p) (flat_map (λ c. stored_at (s, c)) (constructs_at d.text s)) (each_zip p s z);
+      one : (p : Placed) (s : Scope) → AreNumbered all (scopes d) p s → MayBeNoted templates (length (net_order d)) p
+      one p s z = let o = templated z.0 s p z.2 z.1 in record {
+        templated = (got templates p.module o.0 o.0 o.1).0;
+        there = zip_all (IsStoredAt d) (IsStorable (length (net_order d))) (storable d) (scope_stored templates p) (flat_map (λ c. stored_at (s, c)) (constructs_at d.text s)) (each_zip p s z);
       }
 
   -- both or neither is there
@@ -171,10 +171,10 @@ module _ (of_designs : DesignLaws) (d : Design) (all : List Placed) (outlines : 
         by None (Some r) both rest = absurd both
         by (Some x) None both rest = absurd both
 
-    pub stored_told : (notes : List (Option Stored)) → length notes ≡ length (net_order d) → AreNotes (flat_map (scope_stored outlines) all) notes → AreStored d (filter_map (λ o. o) notes)
-    stored_told notes long noted = both_kept (λ b. find (λ r. same_bit b r.bit) (stored d)) notes (net_order d) (zip_by _ notes (net_order d) long each)
+    pub stored_reported : (notes : List (Option Stored)) → length notes ≡ length (net_order d) → AreNotes (flat_map (scope_stored templates) all) notes → AreStored d (filter_map (λ o. o) notes)
+    stored_reported notes long noted = both_kept (λ b. find (λ r. same_bit b r.bit) (stored d)) notes (net_order d) (zip_by _ notes (net_order d) long each)
       where
         each : (k : ℕ) (o : Option Stored) (b : Bit) → slice_get notes k ≡ Some o → slice_get (net_order d) k ≡ Some b → AreBoth o (find (λ r. same_bit b r.bit) (stored d))
         each k o b at there =
             let g = got notes k o None at in
-            subst (λ z. AreBoth z (find (λ r. same_bit b r.bit) (stored d))) (sym (noted k g.0) ∙ g.1) (both_found k b there (flat_map (scope_stored outlines) all) (stored d) all_zip)
+            subst (λ z. AreBoth z (find (λ r. same_bit b r.bit) (stored d))) (sym (noted k g.0) ∙ g.1) (both_found k b there (flat_map (scope_stored templates) all) (stored d) all_zip)

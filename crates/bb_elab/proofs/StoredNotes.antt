@@ -7,7 +7,7 @@ use Rattle.std.proofs.lemmas.List.{get_or-set_same, get_or-set_other, length-set
 use Rattle.std.proofs.lemmas.List.Elements.{filter_map-append}
 use Rattle.bb_blast.specs.declared.stored.Stored.{Stored}
 use Rattle.bb_elab.specs.Inside.StoredNumbers.{stored_from, IsStorable, AreNotes}
-use Rattle.bb_lists.proofs.Turns.{front_more}
+use Rattle.bb_lemmas.proofs.Turns.{prefix_more}
 use Rattle.std.proofs.lemmas.List.Folds.{find-append}
 use Rattle.std.specs.Option.{option_or}
 
@@ -39,7 +39,7 @@ module _ (all : List Stored) (notes : List (Option Stored)) (x : Stored) (there 
   abbrev at : ℕ → Stored → Bool
   at k y = y.bit == k
 
-  -- behind others, what is noted elsewhere stays
+  -- after others, what is noted elsewhere stays
   kept : (k : ℕ) → (x.bit ≡ k → ⊥) → k < length notes → get_or notes k None ≡ find (at k) (all ++ x ∷ [])
   kept k other lt = noted k lt ∙ sym (or_none (find (at k) all)) ∙ ap (λ (t : Bool). option_or (find (at k) all) (if t then Some x else None)) (sym (other_number x.bit k other)) ∙ sym (find-append (at k) all (x ∷ []))
 
@@ -89,7 +89,7 @@ notes_whole f xs k a b all noted = subst (λ l. NotesMore a b (f l)) all noted
 pub kept_more : {A B : Type 0} (h : A → Option B) (xs : List A) (k : ℕ) (x d : A) (before now : List B) → k < length xs → get_or xs k d ≡ x → before ≡ filter_map h (take k xs) → now ≡ before ++ cons_option (h x) []
     → now ≡ filter_map h (take (k + 1) xs)
 kept_more h xs k x d before now lt at was is =
-    is ∙ ap (λ l. l ++ cons_option (h x) []) was ∙ sym (filter_map-append h (take k xs) (x ∷ [])) ∙ ap (filter_map h) (sym (front_more xs k x lt (sym at ∙ get_or_default xs k d x lt)))
+    is ∙ ap (λ l. l ++ cons_option (h x) []) was ∙ sym (filter_map-append h (take k xs) (x ∷ [])) ∙ ap (filter_map h) (sym (prefix_more xs k x lt (sym at ∙ get_or_default xs k d x lt)))
 
 pub no_notes_are : (notes : List (Option Stored)) (n : ℕ) → notes ≡ replicate n None → AreNotes [] notes
 no_notes_are notes n is k lt = ap (λ l. get_or l k None) is ∙ none n k

@@ -17,10 +17,10 @@ use Rattle.bb_blast.specs.Inside.Placements.{IsStoredAt, AreStored}
 use Rattle.bb_elab.specs.Inside.StoredNumbers.{AreTimed}
 use Rattle.bb_design.specs.Refusals.{AreDrivenOnce}
 use Rattle.bb_design.specs.Registers.{RegisterBit, stored, stored_at, registers}
-use Rattle.bb_lists.proofs.Members.{each_of, from_flat, from_map, contains-map, into_flat, contains_here, contains_there, contains_cases, none_in_nil, from_find, from_filter_map}
-use Rattle.bb_lists.proofs.Apart.{apart_right, apart_append}
+use Rattle.bb_lemmas.proofs.Members.{each_of, from_flat, from_map, contains-map, into_flat, contains_here, contains_there, contains_cases, none_in_nil, from_find, from_filter_map}
+use Rattle.bb_lemmas.proofs.Apart.{apart_right, apart_append}
 use Rattle.bb_blast.specs.Laws.ModuleLaws.{LeftHasBits, ModuleLaws}
-use Rattle.bb_lists.proofs.Numbered.{from_numbered, numbered_there}
+use Rattle.bb_lemmas.proofs.Numbered.{from_numbered, numbered_there}
 use Rattle.bb_design.specs.Laws.DesignLaws.{DesignLaws}
 
 -- what a part drives is driven in the design

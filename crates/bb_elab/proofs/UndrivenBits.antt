@@ -8,7 +8,7 @@ use Rattle.bb_design.specs.Inside.Allowed.{IsBounded}
 use Rattle.bb_design.specs.NetBits.{net_order}
 use Rattle.bb_design.specs.Refusals.{IsUndriven, AreDriven}
 use Rattle.bb_elab.proofs.CountedDrivers.{driven_counted, undriven_counted}
-use Rattle.bb_lists.proofs.Places.{some_at, split, taken}
+use Rattle.bb_lemmas.proofs.Places.{some_at, split, taken}
 use Rattle.bb_design.specs.Laws.DesignLaws.{DesignLaws}
 
 -- each of these that is read has a driver
@@ -24,7 +24,7 @@ module _ (of_designs : DesignLaws) (d : Design) (counts : List ℕ) (read : List
         record {
           before = take k (net_order d);
           after = drop (suc k) (net_order d);
-          stands = split (net_order d) k b.0 b.1;
+          occurs = split (net_order d) k b.0 b.1;
           holds = ((reads.each k b.0 b.1).0 on, undriven_counted of_designs d counts counted k b.0 b.1 none);
           earlier = λ y has undriven.
               let j = taken (net_order d) k y has in

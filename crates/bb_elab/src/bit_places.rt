@@ -1,12 +1,13 @@
-//! Where a bit stands, by its number: its scope, and its number among the bits of that scope.
+//! From the number of a bit to its scope and net: first numbers never fall, so both are found by bisection, and no
+//! table from bits to scopes takes room.
 
 ghost use Rattle.std.specs.Prelude.{◌≡◌, ◌≤◌, ◌<◌, ◌+◌, ◌-◌, ℕ, Some, length, slice_get};
 ghost use Rattle.std.specs.List.{slice_index_or};
 ghost use Rattle.bb_names.specs.declared.net.NetInfo.{NetInfo};
 ghost use Rattle.bb_names.specs.Ranges.{range_width};
 ghost use Rattle.bb_blast.specs.declared.placed.Placed.{Placed};
-ghost use Rattle.bb_blast.specs.Inside.Outlines.{net_start};
-ghost use Rattle.bb_blast.specs.Inside.Outlining.{bit_count};
+ghost use Rattle.bb_blast.specs.Inside.ModuleTemplates.{net_start};
+ghost use Rattle.bb_blast.specs.Inside.BitBlasting.{bit_count};
 ghost use Rattle.bb_design.specs.Hierarchy.{Design, Scope};
 ghost use Rattle.bb_design.specs.NetBits.{Bit, net_order, scope_bits};
 ghost use Rattle.bb_elab.specs.Inside.PlacedPaths.{IsLastBelow};
@@ -15,7 +16,7 @@ ghost use Rattle.bb_blast.specs.Inside.Placements.{IsScopeAt, ArePlaced};
 use bb_blast::Placed;
 use bb_names::NetInfo;
 
-// The last scope of which the first bit has no greater number, where the first scope is one.
+// The first number of the scope at `low` is at most `number`, and that at `high`, if there is one, is greater.
 fn last_below(placed: &[Placed], number: u32) -> usize
     requires some { (p : Placed) × (slice_get placed.now 0 ≡ Some p) × (p.first ≤ number) }
     ensures last { IsLastBelow placed.now number result }
@@ -33,7 +34,6 @@ fn last_below(placed: &[Placed], number: u32) -> usize
     low
 }
 
-/// The scope of a bit.
 pub(crate) fn scope_of_bit(placed: &[Placed], number: u32) -> usize
     requires design { (d : Design) × ArePlaced d placed.now × (number < length (net_order d)) }
     ensures there { result < length placed.now }
@@ -43,7 +43,7 @@ pub(crate) fn scope_of_bit(placed: &[Placed], number: u32) -> usize
     last_below(placed, number)
 }
 
-// The last net of which the first bit has no greater number, where the first net is one.
+// The same invariant as above: of several nets that begin at one number the last is found.
 fn last_start(starts: &[u32], count: usize, number: u32) -> usize
     requires some { 1 ≤ count }
     requires long { count ≤ length starts.now }
@@ -65,7 +65,7 @@ fn last_start(starts: &[u32], count: usize, number: u32) -> usize
     low
 }
 
-/// The net of a bit, by the number of the bit among those of the scope.
+/// `number` counts from the first bit of the scope.
 pub(crate) fn net_of_bit(nets: &[NetInfo], starts: &[u32], number: u32) -> usize
     requires starts { (k : ℕ) → k < length nets.now → slice_get starts.now k ≡ Some (net_start nets.now k) }
     requires there { number < bit_count nets.now }

@@ -1,17 +1,16 @@
-//! Where copies end: the place that is no copy to which copies lead from a place of a list of cells.
+//! Where chains of buffers end: the place, no buffer itself, to which they lead.
 //!
-//! What is found is noted for each place on the way, so each copy is followed once, however many walks lead through it.
+//! The end is noted for each place on the way, so a buffer is followed once, however many chains lead through it.
 
 ghost use Rattle.std.specs.Prelude.{◌≡◌, ◌<◌, ℕ, None, Some, false, length, slice_index_or, IfOk, IfSome, IfNone};
 ghost use Rattle.bb_net.specs.declared.loose.LooseCell.TheVariants.{Const, Copy};
 ghost use Rattle.bb_elab.specs.Inside.CopyEnds.{EndsAt, AreEnds};
 
 use bb_bits::NoMemory;
-use bb_cells::list_laws::laws_of_cells;
+use bb_implements::list_laws::laws_of_cells;
 use bb_net::{Loose, LooseCell};
 use std::alloc::Global;
 
-// The place of which the cell at a place is a copy, if it is one.
 fn copied_from(cells: &[LooseCell], place: u32) -> Option<u32>
     ensures some { IfSome result (λ of. (place < length cells.now) × (slice_index_or cells.now place (Const false) ≡ Copy of)) }
     ensures none { IfNone result ((p : ℕ) → slice_index_or cells.now place (Const false) ≡ Copy p → ⊥) }
@@ -22,7 +21,6 @@ fn copied_from(cells: &[LooseCell], place: u32) -> Option<u32>
     }
 }
 
-// The place at which copies from a place end, if it is noted.
 fn noted(ends: &[Option<u32>], place: u32) -> Option<u32>
     ensures noted { IfSome result (λ end. slice_index_or ends.now place None ≡ Some end) }
 {
@@ -32,7 +30,7 @@ fn noted(ends: &[Option<u32>], place: u32) -> Option<u32>
     }
 }
 
-// The place at which copies from a place end.
+// A chain without a loop is no longer than the list, which bounds the walk.
 fn followed(list: &Loose, ends: &[Option<u32>], place: u32) -> u32
     requires ends { AreEnds list.now ends.now }
     ensures end { EndsAt list.now place result }
@@ -52,7 +50,7 @@ fn followed(list: &Loose, ends: &[Option<u32>], place: u32) -> u32
     at
 }
 
-// Notes at which place copies end, for a place and for those to which copies lead from it.
+// It stops at the first place that is noted: the rest of the chain was noted with it.
 fn note(list: &Loose, ends: &mut [Option<u32>], place: u32, end: u32)
     requires ends { AreEnds list.now ends.old }
     requires end { EndsAt list.now place end }
@@ -72,7 +70,7 @@ fn note(list: &Loose, ends: &mut [Option<u32>], place: u32, end: u32)
     }
 }
 
-/// The place at which copies from a place end. It is noted.
+/// Notes the end for each place on the way.
 pub(crate) fn end_of(list: &Loose, ends: &mut [Option<u32>], place: u32) -> u32
     requires ends { AreEnds list.now ends.old }
     ensures end { EndsAt list.now place result }
@@ -83,7 +81,6 @@ pub(crate) fn end_of(list: &Loose, ends: &mut [Option<u32>], place: u32) -> u32
     end
 }
 
-/// Nothing is noted yet.
 pub(crate) fn no_ends(alloc: Global, list: &Loose) -> Result<Vec<Option<u32>>, NoMemory>
     ensures ends { IfOk result (λ ends. AreEnds list.now ends.items) }
 {

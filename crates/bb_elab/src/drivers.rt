@@ -1,26 +1,26 @@
 //! How often each bit of a design is driven.
 //!
-//! One pass over all constructs counts at the number of each bit that is driven there. More than two drivers are told as two.
+//! One pass over all constructs counts at the number of each bit that is driven there. Only none, one and more than one
+//! are distinguished, so a byte a bit is enough and no count overflows.
 
 ghost use Rattle.std.specs.Prelude.{◌≡◌, ◌+◌, ◌<◌, ◌++◌, ◌∷◌, [], ℕ, List, All, Some, length, slice_get, IfNone, IfOk, IfSome};
 ghost use Rattle.std.specs.List.{flat_map};
-ghost use Rattle.bb_blast.specs.declared.outline.Outline.{Outline};
+ghost use Rattle.bb_blast.specs.declared.template.ModuleTemplate.{ModuleTemplate};
 ghost use Rattle.bb_blast.specs.declared.placed.Placed.{Placed};
 ghost use Rattle.bb_elab.specs.Inside.DrivenNumbers.{top_numbers, part_numbers, scope_numbers, driven_numbers, IsInside, MayCountInputs, MayBeCounted, IsTally, IsFirstAt, AreCounts};
 ghost use Rattle.bb_bits.specs.Inside.Places.{numbers_from};
 ghost use Rattle.bb_design.specs.Hierarchy.{Design};
 ghost use Rattle.bb_design.specs.Inside.Allowed.{IsBounded};
 ghost use Rattle.bb_design.specs.NetBits.{net_order};
-ghost use Rattle.bb_blast.specs.Inside.Placements.{ArePlaced, AreOutlined};
+ghost use Rattle.bb_blast.specs.Inside.Placements.{ArePlaced, AreTemplated};
 ghost use Rattle.bb_design.specs.Refusals.{AreDrivenOnce, IsDrivenTwice};
 
 use bb_bits::NoMemory;
-use bb_blast::{Outline, Part, Placed};
+use bb_blast::{ModuleTemplate, Part, Placed};
 use bb_design::laws::laws_of_designs;
 use bb_expr::laws::{made_has_value, net_names_differ, values_have_width};
 use std::alloc::Global;
 
-// One driver more of a bit.
 fn count(counts: &mut [u8], bit: usize)
     requires there { bit < length counts.old }
     ensures tally { (numbers : List ℕ) → IsTally numbers counts.old → IsTally (numbers ++ bit ∷ []) counts.new }
@@ -30,7 +30,6 @@ fn count(counts: &mut [u8], bit: usize)
     }
 }
 
-// One driver more of each of these bits of the scope whose first bit has that number.
 fn count_bits(counts: &mut [u8], first: u32, bits: &[u32])
     requires there { All (λ k. k < length counts.old) (numbers_from first bits.now) }
     ensures tally { (numbers : List ℕ) → IsTally numbers counts.old → IsTally (numbers ++ numbers_from first bits.now) counts.new }
@@ -40,7 +39,7 @@ fn count_bits(counts: &mut [u8], first: u32, bits: &[u32])
     }
 }
 
-// The bits that a construct of a scope drives.
+// A connection to an input port drives the port's bits, in the scope of the instance.
 fn count_part(counts: &mut [u8], placed: &[Placed], scope: &Placed, part: &Part)
     requires inside { IsInside placed.now scope.now part.now }
     requires there { All (λ k. k < length counts.old) (part_numbers placed.now scope.now part.now) }
@@ -59,7 +58,6 @@ fn count_part(counts: &mut [u8], placed: &[Placed], scope: &Placed, part: &Part)
     }
 }
 
-// The bits that constructs of a scope drive.
 fn count_parts(counts: &mut [u8], placed: &[Placed], scope: &Placed, parts: &[Part])
     requires inside { All (IsInside placed.now scope.now) parts.now }
     requires there { All (λ k. k < length counts.old) (flat_map (part_numbers placed.now scope.now) parts.now) }
@@ -70,85 +68,82 @@ fn count_parts(counts: &mut [u8], placed: &[Placed], scope: &Placed, parts: &[Pa
     }
 }
 
-// The bits that a scope drives: the outputs of a box, or what its constructs drive.
-fn count_scope(counts: &mut [u8], placed: &[Placed], outlines: &[Outline], scope: &Placed)
-    requires counted { MayBeCounted placed.now outlines.now (length counts.old) scope.now }
-    ensures tally { (numbers : List ℕ) → IsTally numbers counts.old → IsTally (numbers ++ scope_numbers placed.now outlines.now scope.now) counts.new }
+// What is inside a box is open, so its outputs count as driven.
+fn count_scope(counts: &mut [u8], placed: &[Placed], templates: &[ModuleTemplate], scope: &Placed)
+    requires counted { MayBeCounted placed.now templates.now (length counts.old) scope.now }
+    ensures tally { (numbers : List ℕ) → IsTally numbers counts.old → IsTally (numbers ++ scope_numbers placed.now templates.now scope.now) counts.new }
 {
-    let outline = &outlines[scope.module];
+    let template = &templates[scope.module];
     if scope.boxed {
-        count_bits(counts, scope.first, &outline.outputs);
+        count_bits(counts, scope.first, &template.outputs);
     } else {
-        count_parts(counts, placed, scope, &outline.parts);
+        count_parts(counts, placed, scope, &template.parts);
     }
 }
 
-// The bits that all scopes drive.
-fn count_scopes(counts: &mut [u8], placed: &[Placed], outlines: &[Outline])
-    requires counted { All (MayBeCounted placed.now outlines.now (length counts.old)) placed.now }
-    ensures tally { (numbers : List ℕ) → IsTally numbers counts.old → IsTally (numbers ++ flat_map (scope_numbers placed.now outlines.now) placed.now) counts.new }
+fn count_scopes(counts: &mut [u8], placed: &[Placed], templates: &[ModuleTemplate])
+    requires counted { All (MayBeCounted placed.now templates.now (length counts.old)) placed.now }
+    ensures tally { (numbers : List ℕ) → IsTally numbers counts.old → IsTally (numbers ++ flat_map (scope_numbers placed.now templates.now) placed.now) counts.new }
 {
     for scope in placed {
-        count_scope(counts, placed, outlines, scope);
+        count_scope(counts, placed, templates, scope);
     }
 }
 
-// The bits of the inputs of the top, which is the first scope.
-fn count_inputs(counts: &mut [u8], placed: &[Placed], outlines: &[Outline])
-    requires counted { (p : Placed) → slice_get placed.now 0 ≡ Some p → MayCountInputs outlines.now (length counts.old) p }
-    ensures tally { (numbers : List ℕ) → IsTally numbers counts.old → IsTally (numbers ++ top_numbers placed.now outlines.now) counts.new }
+// Inputs of the top are driven from outside.
+fn count_inputs(counts: &mut [u8], placed: &[Placed], templates: &[ModuleTemplate])
+    requires counted { (p : Placed) → slice_get placed.now 0 ≡ Some p → MayCountInputs templates.now (length counts.old) p }
+    ensures tally { (numbers : List ℕ) → IsTally numbers counts.old → IsTally (numbers ++ top_numbers placed.now templates.now) counts.new }
 {
     if let [top, ..] = placed {
-        count_bits(counts, top.first, &outlines[top.module].inputs);
+        count_bits(counts, top.first, &templates[top.module].inputs);
     }
 }
 
-// All drivers of a design.
-fn count_drivers(counts: &mut [u8], placed: &[Placed], outlines: &[Outline])
-    requires inputs { (p : Placed) → slice_get placed.now 0 ≡ Some p → MayCountInputs outlines.now (length counts.old) p }
-    requires scopes { All (MayBeCounted placed.now outlines.now (length counts.old)) placed.now }
-    ensures tally { IsTally [] counts.old → IsTally (driven_numbers placed.now outlines.now) counts.new }
+fn count_drivers(counts: &mut [u8], placed: &[Placed], templates: &[ModuleTemplate])
+    requires inputs { (p : Placed) → slice_get placed.now 0 ≡ Some p → MayCountInputs templates.now (length counts.old) p }
+    requires scopes { All (MayBeCounted placed.now templates.now (length counts.old)) placed.now }
+    ensures tally { IsTally [] counts.old → IsTally (driven_numbers placed.now templates.now) counts.new }
 {
-    count_inputs(counts, placed, outlines);
-    count_scopes(counts, placed, outlines);
+    count_inputs(counts, placed, templates);
+    count_scopes(counts, placed, templates);
 }
 
-// How many bits a scope has together with those before it.
-fn bits_through(scope: &Placed, outlines: &[Outline]) -> usize
-    requires outlined { scope.now.module < length outlines.now }
-    ensures bits { (o : Outline) → slice_get outlines.now scope.now.module ≡ Some o → result ≡ scope.now.first + o.bits }
+// Scopes come in the order of their bits, so the last one gives the number of all.
+fn bits_through(scope: &Placed, templates: &[ModuleTemplate]) -> usize
+    requires templated { scope.now.module < length templates.now }
+    ensures bits { (o : ModuleTemplate) → slice_get templates.now scope.now.module ≡ Some o → result ≡ scope.now.first + o.bits }
 {
-    scope.first as usize + outlines[scope.module].bits as usize
+    scope.first as usize + templates[scope.module].bits as usize
 }
 
-/// How many bits the scopes of a design have.
-pub(crate) fn bit_count(placed: &[Placed], outlines: &[Outline]) -> usize
-    requires design { (d : Design) × ArePlaced d placed.now × AreOutlined d placed.now outlines.now }
-    ensures bits { (d : Design) → ArePlaced d placed.now → AreOutlined d placed.now outlines.now → result ≡ length (net_order d) }
+pub(crate) fn bit_count(placed: &[Placed], templates: &[ModuleTemplate]) -> usize
+    requires design { (d : Design) × ArePlaced d placed.now × AreTemplated d placed.now templates.now }
+    ensures bits { (d : Design) → ArePlaced d placed.now → AreTemplated d placed.now templates.now → result ≡ length (net_order d) }
 {
     laws_of_designs();
-    bits_through(&placed[placed.len() - 1], outlines)
+    bits_through(&placed[placed.len() - 1], templates)
 }
 
-/// For each bit of a design how often it is driven, where 2 stands for more.
+/// In net order, where 2 means two or more.
 pub(crate) fn driver_counts(
     alloc: Global,
     placed: &[Placed],
-    outlines: &[Outline],
+    templates: &[ModuleTemplate],
 ) -> Result<Vec<u8>, NoMemory>
-    requires design { (d : Design) × ArePlaced d placed.now × AreOutlined d placed.now outlines.now × IsBounded d }
-    ensures counts { IfOk result (λ counts. (d : Design) → ArePlaced d placed.now → AreOutlined d placed.now outlines.now → IsBounded d → AreCounts d counts.items) }
+    requires design { (d : Design) × ArePlaced d placed.now × AreTemplated d placed.now templates.now × IsBounded d }
+    ensures counts { IfOk result (λ counts. (d : Design) → ArePlaced d placed.now → AreTemplated d placed.now templates.now → IsBounded d → AreCounts d counts.items) }
 {
     laws_of_designs();
     values_have_width();
     made_has_value();
     net_names_differ();
-    let mut counts = vec![in alloc; 0u8; bit_count(placed, outlines)]?;
-    count_drivers(&mut counts, placed, outlines);
+    let mut counts = vec![in alloc; 0u8; bit_count(placed, templates)]?;
+    count_drivers(&mut counts, placed, templates);
     Ok(counts)
 }
 
-/// The number of the first bit that is driven twice, if there is one.
+/// The first in net order, so the report does not depend on the order of the constructs.
 pub(crate) fn first_driven_twice(counts: &[u8]) -> Option<usize>
     ensures some { IfSome result (λ k. (d : Design) → AreCounts d counts.now → IsFirstAt d (IsDrivenTwice d) k) }
     ensures none { IfNone result ((d : Design) → IsBounded d → AreCounts d counts.now → AreDrivenOnce d) }

@@ -1,46 +1,49 @@
-//! The flat netlist of a design whose cells are in order, or the first two things that have one text.
+//! The flat netlist of a design whose cells are levelized, or the first names that clash.
+//!
+//! Names are joined here, last of all: each is made once and looked up once for repeats, and a design with another
+//! fault needs none of them. Names in a text are printable, so paths are too, which a flat netlist keeps.
 
 ghost use Rattle.std.specs.Prelude.{◌≡◌, ◌⊎◌, map, IfOk, IfErr};
 ghost use Rattle.bb_names.specs.Inside.Checked.{syntax};
 ghost use Rattle.bb_design.specs.declared.fault.ElabFault.TheVariants.{NoMemory};
 ghost use Rattle.bb_design.specs.Hierarchy.{Design};
 ghost use Rattle.bb_design.specs.Refusals.{IsRefusalOf, IsSoundDesign};
-ghost use Rattle.bb_elab.specs.Inside.Stages.{HasGrown, AreArranged};
-ghost use Rattle.bb_cells.specs.Stands.{StandsFor};
+ghost use Rattle.bb_elab.specs.Inside.Stages.{IsElaborated, AreLevelized};
+ghost use Rattle.bb_implements.specs.Implements.{Implements};
 
-use crate::arranging::Arranged;
 use crate::box_names::{box_names, boxes_apart};
-use crate::growing::Grown;
+use crate::elaboration::Elaborated;
+use crate::levelizing::Levelized;
 use crate::port_names::ports_apart;
 use crate::register_names::{named_registers, registers_apart};
-use bb_cells::list_laws::{standing_nets_are_flat, standing_nets_are_printable};
 use bb_design::ElabFault;
 use bb_design::laws::laws_of_designs;
+use bb_implements::list_laws::{implementing_nets_are_flat, implementing_nets_are_printable};
 use bb_names::Checked;
 use bb_net::Flat;
 use std::alloc::Global;
 
-/// The flat netlist.
+/// Repeats are refused in this order: boxes, registers, ports.
 pub(crate) fn finish(
     alloc: Global,
     checked: &Checked,
-    grown: &Grown,
-    arranged: Arranged,
+    elaborated: &Elaborated,
+    levelized: Levelized,
 ) -> Result<Flat, ElabFault>
-    requires design { (d : Design) × HasGrown (map syntax checked.now) d grown.now × AreArranged d arranged.list arranged.ordered.net arranged.ordered.boxes.items }
-    ensures stands { IfOk result (λ flat. (d : Design) → HasGrown (map syntax checked.now) d grown.now → AreArranged d arranged.list arranged.ordered.net arranged.ordered.boxes.items
-        → StandsFor d flat × IsSoundDesign d) }
-    ensures fault { IfErr result (λ fault. (fault ≡ NoMemory) ⊎ ((d : Design) → HasGrown (map syntax checked.now) d grown.now
-        → AreArranged d arranged.list arranged.ordered.net arranged.ordered.boxes.items → IsRefusalOf d fault)) }
+    requires design { (d : Design) × IsElaborated (map syntax checked.now) d elaborated.now × AreLevelized d levelized.list levelized.ordered.net levelized.ordered.boxes.items }
+    ensures occurs { IfOk result (λ flat. (d : Design) → IsElaborated (map syntax checked.now) d elaborated.now → AreLevelized d levelized.list levelized.ordered.net levelized.ordered.boxes.items
+        → Implements d flat × IsSoundDesign d) }
+    ensures fault { IfErr result (λ fault. (fault ≡ NoMemory) ⊎ ((d : Design) → IsElaborated (map syntax checked.now) d elaborated.now
+        → AreLevelized d levelized.list levelized.ordered.net levelized.ordered.boxes.items → IsRefusalOf d fault)) }
 {
     laws_of_designs();
-    standing_nets_are_flat();
-    standing_nets_are_printable();
-    let boxed = boxes_apart(alloc, checked, grown)?;
-    let texts = registers_apart(alloc, checked, grown)?;
-    let ports = ports_apart(alloc, checked, grown)?;
-    let Arranged { list, ordered } = arranged;
-    let regs = named_registers(alloc, checked, grown, &list, texts)?;
-    let boxes = box_names(alloc, checked, grown, &boxed, &ordered.boxes)?;
+    implementing_nets_are_flat();
+    implementing_nets_are_printable();
+    let boxed = boxes_apart(alloc, checked, elaborated)?;
+    let texts = registers_apart(alloc, checked, elaborated)?;
+    let ports = ports_apart(alloc, checked, elaborated)?;
+    let Levelized { list, ordered } = levelized;
+    let regs = named_registers(alloc, checked, elaborated, &list, texts)?;
+    let boxes = box_names(alloc, checked, elaborated, &boxed, &ordered.boxes)?;
     Ok(Flat::of(ordered.net, ports.ins, regs, ports.outs, boxes))
 }

@@ -1,8 +1,8 @@
-//! Which bits of nets are read.
+//! Which bits of nets are read, found on the list of cells: a place is read where a cell that is no buffer reads it, as
+//! an input pin of a box, an output or a clock; and where a buffer is read, so is the place that it buffers.
 //!
-//! In the list of cells a place is read where a cell that is no copy reads it, as an input pin of a box, an output or a clock;
-//! and where a copy is read, so is the place of which it is a copy. From each such place copies are followed up to a place that is
-//! marked already, so each copy is followed once.
+//! Buffers are followed from each such place up to one that is marked already, so each is followed once and all marks
+//! take linear time.
 
 ghost use Rattle.std.specs.Prelude.{◌≡◌, ◌⊎◌, ◌+◌, ◌<◌, ◌≤◌, ◌^◌, ◌++◌, Some, slice_get, true, false, ℕ, List, Bool, All, Contains, length, map, take, drop, slice_index_or, IfOk, OnOk};
 ghost use Rattle.std.specs.List.{flat_map};
@@ -11,21 +11,21 @@ ghost use Rattle.bb_design.specs.Hierarchy.{Design};
 ghost use Rattle.bb_design.specs.Inside.Allowed.{IsBounded};
 ghost use Rattle.bb_design.specs.NetBits.{Bit, net_order};
 ghost use Rattle.bb_blast.specs.Inside.Placements.{AreStored};
-ghost use Rattle.bb_cells.specs.Places.{Lowering, IsLowering, IsListOf};
-ghost use Rattle.bb_design.specs.Reading.{IsRead};
-ghost use Rattle.bb_cells.specs.Inside.ReadPlaces.{read_by, read_places, copy_steps, FollowsAt, IsReadPlace, AreClosed};
+ghost use Rattle.bb_implements.specs.Places.{Lowering, IsLowering, IsListOf};
+ghost use Rattle.bb_design.specs.Reading.{IsReadBit};
+ghost use Rattle.bb_implements.specs.Inside.ReadPlaces.{read_by, read_places, copy_steps, FollowsAt, IsReadPlace, AreClosed};
 ghost use Rattle.bb_elab.specs.Inside.StoredNumbers.{AreTimed};
 ghost use Rattle.bb_design.specs.Refusals.{AreDrivenOnce};
 ghost use Rattle.bb_design.specs.Registers.{cut_bits};
 
 use bb_bits::NoMemory;
 use bb_blast::Stored;
-use bb_cells::list_laws::laws_of_cells;
 use bb_design::laws::laws_of_designs;
+use bb_implements::list_laws::laws_of_cells;
 use bb_net::{BoxPins, Loose, LooseCell};
 use std::alloc::Global;
 
-// The place of which the cell at a place is a copy; one that is no copy counts as its own.
+// A cell that is no buffer counts as its own source, at which `follow` then stops: it is marked.
 fn copied(cells: &[LooseCell], place: usize) -> usize
     requires there { place < length cells.now }
     ensures copied { (result ≡ place) ⊎ Contains (copy_steps cells.now) (place, result) }
@@ -38,7 +38,7 @@ fn copied(cells: &[LooseCell], place: usize) -> usize
     }
 }
 
-// Marks a place and, along copies, the places of which it is a copy.
+// It ends since each step marks a place that was not marked.
 fn follow(cells: &[LooseCell], marks: &mut [bool], start: usize)
     requires long { length marks.old ≡ length cells.now }
     requires closed { AreClosed cells.now marks.old }
@@ -55,7 +55,6 @@ fn follow(cells: &[LooseCell], marks: &mut [bool], start: usize)
     }
 }
 
-// The same for each of these places.
 fn follow_all(cells: &[LooseCell], marks: &mut [bool], starts: &[u32])
     requires long { length marks.old ≡ length cells.now }
     requires closed { AreClosed cells.now marks.old }
@@ -70,7 +69,6 @@ fn follow_all(cells: &[LooseCell], marks: &mut [bool], starts: &[u32])
     }
 }
 
-// Puts what a cell reads behind other places.
 fn add_read(cell: LooseCell, places: &mut Vec<u32>) -> Result<(), NoMemory>
     ensures ok { OnOk result (places.new.items ≡ places.old.items ++ read_by cell) }
 {
@@ -91,7 +89,6 @@ fn add_read(cell: LooseCell, places: &mut Vec<u32>) -> Result<(), NoMemory>
     Ok(())
 }
 
-// Puts what these cells read behind other places.
 fn add_reads(cells: &[LooseCell], places: &mut Vec<u32>) -> Result<(), NoMemory>
     ensures ok { OnOk result (places.new.items ≡ places.old.items ++ flat_map read_by cells.now) }
 {
@@ -101,7 +98,6 @@ fn add_reads(cells: &[LooseCell], places: &mut Vec<u32>) -> Result<(), NoMemory>
     Ok(())
 }
 
-// Puts the input pins of boxes behind other places.
 fn add_pins(boxes: &[BoxPins], places: &mut Vec<u32>) -> Result<(), NoMemory>
     ensures ok { OnOk result (places.new.items ≡ places.old.items ++ flat_map (λ b. b.ins) boxes.now) }
 {
@@ -111,7 +107,7 @@ fn add_pins(boxes: &[BoxPins], places: &mut Vec<u32>) -> Result<(), NoMemory>
     Ok(())
 }
 
-// Puts the places of clocks behind other places, where the bits of nets stand from a place on.
+// A clock is read although no cell reads it; `first` is the place of the first bit of a net.
 fn add_clocks(stored: &[Stored], first: u32, places: &mut Vec<u32>) -> Result<(), NoMemory>
     requires fits { All (λ x. first + x.clock < 2 ^ 32) stored.now }
     ensures ok { OnOk result (places.new.items ≡ places.old.items ++ map (λ x. first + x.clock) stored.now) }
@@ -122,7 +118,7 @@ fn add_clocks(stored: &[Stored], first: u32, places: &mut Vec<u32>) -> Result<()
     Ok(())
 }
 
-// The places that are read as they stand.
+// Those of which no chain of buffers has been followed yet.
 fn places_read(
     alloc: Global,
     list: &Loose,
@@ -140,7 +136,6 @@ fn places_read(
     Ok(places)
 }
 
-// For each place of the list whether it is read.
 fn read_marks(
     alloc: Global,
     list: &Loose,
@@ -161,7 +156,6 @@ fn read_marks(
     Ok(marks)
 }
 
-// So many of these, from one on.
 fn part_of(alloc: Global, marks: &[bool], first: usize, count: usize) -> Result<Vec<bool>, NoMemory>
     requires there { first + count ≤ length marks.now }
     ensures part { IfOk result (λ part. part.items ≡ take count (drop first marks.now)) }
@@ -172,7 +166,7 @@ fn part_of(alloc: Global, marks: &[bool], first: usize, count: usize) -> Result<
     Ok(part)
 }
 
-/// For each bit of a net, in net order, whether it is read. The bits stand in the list from a place on and are so many.
+/// In net order. The bits are the `count` places of the list from `first` on.
 pub(crate) fn read_bits(
     alloc: Global,
     list: &Loose,
@@ -185,11 +179,11 @@ pub(crate) fn read_bits(
     ensures long { IfOk result (λ reads. length reads.items ≡ count) }
     // What is found to be read is read.
     ensures only { IfOk result (λ reads. (d : Design) (lowering : Lowering) → IsBounded d → IsLowering d lowering → IsListOf d lowering list.now → AreStored d stored.now → first ≡ 2 + length (cut_bits d)
-        → (k : ℕ) (b : Bit) → slice_get (net_order d) k ≡ Some b → slice_index_or reads.items k false ≡ true → IsRead d b) }
+        → (k : ℕ) (b : Bit) → slice_get (net_order d) k ≡ Some b → slice_index_or reads.items k false ≡ true → IsReadBit d b) }
     // What is read is found to be read, where the clocks of all registers are among those of the stored bits.
     ensures read { IsLoose list.now → All (λ x. first + x.clock < length list.now.cells) stored.now
         → IfOk result (λ reads. (d : Design) (lowering : Lowering) → IsBounded d → AreDrivenOnce d → IsLowering d lowering → IsListOf d lowering list.now → first ≡ 2 + length (cut_bits d) → AreTimed d (map (λ x. x.clock) stored.now)
-        → (k : ℕ) (b : Bit) → slice_get (net_order d) k ≡ Some b → k < count → IsRead d b → slice_index_or reads.items k false ≡ true) }
+        → (k : ℕ) (b : Bit) → slice_get (net_order d) k ≡ Some b → k < count → IsReadBit d b → slice_index_or reads.items k false ≡ true) }
 {
     laws_of_designs();
     laws_of_cells();

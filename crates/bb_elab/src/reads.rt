@@ -1,7 +1,7 @@
 //! Which bits of a design are read.
 //!
-//! They are told from the list of cells and from the clocks of register bits. Since a text writes something at each edge that it
-//! names, these are the clocks of all registers.
+//! Clocks are taken from register bits and not from the text. None is missed: the grammar leaves no register without a
+//! bit, and each bit is stored to at one place, as second drivers are refused before.
 
 ghost use Rattle.std.specs.Prelude.{map, IfOk};
 ghost use Rattle.bb_names.specs.Inside.Checked.{syntax};
@@ -13,13 +13,13 @@ use crate::reading::read_bits;
 use bb_bits::NoMemory;
 use bb_blast::Stored;
 use bb_blast::laws::laws_of_modules;
-use bb_cells::list_laws::{laws_of_cells, lists_are_loose};
 use bb_design::laws::laws_of_designs;
+use bb_implements::list_laws::{laws_of_cells, lists_are_loose};
 use bb_names::Checked;
 use bb_net::Loose;
 use std::alloc::Global;
 
-/// For each bit, in net order, whether it is read.
+/// In net order.
 pub(crate) fn bits_read(
     alloc: Global,
     checked: &Checked,
@@ -34,7 +34,7 @@ pub(crate) fn bits_read(
     laws_of_cells();
     laws_of_modules();
     lists_are_loose();
-    // What is checked comes from a text.
+    // Gives the proof that what was checked comes from a text.
     let _modules = checked.modules();
     read_bits(alloc, list, stored, 2 + list.input_count(), bits as u32)
 }

@@ -1,4 +1,5 @@
-//! The registers of a flat netlist: their texts, edges and clocks. A design is refused where two have one text.
+//! The registers of a flat netlist: names, edges and clocks. A design is refused where two have one name, which escaped
+//! names can spell.
 
 ghost use Rattle.std.specs.Prelude.{◌≡◌, ◌⊎◌, ◌+◌, ◌<◌, ◌^◌, ℕ, List, All, length, map, IfOk, IfErr};
 ghost use Rattle.std.specs.List.{AllZip};
@@ -10,27 +11,26 @@ ghost use Rattle.bb_design.specs.Hierarchy.{Design};
 ghost use Rattle.bb_design.specs.Inside.Allowed.{IsBounded};
 ghost use Rattle.bb_design.specs.NetBits.{top_inputs};
 ghost use Rattle.bb_blast.specs.Inside.Placements.{IsStoredAt, AreStored};
-ghost use Rattle.bb_design.specs.Refusals.{RegisterTexts, AreDrivenOnce, IsAbsent, register_texts};
-ghost use Rattle.bb_design.specs.Laws.CauseLaws.{TellsOf};
+ghost use Rattle.bb_design.specs.Refusals.{RegisterTexts, AreDrivenOnce, IsAbsentInDesign, register_texts};
+ghost use Rattle.bb_design.specs.Laws.CauseLaws.{ReportsCause};
 ghost use Rattle.bb_design.specs.Registers.{RegisterBit, registers, cut_bits};
-ghost use Rattle.bb_elab.specs.Inside.Stages.{HasGrown, AreArranged};
-ghost use Rattle.bb_cells.specs.Stands.{IsRegister};
+ghost use Rattle.bb_elab.specs.Inside.Stages.{IsElaborated, AreLevelized};
+ghost use Rattle.bb_implements.specs.Implements.{IsRegister};
 ghost use Rattle.bb_design.specs.Texts.{bit_text};
 
 use crate::clocks::clock_input;
 use crate::copy_ends::no_ends;
-use crate::growing::Grown;
-use crate::naming::{bit_names, top_outline};
+use crate::elaboration::Elaborated;
+use crate::naming::{bit_names, top_template};
 use crate::repeats::first_repeat;
 use bb_bits::{Name, NoMemory};
 use bb_blast::Stored;
-use bb_cells::list_laws::{laws_of_cells, lists_are_loose};
 use bb_design::ElabFault;
+use bb_implements::list_laws::{laws_of_cells, lists_are_loose};
 use bb_names::Checked;
 use bb_net::{Loose, Reg};
 use std::alloc::Global;
 
-// The numbers of the bits of registers.
 fn stored_numbers(alloc: Global, stored: &[Stored]) -> Result<Vec<u32>, NoMemory>
     ensures numbers { IfOk result (λ numbers. numbers.items ≡ map (λ x. x.bit) stored.now) }
 {
@@ -41,27 +41,26 @@ fn stored_numbers(alloc: Global, stored: &[Stored]) -> Result<Vec<u32>, NoMemory
     Ok(numbers)
 }
 
-/// The texts of the register bits, in net order; no two of them are the same.
+/// In net order; no two of them are the same.
 pub(crate) fn registers_apart(
     alloc: Global,
     checked: &Checked,
-    grown: &Grown,
+    elaborated: &Elaborated,
 ) -> Result<Vec<Name>, ElabFault>
-    requires design { (d : Design) × HasGrown (map syntax checked.now) d grown.now }
-    ensures texts { IfOk result (λ texts. (d : Design) → HasGrown (map syntax checked.now) d grown.now → texts.items ≡ register_texts d) }
-    ensures apart { IfOk result (λ texts. (d : Design) → HasGrown (map syntax checked.now) d grown.now → IsAbsent d RegisterTexts) }
-    ensures fault { IfErr result (λ fault. (fault ≡ out_of_memory) ⊎ ((d : Design) → HasGrown (map syntax checked.now) d grown.now → TellsOf d RegisterTexts fault)) }
+    requires design { (d : Design) × IsElaborated (map syntax checked.now) d elaborated.now }
+    ensures texts { IfOk result (λ texts. (d : Design) → IsElaborated (map syntax checked.now) d elaborated.now → texts.items ≡ register_texts d) }
+    ensures apart { IfOk result (λ texts. (d : Design) → IsElaborated (map syntax checked.now) d elaborated.now → IsAbsentInDesign d RegisterTexts) }
+    ensures fault { IfErr result (λ fault. (fault ≡ out_of_memory) ⊎ ((d : Design) → IsElaborated (map syntax checked.now) d elaborated.now → ReportsCause d RegisterTexts fault)) }
 {
-    let numbers = stored_numbers(alloc, &grown.stored)?;
-    let texts = bit_names(alloc, checked, grown, &numbers)?;
+    let numbers = stored_numbers(alloc, &elaborated.stored)?;
+    let texts = bit_names(alloc, checked, elaborated, &numbers)?;
     match first_repeat(alloc, &texts)? {
         Some(name) => Err(ElabFault::RegTwice { name }),
         None => Ok(texts),
     }
 }
 
-// The register with a text, where the bits of nets stand in the list from a place on, and the inputs of the top are the first so
-// many.
+// `first` is the place of the first bit of a net; the inputs of the top are those below `limit`.
 fn register(
     list: &Loose,
     ends: &mut [Option<u32>],
@@ -73,7 +72,7 @@ fn register(
     requires fits { first + stored.now.clock < 2 ^ 32 }
     requires ends { AreEnds list.now ends.old }
     ensures ends { AreEnds list.now ends.new }
-    ensures register { (d : Design) (net : Netlist) (numbers : List ℕ) → IsBounded d → AreDrivenOnce d → AreArranged d list.now net numbers
+    ensures register { (d : Design) (net : Netlist) (numbers : List ℕ) → IsBounded d → AreDrivenOnce d → AreLevelized d list.now net numbers
         → first ≡ 2 + length (cut_bits d) → limit ≡ length (top_inputs d) → (r : RegisterBit) → IsStoredAt d stored.now r → text ≡ bit_text d r.bit → IsRegister d r result }
 {
     laws_of_cells();
@@ -84,7 +83,7 @@ fn register(
     }
 }
 
-// The registers with these texts, one for each that is stored.
+// All share one list of noted ends, so a chain of assignments on which many clocks hang is followed once.
 fn registers(
     alloc: Global,
     list: &Loose,
@@ -95,7 +94,7 @@ fn registers(
 ) -> Result<Vec<Reg>, NoMemory>
     requires long { length texts.items ≡ length stored.now }
     requires fits { All (λ x. first + x.clock < 2 ^ 32) stored.now }
-    ensures registers { IfOk result (λ regs. (d : Design) (net : Netlist) (numbers : List ℕ) → IsBounded d → AreDrivenOnce d → AreArranged d list.now net numbers
+    ensures registers { IfOk result (λ regs. (d : Design) (net : Netlist) (numbers : List ℕ) → IsBounded d → AreDrivenOnce d → AreLevelized d list.now net numbers
         → first ≡ 2 + length (cut_bits d) → limit ≡ length (top_inputs d) → AreStored d stored.now → texts.items ≡ register_texts d → AllZip (IsRegister d) (registers d) regs.items) }
 {
     let mut ends = no_ends(alloc, list)?;
@@ -107,22 +106,22 @@ fn registers(
     Ok(regs)
 }
 
-/// The registers of a design with their texts.
+/// `texts` has one name for each register bit, in net order.
 pub(crate) fn named_registers(
     alloc: Global,
     checked: &Checked,
-    grown: &Grown,
+    elaborated: &Elaborated,
     list: &Loose,
     texts: Vec<Name>,
 ) -> Result<Vec<Reg>, NoMemory>
-    requires design { (d : Design) × (net : Netlist) × (numbers : List ℕ) × HasGrown (map syntax checked.now) d grown.now × AreArranged d list.now net numbers × (texts.items ≡ register_texts d) }
-    ensures registers { IfOk result (λ regs. (d : Design) (net : Netlist) (numbers : List ℕ) → HasGrown (map syntax checked.now) d grown.now → AreArranged d list.now net numbers
+    requires design { (d : Design) × (net : Netlist) × (numbers : List ℕ) × IsElaborated (map syntax checked.now) d elaborated.now × AreLevelized d list.now net numbers × (texts.items ≡ register_texts d) }
+    ensures registers { IfOk result (λ regs. (d : Design) (net : Netlist) (numbers : List ℕ) → IsElaborated (map syntax checked.now) d elaborated.now → AreLevelized d list.now net numbers
         → texts.items ≡ register_texts d → AllZip (IsRegister d) (registers d) regs.items) }
 {
     laws_of_cells();
     lists_are_loose();
-    let top = top_outline(grown);
+    let top = top_template(elaborated);
     let limit = top.inputs.len() as u32;
     let first = 2 + list.input_count();
-    registers(alloc, list, first, limit, &grown.stored, texts)
+    registers(alloc, list, first, limit, &elaborated.stored, texts)
 }

@@ -1,6 +1,7 @@
-//! The register bits of a design.
+//! The register bits of a design, in net order.
 //!
-//! One pass over all constructs notes for each bit that is stored its clock and edge, and one over the bits puts them in order.
+//! One pass over all constructs notes the clock and the edge of each bit that is stored, and one over the bits collects
+//! them: so they come in order without being sorted.
 
 ghost use Rattle.std.specs.Prelude.{◌≡◌, ◌^◌, ◌<◌, ◌++◌, ◌∷◌, [], List, All, None, length, replicate, IfOk};
 ghost use Rattle.std.specs.List.{filter_map, flat_map};
@@ -8,16 +9,17 @@ ghost use Rattle.bb_blast.specs.declared.stored.Stored.{Stored};
 ghost use Rattle.bb_design.specs.Hierarchy.{Design};
 ghost use Rattle.bb_design.specs.Inside.Allowed.{IsBounded};
 ghost use Rattle.bb_design.specs.NetBits.{net_order};
-ghost use Rattle.bb_blast.specs.Inside.Placements.{ArePlaced, AreOutlined, AreStored};
+ghost use Rattle.bb_blast.specs.Inside.Placements.{ArePlaced, AreTemplated, AreStored};
 ghost use Rattle.bb_elab.specs.Inside.StoredNumbers.{stored_from, part_stored, scope_stored, IsStorable, MayBeNoted, AreNotes};
 
 use bb_bits::NoMemory;
-use bb_blast::{Outline, Part, Placed, Stored};
+use bb_blast::{ModuleTemplate, Part, Placed, Stored};
 use bb_design::laws::laws_of_designs;
 use bb_expr::laws::net_names_differ;
 use std::alloc::Global;
 
-// Notes a register bit, unless the bit is noted already.
+// The first place that stores to a bit counts, as in the definition; a second one is a second driver, which is refused
+// before.
 fn note(notes: &mut [Option<Stored>], stored: Stored)
     requires there { stored.bit < length notes.old }
     ensures noted { (all : List Stored) → AreNotes all notes.old → AreNotes (all ++ stored ∷ []) notes.new }
@@ -28,7 +30,6 @@ fn note(notes: &mut [Option<Stored>], stored: Stored)
     }
 }
 
-// Notes these bits of the scope whose first bit has that number.
 fn note_bits(notes: &mut [Option<Stored>], first: u32, left: &[u32], clock: u32, falling: bool)
     requires few { length notes.old < 2 ^ 32 }
     requires there { All (IsStorable (length notes.old)) (stored_from first left.now clock falling) }
@@ -46,7 +47,6 @@ fn note_bits(notes: &mut [Option<Stored>], first: u32, left: &[u32], clock: u32,
     }
 }
 
-// Notes the bits that a construct of a scope stores.
 fn note_part(notes: &mut [Option<Stored>], scope: &Placed, part: &Part)
     requires few { length notes.old < 2 ^ 32 }
     requires there { All (IsStorable (length notes.old)) (part_stored scope.now part.now) }
@@ -63,7 +63,6 @@ fn note_part(notes: &mut [Option<Stored>], scope: &Placed, part: &Part)
     }
 }
 
-// Notes the bits that constructs of a scope store.
 fn note_parts(notes: &mut [Option<Stored>], scope: &Placed, parts: &[Part])
     requires few { length notes.old < 2 ^ 32 }
     requires there { All (IsStorable (length notes.old)) (flat_map (part_stored scope.now) parts.now) }
@@ -74,29 +73,26 @@ fn note_parts(notes: &mut [Option<Stored>], scope: &Placed, parts: &[Part])
     }
 }
 
-// Notes the bits that a scope stores.
-fn note_scope(notes: &mut [Option<Stored>], outlines: &[Outline], scope: &Placed)
+fn note_scope(notes: &mut [Option<Stored>], templates: &[ModuleTemplate], scope: &Placed)
     requires few { length notes.old < 2 ^ 32 }
-    requires there { MayBeNoted outlines.now (length notes.old) scope.now }
-    ensures noted { (all : List Stored) → AreNotes all notes.old → AreNotes (all ++ scope_stored outlines.now scope.now) notes.new }
+    requires there { MayBeNoted templates.now (length notes.old) scope.now }
+    ensures noted { (all : List Stored) → AreNotes all notes.old → AreNotes (all ++ scope_stored templates.now scope.now) notes.new }
 {
     if !scope.boxed {
-        note_parts(notes, scope, &outlines[scope.module].parts);
+        note_parts(notes, scope, &templates[scope.module].parts);
     }
 }
 
-// Notes the bits that all scopes store.
-fn note_scopes(notes: &mut [Option<Stored>], placed: &[Placed], outlines: &[Outline])
+fn note_scopes(notes: &mut [Option<Stored>], placed: &[Placed], templates: &[ModuleTemplate])
     requires few { length notes.old < 2 ^ 32 }
-    requires there { All (MayBeNoted outlines.now (length notes.old)) placed.now }
-    ensures noted { (all : List Stored) → AreNotes all notes.old → AreNotes (all ++ flat_map (scope_stored outlines.now) placed.now) notes.new }
+    requires there { All (MayBeNoted templates.now (length notes.old)) placed.now }
+    ensures noted { (all : List Stored) → AreNotes all notes.old → AreNotes (all ++ flat_map (scope_stored templates.now) placed.now) notes.new }
 {
     for scope in placed {
-        note_scope(notes, outlines, scope);
+        note_scope(notes, templates, scope);
     }
 }
 
-// So many places without a note.
 fn no_notes(alloc: Global, bits: usize) -> Result<Vec<Option<Stored>>, NoMemory>
     ensures none { IfOk result (λ notes. notes.items ≡ replicate bits None) }
     ensures long { IfOk result (λ notes. length notes.items ≡ bits) }
@@ -108,7 +104,6 @@ fn no_notes(alloc: Global, bits: usize) -> Result<Vec<Option<Stored>>, NoMemory>
     Ok(notes)
 }
 
-// What is noted, in order.
 fn noted(alloc: Global, notes: &[Option<Stored>]) -> Result<Vec<Stored>, NoMemory>
     ensures noted { IfOk result (λ all. all.items ≡ filter_map (λ note. note) notes.now) }
 {
@@ -121,19 +116,19 @@ fn noted(alloc: Global, notes: &[Option<Stored>]) -> Result<Vec<Stored>, NoMemor
     Ok(all)
 }
 
-/// The register bits of a design, in net order.
+/// In net order.
 pub(crate) fn stored_bits(
     alloc: Global,
     placed: &[Placed],
-    outlines: &[Outline],
+    templates: &[ModuleTemplate],
     bits: usize,
 ) -> Result<Vec<Stored>, NoMemory>
-    requires design { (d : Design) × ArePlaced d placed.now × AreOutlined d placed.now outlines.now × IsBounded d × (bits ≡ length (net_order d)) }
-    ensures stored { IfOk result (λ all. (d : Design) → ArePlaced d placed.now → AreOutlined d placed.now outlines.now → IsBounded d → bits ≡ length (net_order d) → AreStored d all.items) }
+    requires design { (d : Design) × ArePlaced d placed.now × AreTemplated d placed.now templates.now × IsBounded d × (bits ≡ length (net_order d)) }
+    ensures stored { IfOk result (λ all. (d : Design) → ArePlaced d placed.now → AreTemplated d placed.now templates.now → IsBounded d → bits ≡ length (net_order d) → AreStored d all.items) }
 {
     laws_of_designs();
     net_names_differ();
     let mut notes = no_notes(alloc, bits)?;
-    note_scopes(&mut notes, placed, outlines);
+    note_scopes(&mut notes, placed, templates);
     noted(alloc, &notes)
 }

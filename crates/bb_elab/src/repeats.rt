@@ -1,4 +1,4 @@
-//! The first text of a list that stands there already.
+//! Repeated names, by one pass with a set: the report is the first name that occurred before.
 
 ghost use Rattle.std.specs.Prelude.{◌≢◌, AllPairs, IfNone, IfOk, IfSome};
 ghost use Rattle.bb_bits.specs.Closures.{IsFirstRepeat};
@@ -7,7 +7,7 @@ use bb_bits::{Name, NoMemory};
 use indexmap::IndexSet;
 use std::alloc::Global;
 
-/// The first text that stands in the list already, if there is one.
+/// The second occurrence decides which name is first: of `a b b a` it is `b`.
 pub(crate) fn first_repeat(alloc: Global, names: &[Name]) -> Result<Option<Name>, NoMemory>
     ensures some { IfOk result (λ found. IfSome found (λ n. IsFirstRepeat names.now n)) }
     ensures none { IfOk result (λ found. IfNone found (AllPairs ◌≢◌ names.now)) }

@@ -1,6 +1,8 @@
-//! The texts by which scopes and bits are called.
+//! The names of scopes and bits: instance names from the top down, joined by dots, and the index of a bit where its net
+//! has a range.
 //!
-//! A path is told from its end upwards, since a scope knows the scope in which it stands.
+//! A path is read off from its end upwards, since a scope knows only the scope that contains it. So recursion writes
+//! the outer names first; it goes as deep as the hierarchy, whose levels are bounded before.
 
 ghost use Rattle.std.specs.Prelude.{◌≡◌, ◌<◌, ◌++◌, Some, decimal, length, map, slice_get, IfOk, OnOk};
 ghost use Rattle.bb_names.specs.Inside.Checked.{module_facts, syntax, IsChecked};
@@ -9,19 +11,18 @@ ghost use Rattle.bb_blast.specs.declared.placed.Placed.{Placed};
 ghost use Rattle.bb_design.specs.Hierarchy.{Path, Design, Scope};
 ghost use Rattle.bb_design.specs.NetBits.{Bit, net_order};
 ghost use Rattle.bb_elab.specs.Inside.PlacedPaths.{IsPathAt, AreRooted};
-ghost use Rattle.bb_blast.specs.Inside.Placements.{IsScopeAt, ArePlaced, AreOutlined};
+ghost use Rattle.bb_blast.specs.Inside.Placements.{IsScopeAt, ArePlaced, AreTemplated};
 ghost use Rattle.bb_design.specs.Texts.{path_prefix, path_text, index_text, net_bit_text, bit_text, pin_text};
 
 use crate::bit_places::{net_of_bit, scope_of_bit};
 use bb_ast::Range;
 use bb_bits::{Name, NoMemory};
 use bb_blast::laws::laws_of_modules;
-use bb_blast::{Outline, Placed};
+use bb_blast::{ModuleTemplate, Placed};
 use bb_design::laws::laws_of_designs;
 use bb_names::{Checked, CheckedModule, NetInfo};
 use std::alloc::Global;
 
-// Puts what stands before the names of the nets of a scope behind a text. Recursion goes as deep as the scope stands.
 #[cycle(prefix)]
 fn add_prefix(placed: &[Placed], scope: usize, text: &mut Vec<u8>) -> Result<(), NoMemory>
     requires rooted { AreRooted placed.now }
@@ -38,7 +39,6 @@ fn add_prefix(placed: &[Placed], scope: usize, text: &mut Vec<u8>) -> Result<(),
     Ok(())
 }
 
-// Puts the path of a scope behind a text.
 fn add_path(placed: &[Placed], scope: usize, text: &mut Vec<u8>) -> Result<(), NoMemory>
     requires rooted { AreRooted placed.now }
     requires there { scope < length placed.now }
@@ -53,7 +53,7 @@ fn add_path(placed: &[Placed], scope: usize, text: &mut Vec<u8>) -> Result<(), N
     Ok(())
 }
 
-/// The text of the path of a scope.
+/// Without a dot at the end; empty for the top.
 pub(crate) fn path_name(alloc: Global, placed: &[Placed], scope: u32) -> Result<Name, NoMemory>
     requires design { (d : Design) × ArePlaced d placed.now }
     requires there { scope < length placed.now }
@@ -64,7 +64,6 @@ pub(crate) fn path_name(alloc: Global, placed: &[Placed], scope: u32) -> Result<
     Name::of(alloc, &text)
 }
 
-// Puts a number as decimal digits behind a text.
 fn add_number(alloc: Global, number: u32, text: &mut Vec<u8>) -> Result<(), NoMemory>
     ensures digits { OnOk result (text.new.items ≡ text.old.items ++ decimal number) }
 {
@@ -73,7 +72,7 @@ fn add_number(alloc: Global, number: u32, text: &mut Vec<u8>) -> Result<(), NoMe
     Ok(())
 }
 
-// Puts the index of the bit at a place of a net behind a text, where the net has a range.
+// The leftmost bit is at place 0, in ranges of either direction; a net without a range has no index.
 fn add_index(
     alloc: Global,
     range: Option<Range>,
@@ -96,7 +95,6 @@ fn add_index(
     Ok(())
 }
 
-// Puts the name of a net with the index of one of its bits behind a text.
 fn add_net_bit(alloc: Global, net: &NetInfo, place: u32, text: &mut Vec<u8>) -> Result<(), NoMemory>
     requires within { place < range_width net.now.range }
     ensures bit { OnOk result (text.new.items ≡ text.old.items ++ net_bit_text net.now.name net.now.range place) }
@@ -105,7 +103,6 @@ fn add_net_bit(alloc: Global, net: &NetInfo, place: u32, text: &mut Vec<u8>) -> 
     add_index(alloc, net.range, place, text)
 }
 
-// The module at a place.
 fn scope_of_module(checked: &Checked, module: usize) -> &CheckedModule
     requires there { «module» < length checked.now }
     ensures there { slice_get checked.now «module» ≡ Some (module_facts result.now) }
@@ -114,7 +111,6 @@ fn scope_of_module(checked: &Checked, module: usize) -> &CheckedModule
     &checked.modules()[module]
 }
 
-/// The name of the module of a scope.
 pub(crate) fn module_name(
     alloc: Global,
     checked: &Checked,
@@ -132,25 +128,23 @@ pub(crate) fn module_name(
     Name::of(alloc, module.module.name.bytes())
 }
 
-// The outline of the module at a place.
-fn outline_of_module(outlines: &[Outline], module: usize) -> &Outline
-    requires there { «module» < length outlines.now }
-    ensures there { slice_get outlines.now «module» ≡ Some result.now }
+fn template_of_module(templates: &[ModuleTemplate], module: usize) -> &ModuleTemplate
+    requires there { «module» < length templates.now }
+    ensures there { slice_get templates.now «module» ≡ Some result.now }
 {
-    &outlines[module]
+    &templates[module]
 }
 
-// Puts the text of a bit without its path behind a text.
 fn add_pin(
     alloc: Global,
     checked: &Checked,
     placed: &[Placed],
-    outlines: &[Outline],
+    templates: &[ModuleTemplate],
     number: u32,
     text: &mut Vec<u8>,
 ) -> Result<(), NoMemory>
-    requires design { (d : Design) × (d.text ≡ map syntax checked.now) × ArePlaced d placed.now × AreOutlined d placed.now outlines.now × (number < length (net_order d)) }
-    ensures pin { (d : Design) → d.text ≡ map syntax checked.now → ArePlaced d placed.now → AreOutlined d placed.now outlines.now
+    requires design { (d : Design) × (d.text ≡ map syntax checked.now) × ArePlaced d placed.now × AreTemplated d placed.now templates.now × (number < length (net_order d)) }
+    ensures pin { (d : Design) → d.text ≡ map syntax checked.now → ArePlaced d placed.now → AreTemplated d placed.now templates.now
         → (b : Bit) → slice_get (net_order d) number ≡ Some b → OnOk result (text.new.items ≡ text.old.items ++ pin_text d b) }
 {
     laws_of_designs();
@@ -158,46 +152,46 @@ fn add_pin(
     let scope = scope_of_bit(placed, number);
     let at = &placed[scope];
     let module = scope_of_module(checked, at.module);
-    let outline = outline_of_module(outlines, at.module);
+    let template = template_of_module(templates, at.module);
     let local = number - at.first;
-    let k = net_of_bit(&module.nets, &outline.starts, local);
+    let k = net_of_bit(&module.nets, &template.starts, local);
     let net = &module.nets[k];
-    let place = local - outline.starts[k];
+    let place = local - template.starts[k];
     add_net_bit(alloc, net, place, text)
 }
 
-/// The text of the bit with a number.
+/// With the path of its scope.
 pub(crate) fn bit_name(
     alloc: Global,
     checked: &Checked,
     placed: &[Placed],
-    outlines: &[Outline],
+    templates: &[ModuleTemplate],
     number: u32,
 ) -> Result<Name, NoMemory>
-    requires design { (d : Design) × (d.text ≡ map syntax checked.now) × ArePlaced d placed.now × AreOutlined d placed.now outlines.now × (number < length (net_order d)) }
-    ensures name { IfOk result (λ n. (d : Design) → d.text ≡ map syntax checked.now → ArePlaced d placed.now → AreOutlined d placed.now outlines.now
+    requires design { (d : Design) × (d.text ≡ map syntax checked.now) × ArePlaced d placed.now × AreTemplated d placed.now templates.now × (number < length (net_order d)) }
+    ensures name { IfOk result (λ n. (d : Design) → d.text ≡ map syntax checked.now → ArePlaced d placed.now → AreTemplated d placed.now templates.now
         → (b : Bit) → slice_get (net_order d) number ≡ Some b → n ≡ bit_text d b) }
 {
     let scope = scope_of_bit(placed, number);
     let mut text = Vec::new(alloc);
     add_prefix(placed, scope, &mut text)?;
-    add_pin(alloc, checked, placed, outlines, number, &mut text)?;
+    add_pin(alloc, checked, placed, templates, number, &mut text)?;
     Name::of(alloc, &text)
 }
 
-/// The text of a pin of a box: that of the bit with a number, without its path.
+/// A pin goes by its name in the module, so boxes of one module have pins of the same names.
 pub(crate) fn pin_name(
     alloc: Global,
     checked: &Checked,
     placed: &[Placed],
-    outlines: &[Outline],
+    templates: &[ModuleTemplate],
     number: u32,
 ) -> Result<Name, NoMemory>
-    requires design { (d : Design) × (d.text ≡ map syntax checked.now) × ArePlaced d placed.now × AreOutlined d placed.now outlines.now × (number < length (net_order d)) }
-    ensures name { IfOk result (λ n. (d : Design) → d.text ≡ map syntax checked.now → ArePlaced d placed.now → AreOutlined d placed.now outlines.now
+    requires design { (d : Design) × (d.text ≡ map syntax checked.now) × ArePlaced d placed.now × AreTemplated d placed.now templates.now × (number < length (net_order d)) }
+    ensures name { IfOk result (λ n. (d : Design) → d.text ≡ map syntax checked.now → ArePlaced d placed.now → AreTemplated d placed.now templates.now
         → (b : Bit) → slice_get (net_order d) number ≡ Some b → n ≡ pin_text d b) }
 {
     let mut text = Vec::new(alloc);
-    add_pin(alloc, checked, placed, outlines, number, &mut text)?;
+    add_pin(alloc, checked, placed, templates, number, &mut text)?;
     Name::of(alloc, &text)
 }

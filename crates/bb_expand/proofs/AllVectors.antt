@@ -3,7 +3,7 @@ use Rattle.std.proofs.Common.{◌≡◌, ◌<◌, ◌^◌, List, [], length, All
 use Rattle.std.proofs.lemmas.List.FromFn.{length-map-range_with_len, get_or-map-range_with_len}
 use Rattle.bb_bits.specs.Numbers.{number_of, bits_of}
 use Rattle.bb_bits.specs.Tables.{TableBits}
-use Rattle.bb_net.specs.Agreement.{AllRight, TablesAgree}
+use Rattle.bb_net.specs.Equivalence.{AllRight, TablesMakeEquivalent}
 use Rattle.bb_net.specs.Netlists.{Netlist}
 use Rattle.bb_net.specs.Values.{flat_with}
 use Rattle.bb_expand.specs.Expansions.{all_vectors}
@@ -11,13 +11,13 @@ use Rattle.bb_expand.specs.Laws.{VectorsRise, VectorsAreAll}
 use Rattle.bb_expand.specs.Inside.LawsBelow.{Numbering}
 use Rattle.bb_expand.proofs.Pieces.{each_holds, all_hold}
 
-pub agree_from_all : Numbering → (spec imp : Netlist) (tables : List TableBits) → All (λ x. AllRight spec imp x (flat_with imp x tables)) (all_vectors imp.inputs) → TablesAgree spec imp tables
+pub agree_from_all : Numbering → (spec imp : Netlist) (tables : List TableBits) → All (λ x. AllRight spec imp x (flat_with imp x tables)) (all_vectors imp.inputs) → TablesMakeEquivalent spec imp tables
 agree_from_all numbering spec imp tables all x is =
     let below : number_of x < 2 ^ imp.inputs = subst (λ n. number_of x < 2 ^ n) is (numbering.below x) in
     let same : bits_of imp.inputs (number_of x) ≡ x = subst (λ n. bits_of n (number_of x) ≡ x) is (numbering.once x) in
     subst (λ y. AllRight spec imp y (flat_with imp y tables)) same (each_holds (λ y. AllRight spec imp y (flat_with imp y tables)) (bits_of imp.inputs) (2 ^ imp.inputs) all (number_of x) below)
 
-pub all_from_agree : Numbering → (spec imp : Netlist) (tables : List TableBits) → TablesAgree spec imp tables → All (λ x. AllRight spec imp x (flat_with imp x tables)) (all_vectors imp.inputs)
+pub all_from_agree : Numbering → (spec imp : Netlist) (tables : List TableBits) → TablesMakeEquivalent spec imp tables → All (λ x. AllRight spec imp x (flat_with imp x tables)) (all_vectors imp.inputs)
 all_from_agree numbering spec imp tables agree = all_hold (λ y. AllRight spec imp y (flat_with imp y tables)) (bits_of imp.inputs) (2 ^ imp.inputs) (λ k h. agree (bits_of imp.inputs k) (numbering.width imp.inputs k))
 
 pub vectors_rise : Numbering → VectorsRise

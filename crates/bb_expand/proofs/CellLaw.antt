@@ -6,7 +6,7 @@ use Rattle.std.proofs.lemmas.Bool.{cases_Bool}
 use Rattle.std.proofs.lemmas.List.{length-map}
 use Rattle.std.proofs.lemmas.List.Elements.{All-nil, All-cons, All-head}
 use Rattle.std.proofs.lemmas.List.Folds.{list_any-append}
-use Rattle.bb_lists.proofs.Bits.{or_right}
+use Rattle.bb_lemmas.proofs.Bits.{or_right}
 use Rattle.bb_bits.specs.Numbers.{number_of, bits_of}
 use Rattle.bb_net.specs.declared.cell.Cell.TheVariants.{Const, Input, Not, And, Or, Xor, Mux, BoxOut}
 use Rattle.bb_net.specs.Kinds.{shown}
@@ -20,7 +20,7 @@ use Rattle.bb_expand.specs.Expansions.{having, differing, row_clauses, cell_clau
 use Rattle.bb_expand.specs.Inside.LawsBelow.{Numbering}
 use Rattle.bb_expand.specs.Laws.{CellClausesSayGate}
 use Rattle.bb_expand.proofs.Pieces.{pieces_hold, piece_holds}
-use Rattle.bb_expand.proofs.Tested.{clause_bit, all_bits, satisfies_from, bits_from, same, same_is, is_same, unit_says, not_bits, and_bits, or_bits, xor_bits, mux_bits}
+use Rattle.bb_expand.proofs.Tested.{clause_bit, all_bits, satisfies_from, bits_from, same, same_is, is_same, unit_reports, not_bits, and_bits, or_bits, xor_bits, mux_bits}
 
 -- from the bits to the law
 by_bits : (v : ℕ → Bool) (clauses : List (List Lit)) (y g : Bool) → all_bits v clauses ≡ same y g → Satisfies v clauses ↔ (y ≡ g)
@@ -28,8 +28,8 @@ by_bits v clauses y g e = (λ all. same_is y g (sym e ∙ bits_from v clauses al
 
 unit_law : (v : ℕ → Bool) (y : ℕ) (b : Bool) → Satisfies v ((having y b ∷ []) ∷ []) ↔ (v y ≡ b)
 unit_law v y b =
-    let says = unit_says v y b in
-    (λ all. says.0 (All-head (IsTrueClause v) (having y b ∷ []) [] all), λ is. All-cons (IsTrueClause v) (having y b ∷ []) [] (says.1 is) (All-nil (IsTrueClause v)))
+    let reports = unit_reports v y b in
+    (λ all. reports.0 (All-head (IsTrueClause v) (having y b ∷ []) [] all), λ is. All-cons (IsTrueClause v) (having y b ∷ []) [] (reports.1 is) (All-nil (IsTrueClause v)))
 
 -- the literal that differs from a bit is true where the bits are not the same
 other_bit : (a b : Bool) → (if not (not b) then not a else a) ≡ not (same a b)
@@ -72,8 +72,8 @@ row_bits : (v : ℕ → Bool) (lits : List Lit) (y t : ℕ) → all_bits v ((lit
 row_bits v lits y t = rw (list_any-append (truth.literal_bit v) lits (negated y ∷ positive t ∷ []), list_any-append (truth.literal_bit v) lits (positive y ∷ negated t ∷ [])) refl
 
 -- a row says something where the pins have its bits
-row_says : (v : ℕ → Bool) (var : ℕ → ℕ) (pins : List ℕ) (y t : ℕ) (row : List Bool) → length row ≡ length pins → Satisfies v (row_clauses var pins y row t) ↔ (map (λ p. v (var p)) pins ≡ row → v y ≡ v t)
-row_says v var pins y t row e = elim (differs v var pins row e) [
+row_reports : (v : ℕ → Bool) (var : ℕ → ℕ) (pins : List ℕ) (y t : ℕ) (row : List Bool) → length row ≡ length pins → Satisfies v (row_clauses var pins y row t) ↔ (map (λ p. v (var p)) pins ≡ row → v y ≡ v t)
+row_reports v var pins y t row e = elim (differs v var pins row e) [
   | inl like ↦
       let bits = row_bits v (differing var pins row) y t ∙ row_bit (clause_bit v (differing var pins row)) (v y) (v t) like.0 in
       let law = by_bits v (row_clauses var pins y row t) (v y) (v t) bits in
@@ -91,10 +91,10 @@ rows_say numbering v var pins y t =
     let wide : length values ≡ length pins = length-map pins (λ p. v (var p)) in
     let below : number_of values < 2 ^ length pins = subst (λ n. number_of values < 2 ^ n) wide (numbering.below values) in
     let here : values ≡ bits_of (length pins) (number_of values) = sym (subst (λ n. bits_of n (number_of values) ≡ values) wide (numbering.once values)) in (
-      λ all. (row_says v var pins y (t (number_of values)) (bits_of (length pins) (number_of values)) (numbering.width (length pins) (number_of values))).0
+      λ all. (row_reports v var pins y (t (number_of values)) (bits_of (length pins) (number_of values)) (numbering.width (length pins) (number_of values))).0
           (piece_holds (IsTrueClause v) (λ row. row_clauses var pins y (bits_of (length pins) row) (t row)) (2 ^ length pins) all (number_of values) below) here,
       λ is. pieces_hold (IsTrueClause v) (λ row. row_clauses var pins y (bits_of (length pins) row) (t row)) (2 ^ length pins)
-          (λ row h. (row_says v var pins y (t row) (bits_of (length pins) row) (numbering.width (length pins) row)).1
+          (λ row h. (row_reports v var pins y (t row) (bits_of (length pins) row) (numbering.width (length pins) row)).1
           (λ like. is ∙ ap (λ n. v (t n)) (ap number_of like ∙ numbering.spelled (length pins) row h))),
     )
 

@@ -10,7 +10,7 @@ use Rattle.bb_net.specs.declared.cell.Cell.{Cell}
 use Rattle.bb_net.specs.declared.cell.Cell.TheVariants.{Const, Input, Not, And, Or, Xor, Mux, BoxOut}
 use Rattle.bb_net.specs.Kinds.{shown}
 use Rattle.bb_net.specs.Netlists.{Netlist, Pins, cell_at, box_at}
-use Rattle.bb_net.specs.Agreement.{wanted_bit}
+use Rattle.bb_net.specs.Equivalence.{wanted_bit}
 use Rattle.bb_expand.specs.ClauseCounts.{cell_clause_count, clauses_per_vector}
 use Rattle.bb_expand.specs.Expansions.{having, row_clauses, cell_clauses, cell_variable, cells_clauses, output_clauses, vector_clauses, table_variable}
 use Rattle.bb_expand.specs.Laws.{ClausesAreCounted}

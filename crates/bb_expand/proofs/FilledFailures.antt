@@ -4,10 +4,10 @@ use Rattle.std.specs.Prelude.{IfSome, IfNone, vec_items}
 use Rattle.std.proofs.lemmas.List.{length-map}
 use Rattle.std.proofs.lemmas.List.Elements.{All-nil, All-cons}
 use Rattle.bb_bits.specs.Tables.{TableBits}
-use Rattle.bb_filled.specs.Filled.{IsFilled}
-use Rattle.bb_filled.specs.Laws.FilledLaws.{FilledAreRight, FilledAreWrong}
+use Rattle.bb_subst.specs.Filled.{IsFilled}
+use Rattle.bb_subst.specs.Laws.FilledLaws.{FilledAreRight, FilledAreWrong}
 use Rattle.bb_miter.specs.Inside.Equivalence.{AreComparable, AreEquivalent, DiffersAt}
-use Rattle.bb_net.specs.Agreement.{TablesAgree}
+use Rattle.bb_net.specs.Equivalence.{TablesMakeEquivalent}
 use Rattle.bb_net.specs.Netlists.{Netlist, IsNetlist}
 use Rattle.bb_net.specs.Pairs.{NetPair, IsPair}
 use Rattle.bb_net.specs.Values.{FitBoxes}
@@ -15,8 +15,8 @@ use Rattle.bb_expand.specs.Inside.Failures.{AreDistinctWith, FailsAt}
 
 pub filled_comparable : (pair : NetPair) (filled : Netlist) (tables : List TableBits) (at : ℕ → ℕ) → IsPair pair → IsFilled pair.imp tables filled at → AreComparable pair.spec filled
 filled_comparable pair filled tables at kept is = record {
-  inputs = kept.beside.inputs ∙ sym is.stands.inputs;
-  few = omega (arith, is.stands.inputs, kept.small.pins);
+  inputs = kept.beside.inputs ∙ sym is.occurs.inputs;
+  few = omega (arith, is.occurs.inputs, kept.small.pins);
   outputs = kept.beside.outputs ∙ sym (ap length is.outs ∙ length-map pair.imp.outs at);
   spec_boxes = kept.beside.no_box;
   imp_boxes = is.boxes;
@@ -30,10 +30,10 @@ distinct_one P x holds = record { each = All-cons P x [] holds (All-nil P); dist
 
 module _ (spec imp filled : Netlist) (tables : List TableBits) (at : ℕ → ℕ) (kept : IsNetlist imp) (new : IsNetlist filled) (fit : FitBoxes tables imp.boxes) (is : IsFilled imp tables filled at) where
   pub fails_where_differs : FilledAreWrong → (x : List Bool) → DiffersAt spec filled x → FailsAt spec imp tables x
-  fails_where_differs wrong x differs = (differs.0 ∙ is.stands.inputs, (wrong spec imp filled tables at kept new fit is x).0 differs.1)
+  fails_where_differs wrong x differs = (differs.0 ∙ is.occurs.inputs, (wrong spec imp filled tables at kept new fit is x).0 differs.1)
 
-  pub agree_if_equivalent : FilledAreRight → AreEquivalent spec filled → TablesAgree spec imp tables
-  agree_if_equivalent right same x wide = (right spec imp filled tables at kept new fit is x).0 (same x (wide ∙ sym is.stands.inputs))
+  pub agree_if_equivalent : FilledAreRight → AreEquivalent spec filled → TablesMakeEquivalent spec imp tables
+  agree_if_equivalent right same x wide = (right spec imp filled tables at kept new fit is x).0 (same x (wide ∙ sym is.occurs.inputs))
 
 -- the list of the vector that was found, or of none
 pub found_list : (P : List Bool → Type 0) (found : Option (Vec Bool Global)) (vectors : List (Vec Bool Global)) → IfSome found (λ x. P x.items) → IfSome found (λ x. map vec_items vectors ≡ x.items ∷ []) → IfNone found (vectors ≡ [])

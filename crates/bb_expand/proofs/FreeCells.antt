@@ -21,25 +21,25 @@ equal_bits true false = refl
 equal_bits false true = refl
 equal_bits false false = refl
 
-equal_says : (v : ℕ → Bool) (y z : ℕ) → Satisfies v (equal_clauses y z) ↔ (v y ≡ v z)
-equal_says v y z = (
+equal_reports : (v : ℕ → Bool) (y z : ℕ) → Satisfies v (equal_clauses y z) ↔ (v y ≡ v z)
+equal_reports v y z = (
   λ all. same_is (v y) (v z) (sym (equal_bits (v y) (v z)) ∙ bits_from v (equal_clauses y z) all),
   λ is. satisfies_from v (equal_clauses y z) (equal_bits (v y) (v z) ∙ is_same (v y) (v z) is),
 )
 
 -- one cell, where the inputs have the bits of their variables
-cell_says : CellClausesSayGate → (x : List Bool) (boxes : List Pins) (box : ℕ → ℕ → List Bool → Bool) (var : ℕ → ℕ) (y : ℕ) (v : ℕ → Bool) (cell : Cell) → ((b p : ℕ) → cell ≡ BoxOut b p → ⊥)
+cell_reports : CellClausesSayGate → (x : List Bool) (boxes : List Pins) (box : ℕ → ℕ → List Bool → Bool) (var : ℕ → ℕ) (y : ℕ) (v : ℕ → Bool) (cell : Cell) → ((b p : ℕ) → cell ≡ BoxOut b p → ⊥)
     → ((i : ℕ) → cell ≡ Input i → bit_of x i ≡ v (i + 1)) → Satisfies v (free_cell_clauses var y cell) ↔ (v y ≡ gate boxes x box (λ k. v (var k)) cell)
-cell_says law x boxes box var y v (Input i) none input =
-    let says = equal_says v y (i + 1) in
-    (λ all. says.0 all ∙ sym (input i refl), λ is. says.1 (is ∙ input i refl))
-cell_says law x boxes box var y v (BoxOut b p) none input = absurd (none b p refl)
-cell_says law x boxes box var y v (Const b) none input = law [] [] [] var y (Const b) v
-cell_says law x boxes box var y v (Not a) none input = law [] [] [] var y (Not a) v
-cell_says law x boxes box var y v (And a b) none input = law [] [] [] var y (And a b) v
-cell_says law x boxes box var y v (Or a b) none input = law [] [] [] var y (Or a b) v
-cell_says law x boxes box var y v (Xor a b) none input = law [] [] [] var y (Xor a b) v
-cell_says law x boxes box var y v (Mux c t e) none input = law [] [] [] var y (Mux c t e) v
+cell_reports law x boxes box var y v (Input i) none input =
+    let reports = equal_reports v y (i + 1) in
+    (λ all. reports.0 all ∙ sym (input i refl), λ is. reports.1 (is ∙ input i refl))
+cell_reports law x boxes box var y v (BoxOut b p) none input = absurd (none b p refl)
+cell_reports law x boxes box var y v (Const b) none input = law [] [] [] var y (Const b) v
+cell_reports law x boxes box var y v (Not a) none input = law [] [] [] var y (Not a) v
+cell_reports law x boxes box var y v (And a b) none input = law [] [] [] var y (And a b) v
+cell_reports law x boxes box var y v (Or a b) none input = law [] [] [] var y (Or a b) v
+cell_reports law x boxes box var y v (Xor a b) none input = law [] [] [] var y (Xor a b) v
+cell_reports law x boxes box var y v (Mux c t e) none input = law [] [] [] var y (Mux c t e) v
 
 pub no_box : (net : Netlist) → IsNetlist net → net.boxes ≡ [] → (place b p : ℕ) → place < length net.cells → cell_at net.cells place ≡ BoxOut b p → ⊥
 no_box net kept none place b p h is =
@@ -57,8 +57,8 @@ module _ (law : CellClausesSayGate) (exists : ValueExists) (unique : ValueIsUniq
   abbrev box : ℕ → ℕ → List Bool → Bool
   box = free_bit net.boxes []
 
-  says : (place : ℕ) → place < length net.cells → Satisfies v (free_cell_clauses var (var place) (cell_at net.cells place)) ↔ (v (var place) ≡ gate net.boxes x box (λ k. v (var k)) (cell_at net.cells place))
-  says place h = cell_says law x net.boxes box var (var place) v (cell_at net.cells place) (λ b p is. no_box net kept none place b p h is) (λ i is. inputs i (input_there net kept place i h is))
+  reports : (place : ℕ) → place < length net.cells → Satisfies v (free_cell_clauses var (var place) (cell_at net.cells place)) ↔ (v (var place) ≡ gate net.boxes x box (λ k. v (var k)) (cell_at net.cells place))
+  reports place h = cell_reports law x net.boxes box var (var place) v (cell_at net.cells place) (λ b p is. no_box net kept none place b p h is) (λ i is. inputs i (input_there net kept place i h is))
 
   abbrev cell_bits : List Bool
   cell_bits = map (λ q. v (var q)) (range_with_len 0 (length net.cells))
@@ -71,7 +71,7 @@ module _ (law : CellClausesSayGate) (exists : ValueExists) (unique : ValueIsUniq
     whole = length-map-range_with_len (λ q. v (var q)) 0 (length net.cells);
     each = λ place h.
         bit_is place h
-        ∙ (says place h).0 (piece_holds (IsTrueClause v) (λ q. free_cell_clauses var (var q) (cell_at net.cells q)) (length net.cells) all place h)
+        ∙ (reports place h).0 (piece_holds (IsTrueClause v) (λ q. free_cell_clauses var (var q) (cell_at net.cells q)) (length net.cells) all place h)
         ∙ gate_same net.inputs net.boxes x box box (λ k. v (var k)) (bit_of cell_bits) place (cell_at net.cells place) (kept.ordered place h)
         (λ k below. sym (bit_is k (omega (arith, below, h)))) (λ b p is. absurd (no_box net kept none place b p h is));
   }
@@ -81,7 +81,7 @@ module _ (law : CellClausesSayGate) (exists : ValueExists) (unique : ValueIsUniq
 
   pub cells_true : ((q : ℕ) → q < length net.cells → v (base + q + 1) ≡ bit_of (flat net x []) q) → Satisfies v (cells_after base net.cells)
   cells_true are = pieces_hold (IsTrueClause v) (λ q. free_cell_clauses var (var q) (cell_at net.cells q)) (length net.cells) (λ place h.
-      (says place h).1 (
+      (reports place h).1 (
       are place h
       ∙ (exists net x box kept.ordered).each place h
       ∙ gate_same net.inputs net.boxes x box box (bit_of (flat net x [])) (λ k. v (var k)) place (cell_at net.cells place) (kept.ordered place h)
@@ -91,7 +91,7 @@ reads_more : (inputs more place : ℕ) (cell : Cell) → inputs ≤ more → Rea
 reads_more inputs more place (Input i) some reads = omega (arith, some, reads)
 reads_more inputs more place cell some reads = reads
 
--- what a cell reads, where more variables stand before the cells than inputs
+-- what a cell reads, where more variables precede the cells than inputs
 pub reads_within : (net : Netlist) → IsNetlist net → net.boxes ≡ [] → (more place : ℕ) → net.inputs ≤ more → place < length net.cells → ReadsBefore more [] place (cell_at net.cells place)
 reads_within net kept none more place some h =
     reads_more net.inputs more place (cell_at net.cells place) some (subst (λ boxes. ReadsBefore net.inputs boxes place (cell_at net.cells place)) none (kept.ordered place h))

@@ -68,7 +68,7 @@ all_variables_fit spec imp spec_kept imp_kept both few =
     let variables = few_variables spec imp 8000000 spec_kept imp_kept both few in
     omega (arith, variables, both.few)
 
--- one part behind another
+-- one part after another
 pub free_pushed : (spec imp : Netlist) (inputs wanted : ℕ) (start one two three all : List (List Lit)) (clause : List Lit) → start ≡ [] → inputs ≡ imp.inputs → wanted ≡ imp.inputs + length imp.cells
     → one ≡ start ++ cells_after inputs imp.cells → two ≡ one ++ cells_after wanted spec.cells → three ≡ two ++ difference_clauses spec imp → all ≡ three ++ clause ∷ [] → clause ≡ some_difference spec imp
     → all ≡ (free_clauses spec imp).clauses

@@ -25,8 +25,8 @@ xor_differs false true e same = true≢false (sym same)
 xor_differs false false e same = true≢false (sym e)
 
 -- the variable of a difference is the exclusive or
-pub difference_says : CellClausesSayGate → (v : ℕ → Bool) (d a b : ℕ) → (Satisfies v (cell_clauses [] [] [] (λ k. k) d (Xor a b)) → v d ≡ xor (v a) (v b)) × (v d ≡ xor (v a) (v b) → Satisfies v (cell_clauses [] [] [] (λ k. k) d (Xor a b)))
-difference_says law v d a b = let says = law [] [] [] (λ k. k) d (Xor a b) v in (says.0, says.1)
+pub difference_reports : CellClausesSayGate → (v : ℕ → Bool) (d a b : ℕ) → (Satisfies v (cell_clauses [] [] [] (λ k. k) d (Xor a b)) → v d ≡ xor (v a) (v b)) × (v d ≡ xor (v a) (v b) → Satisfies v (cell_clauses [] [] [] (λ k. k) d (Xor a b)))
+difference_reports law v d a b = let reports = law [] [] [] (λ k. k) d (Xor a b) v in (reports.0, reports.1)
 
 module _ (law : CellClausesSayGate) (exists : ValueExists) (unique : ValueIsUnique) (spec imp : Netlist) (spec_kept : IsNetlist spec) (imp_kept : IsNetlist imp) (both : AreComparable spec imp)
     (bits : List Bool) (model : IsModel bits (free_clauses spec imp)) where
@@ -45,11 +45,11 @@ module _ (law : CellClausesSayGate) (exists : ValueExists) (unique : ValueIsUniq
   abbrev cells : List (List Lit)
   cells = cells_after imp.inputs imp.cells ++ cells_after wanted spec.cells
 
-  front : Satisfies v (cells ++ difference_clauses spec imp)
-  front = all_left (IsTrueClause v) (cells ++ difference_clauses spec imp) (some_difference spec imp ∷ []) model.1
+  prefix : Satisfies v (cells ++ difference_clauses spec imp)
+  prefix = all_left (IsTrueClause v) (cells ++ difference_clauses spec imp) (some_difference spec imp ∷ []) model.1
 
   cells_hold : Satisfies v cells
-  cells_hold = all_left (IsTrueClause v) cells (difference_clauses spec imp) front
+  cells_hold = all_left (IsTrueClause v) cells (difference_clauses spec imp) prefix
 
   imp_bits : (q : ℕ) → q < length imp.cells → bit_of (flat imp x []) q ≡ v (imp.inputs + q + 1)
   imp_bits = value_bits law exists unique imp imp_kept both.imp_boxes imp.inputs v x input_bits
@@ -73,8 +73,8 @@ module _ (law : CellClausesSayGate) (exists : ValueExists) (unique : ValueIsUniq
       let out = All-get_or (λ k. k < length imp.cells) imp.outs j 0 some.1 imp_kept.outs_there in
       let want = All-get_or (λ k. k < length spec.cells) spec.outs j 0 (omega (arith, some.1, both.outputs)) spec_kept.outs_there in
       let piece = piece_holds (IsTrueClause v) (λ k. cell_clauses [] [] [] (λ i. i) (difference_variable spec imp k) (Xor (output_variable imp k) (wanted_variable spec imp k))) (length imp.outs)
-      (all_right (IsTrueClause v) cells (difference_clauses spec imp) front) j some.1 in
-      let differ = sym ((difference_says law v (difference_variable spec imp j) (output_variable imp j) (wanted_variable spec imp j)).0 piece) ∙ some.2 in (
+      (all_right (IsTrueClause v) cells (difference_clauses spec imp) prefix) j some.1 in
+      let differ = sym ((difference_reports law v (difference_variable spec imp j) (output_variable imp j) (wanted_variable spec imp j)).0 piece) ∙ some.2 in (
         length-take-le imp.inputs bits (omega (arith, model.0)),
         (j, some.1, λ e. xor_differs (v (output_variable imp j)) (v (wanted_variable spec imp j)) differ (sym (imp_bits (get_or imp.outs j 0) out) ∙ e ∙ spec_bits (get_or spec.outs j 0) want)),
       )

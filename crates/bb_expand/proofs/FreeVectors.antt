@@ -16,7 +16,7 @@ use Rattle.bb_expand.specs.Laws.{CellClausesSayGate}
 use Rattle.bb_expand.specs.Inside.FreeClauses.{cells_after, output_variable, wanted_variable, difference_variable, difference_clauses, some_difference, free_clauses}
 use Rattle.bb_expand.specs.Inside.LawsBelow.{ValueExists, ValueIsUnique}
 use Rattle.bb_expand.proofs.FreeCells.{cells_true}
-use Rattle.bb_expand.proofs.FreeModels.{difference_says}
+use Rattle.bb_expand.proofs.FreeModels.{difference_reports}
 use Rattle.bb_expand.proofs.Pieces.{pieces_hold}
 use Rattle.bb_expand.proofs.TableBits.{assigned}
 
@@ -63,22 +63,22 @@ module _ (law : CellClausesSayGate) (exists : ValueExists) (unique : ValueIsUniq
   input_bits : (i : ℕ) → i < imp.inputs → bit_of x i ≡ v (i + 1)
   input_bits i h = sym (get_or_append_left x (own ++ (other ++ differences)) false i (omega (arith, h, differs.0))) ∙ assigned bits i (i + 1) refl
 
-  -- the bit at a place behind the vector
-  behind : (k n : ℕ) → n ≡ imp.inputs + k + 1 → v n ≡ bit_of (own ++ (other ++ differences)) k
-  behind k n e = sym (assigned bits (length x + k) n (omega (arith, e, differs.0))) ∙ get_or-append-add x (own ++ (other ++ differences)) k false
+  -- the bit at a place after the vector
+  after : (k n : ℕ) → n ≡ imp.inputs + k + 1 → v n ≡ bit_of (own ++ (other ++ differences)) k
+  after k n e = sym (assigned bits (length x + k) n (omega (arith, e, differs.0))) ∙ get_or-append-add x (own ++ (other ++ differences)) k false
 
   imp_bits : (q : ℕ) → q < length imp.cells → v (imp.inputs + q + 1) ≡ bit_of own q
-  imp_bits q h = behind q (imp.inputs + q + 1) refl ∙ get_or_append_left own (other ++ differences) false q (omega (arith, h, length-own))
+  imp_bits q h = after q (imp.inputs + q + 1) refl ∙ get_or_append_left own (other ++ differences) false q (omega (arith, h, length-own))
 
   spec_bits : (q : ℕ) → q < length spec.cells → v (wanted + q + 1) ≡ bit_of other q
   spec_bits q h =
-      behind (length own + q) (wanted + q + 1) (omega (arith, length-own))
+      after (length own + q) (wanted + q + 1) (omega (arith, length-own))
       ∙ get_or-append-add own (other ++ differences) q false
       ∙ get_or_append_left other differences false q (omega (arith, h, length-other))
 
   difference_bits : (j : ℕ) → j < length imp.outs → v (difference_variable spec imp j) ≡ difference j
   difference_bits j h =
-      behind (length own + (length other + j)) (difference_variable spec imp j) (omega (arith, length-own, length-other))
+      after (length own + (length other + j)) (difference_variable spec imp j) (omega (arith, length-own, length-other))
       ∙ get_or-append-add own (other ++ differences) (length other + j) false
       ∙ get_or-append-add other differences j false
       ∙ get_or-map-range_with_len difference 0 (length imp.outs) j j false h (omega arith)
@@ -87,7 +87,7 @@ module _ (law : CellClausesSayGate) (exists : ValueExists) (unique : ValueIsUniq
   difference_true j h =
       let out = imp_bits (get_or imp.outs j 0) (All-get_or (λ k. k < length imp.cells) imp.outs j 0 h imp_kept.outs_there) in
       let want = spec_bits (get_or spec.outs j 0) (All-get_or (λ k. k < length spec.cells) spec.outs j 0 (omega (arith, h, both.outputs)) spec_kept.outs_there) in
-      (difference_says law v (difference_variable spec imp j) (output_variable imp j) (wanted_variable spec imp j)).1 (difference_bits j h ∙ sym (ap₂ xor out want))
+      (difference_reports law v (difference_variable spec imp j) (output_variable imp j) (wanted_variable spec imp j)).1 (difference_bits j h ∙ sym (ap₂ xor out want))
 
   some_true : IsTrueClause v (some_difference spec imp)
   some_true =
@@ -106,9 +106,9 @@ module _ (law : CellClausesSayGate) (exists : ValueExists) (unique : ValueIsUniq
       let cells = All-append (IsTrueClause v) (cells_after imp.inputs imp.cells) (cells_after wanted spec.cells)
       (cells_true law exists unique imp imp_kept both.imp_boxes imp.inputs v x input_bits imp_bits)
       (cells_true law exists unique spec spec_kept both.spec_boxes wanted v x (λ i h. input_bits i (omega (arith, h, both.inputs))) spec_bits) in
-      let front = All-append (IsTrueClause v) (cells_after imp.inputs imp.cells ++ cells_after wanted spec.cells) (difference_clauses spec imp) cells
+      let prefix = All-append (IsTrueClause v) (cells_after imp.inputs imp.cells ++ cells_after wanted spec.cells) (difference_clauses spec imp) cells
       (pieces_hold (IsTrueClause v) (λ k. cell_clauses [] [] [] (λ i. i) (difference_variable spec imp k) (Xor (output_variable imp k) (wanted_variable spec imp k))) (length imp.outs) difference_true) in (
         length-bits,
-        All-append (IsTrueClause v) (cells_after imp.inputs imp.cells ++ cells_after wanted spec.cells ++ difference_clauses spec imp) (some_difference spec imp ∷ []) front
+        All-append (IsTrueClause v) (cells_after imp.inputs imp.cells ++ cells_after wanted spec.cells ++ difference_clauses spec imp) (some_difference spec imp ∷ []) prefix
             (All-cons (IsTrueClause v) (some_difference spec imp) [] some_true (All-nil (IsTrueClause v))),
       )

@@ -8,7 +8,7 @@ use Rattle.std.proofs.lemmas.List.FromFn.{length-map-range_with_len, get_or-map-
 use Rattle.bb_bits.specs.Numbers.{number_of}
 use Rattle.bb_bits.specs.Tables.{TableBits, table_bit}
 use Rattle.bb_net.specs.declared.cell.Cell.TheVariants.{BoxOut}
-use Rattle.bb_net.specs.Agreement.{AllRight, wanted_bit}
+use Rattle.bb_net.specs.Equivalence.{AllRight, wanted_bit}
 use Rattle.bb_net.specs.Kinds.{FitKinds, shown, spread}
 use Rattle.bb_net.specs.Netlists.{Netlist, IsNetlist, cell_at, box_at}
 use Rattle.bb_net.specs.Values.{bit_of, IsValue, tabled_bit, flat_with, FitBoxes}
@@ -23,7 +23,7 @@ use Rattle.bb_expand.proofs.GateSame.{gate_same}
 use Rattle.bb_expand.proofs.Pieces.{all_left, all_right, piece_holds, each_holds}
 use Rattle.bb_expand.proofs.SharedBoxes.{kind_shown, pin_shown, row_shown}
 use Rattle.bb_expand.proofs.TableBits.{read_fit, read_bit}
-use Rattle.bb_expand.proofs.Tested.{unit_says}
+use Rattle.bb_expand.proofs.Tested.{unit_reports}
 
 -- the number of bits of input pins is that of a row
 pub row_below : Numbering → (value : ℕ → Bool) (pins : List ℕ) → number_of (map value pins) < 2 ^ length pins
@@ -93,7 +93,7 @@ module _ (numbering : Numbering) (unique : ValueIsUnique) (sharing : Sharing) (s
         (all_right (IsTrueClause assigns) (cells_clauses imp kinds v x) (output_clauses spec imp kinds v x) here) j h in
         ap (λ value. bit_of value out) (sym (unique imp x (tabled_bit all) cell_bits kept.ordered is_value))
         ∙ bit_is out placed
-        ∙ (unit_says assigns (var out) (wanted_bit spec x j)).0 unit
+        ∙ (unit_reports assigns (var out) (wanted_bit spec x j)).0 unit
 
   pub model_right : All (λ y. AllRight spec imp y (flat_with imp y all)) vectors
   model_right = All-from_get_or (λ y. AllRight spec imp y (flat_with imp y all)) vectors [] right

@@ -16,8 +16,8 @@ pub mod FreeVectors
 pub mod FromModel
 pub mod GateSame
 pub mod Grows
-pub mod ForcedAmong
-pub mod HeldVectors
+pub mod DistinguishingAmong
+pub mod SampleVectors
 pub mod Pieces
 pub mod Pushed
 pub mod RowLemmas
@@ -30,5 +30,5 @@ pub mod Swept
 pub mod TableBits
 pub mod Tested
 pub mod ToModel
-pub mod TurnLemmas
+pub mod IterationLemmas
 pub mod Variables

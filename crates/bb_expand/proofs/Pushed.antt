@@ -1,11 +1,11 @@
--- The expansion over one vector more is that over the others with the clauses of that vector behind.
+-- The expansion over one vector more is that over the others with the clauses of that vector after.
 use Rattle.std.proofs.Common.{◌≡◌, ℕ, ◌+◌, ◌*◌, ◌≤◌, Bool, List, [], ◌∷◌, ◌++◌, length, get_or, All, refl, sym, ap, ap₂, subst, ◌∙◌, arith}
 use Rattle.std.specs.List.{flat_map, range_with_len}
 use Rattle.std.proofs.lemmas.List.{length-append, get_or_append_left, get_or-append-add}
 use Rattle.std.proofs.lemmas.Nat.{mul-le}
 use Rattle.bb_cdcl.specs.Inside.Outcomes.{formula}
 use Rattle.bb_cnf.specs.declared.clauses.Lit.{Lit}
-use Rattle.bb_cnf.specs.Clauses.{Formula, IsWithin}
+use Rattle.bb_cnf.specs.Clauses.{Formula, HasVariablesWithin}
 use Rattle.bb_net.specs.Completions.{table_bits}
 use Rattle.bb_net.specs.Kinds.{FitKinds, shown}
 use Rattle.bb_net.specs.Netlists.{Netlist, IsNetlist}
@@ -32,7 +32,7 @@ module _ (spec imp : Netlist) (kinds : List ℕ) (vectors : List (List Bool)) (x
   clauses_push =
       ap (λ n. flat_map at (range_with_len 0 n)) (one_longer vectors x)
       ∙ pieces_more at (length vectors)
-      ∙ ap₂ (λ front back. front ++ back)
+      ∙ ap₂ (λ prefix back. prefix ++ back)
       (same_pieces at (λ v. vector_clauses spec imp kinds v (get_or vectors v [])) (length vectors) (λ v h. ap (vector_clauses spec imp kinds v) (get_or_append_left vectors (x ∷ []) [] v h)))
       (ap (vector_clauses spec imp kinds (length vectors)) (last_of vectors x []))
 
@@ -46,12 +46,12 @@ module _ (spec imp : Netlist) (kinds : List ℕ) (vectors : List (List Bool)) (x
   expansion_push vars clauses some are = ap₂ formula (some ∙ sym vars_push) (are ∙ sym clauses_push)
 
   -- the variables of the new clauses are in the range of all
-  pub pushed_within : VariablesAreWithin → IsNetlist imp → FitKinds kinds imp.boxes → (vars : ℕ) → vars ≡ (expansion spec imp kinds vectors).vars + length imp.cells → IsWithin vars (vector_clauses spec imp kinds (length vectors) x)
+  pub pushed_within : VariablesAreWithin → IsNetlist imp → FitKinds kinds imp.boxes → (vars : ℕ) → vars ≡ (expansion spec imp kinds vectors).vars + length imp.cells → HasVariablesWithin vars (vector_clauses spec imp kinds (length vectors) x)
   pushed_within within kept fits vars some =
       let old = (expansion spec imp kinds vectors).clauses in
       let new = vector_clauses spec imp kinds (length vectors) x in
       all_right (All (λ (l : Lit). (1 ≤ l.var) × (l.var ≤ vars))) old new
-      (subst (λ (f : Formula). IsWithin f.vars f.clauses) (sym (expansion_push vars (old ++ new) some refl)) (within spec imp kinds kept fits (vectors ++ x ∷ [])))
+      (subst (λ (f : Formula). HasVariablesWithin f.vars f.clauses) (sym (expansion_push vars (old ++ new) some refl)) (within spec imp kinds kept fits (vectors ++ x ∷ [])))
 
 -- where the clauses of one vector more are few, so are the variables
 pub room_for_cells : ClausesAreCounted → (spec imp : Netlist) (kinds : List ℕ) (vectors : List (List Bool)) (cnf : Formula) (most : ℕ) → cnf ≡ expansion spec imp kinds vectors

@@ -26,7 +26,7 @@ pub differing_more : (var : ℕ → ℕ) (pins : List ℕ) (row : List Bool) (i 
     → differing var (take (i + 1) pins) (take (i + 1) row) ≡ differing var (take i pins) (take i row) ++ having (var (get_or pins i 0)) (not (get_or row i false)) ∷ []
 differing_more var pins row i h e = rw (add-one i) (differing_suc var pins row i h e)
 
--- the bits of a box stand behind those of the boxes before it, within all
+-- the bits of a box follow those of the boxes before it, within all
 pub bits_fit : (boxes : List Pins) (i : ℕ) (d : Pins) → i < length boxes → table_bits (take i boxes) + length (get_or boxes i d).outs * 2 ^ length (get_or boxes i d).ins ≤ table_bits boxes
 bits_fit boxes i d h = sum_by_more_le (λ pins. length pins.outs * 2 ^ length pins.ins) boxes i d h
 

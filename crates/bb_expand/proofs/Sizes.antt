@@ -26,7 +26,7 @@ cells_count boxes (cell ∷ cells) = let s = sum_by-cons (cell_clause_count boxe
 
 pub two_cells : (net : Netlist) → IsNetlist net → net.inputs + 2 ≤ length net.cells
 two_cells net kept =
-    let first = ap length kept.front in
+    let first = ap length kept.prefix in
     let taken = length-take (net.inputs + 2) net.cells in
     let whole = length-map-range_with_len Input 0 net.inputs in
     omega (arith, first, taken, whole)

@@ -6,7 +6,7 @@ use Rattle.std.proofs.lemmas.List.{take_more_set, with_items_is}
 use Rattle.std.proofs.lemmas.Bool.Decides.{nat_tests}
 use Rattle.std.proofs.lemmas.Nat.{pow_below, mul-le, one_shl}
 use Rattle.std.specs.Vec.{with_items}
-use Rattle.bb_lists.proofs.Tests.{le_to_test}
+use Rattle.bb_lemmas.proofs.Tests.{le_to_test}
 use Rattle.bb_bits.specs.Numbers.{bits_of}
 
 -- one more bit is spelled
@@ -15,7 +15,7 @@ pub spelled_more : (bits all : List Bool) (n i k rest : ℕ) → length bits ≡
 spelled_more bits all n i k rest len within left so_far =
     let now : n - i ≡ suc k = omega arith in
     let next : n - (i + 1) ≡ k = omega arith in
-    ap (λ front. front ++ bits_of (n - (i + 1)) (if nat_le (2 ^ k) rest then rest - 2 ^ k else rest)) (take_more_set bits i (nat_le (2 ^ k) rest) (omega arith))
+    ap (λ prefix. prefix ++ bits_of (n - (i + 1)) (if nat_le (2 ^ k) rest then rest - 2 ^ k else rest)) (take_more_set bits i (nat_le (2 ^ k) rest) (omega arith))
     ∙ append_assoc (take i bits) (nat_le (2 ^ k) rest ∷ []) (bits_of (n - (i + 1)) (if nat_le (2 ^ k) rest then rest - 2 ^ k else rest))
     ∙ ap (λ m. take i bits ++ nat_le (2 ^ k) rest ∷ bits_of m (if nat_le (2 ^ k) rest then rest - 2 ^ k else rest)) next
     ∙ ap (λ m. take i bits ++ bits_of m rest) (sym now)

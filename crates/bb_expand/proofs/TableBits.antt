@@ -20,7 +20,7 @@ pub length-tables_in : (boxes : List Pins) (bits : List Bool) → length (tables
 length-tables_in [] bits = refl
 length-tables_in (pins ∷ boxes) bits = ap suc (length-tables_in boxes (drop (bits_of_table pins) bits))
 
--- a table that was read has the bits behind those of the boxes before it
+-- a table that was read has the bits after those of the boxes before it
 pub table_read : (boxes : List Pins) (bits : List Bool) (b : ℕ) → b < length boxes → table_at (tables_in boxes bits) b ≡ table_in (box_at boxes b) (drop (table_bits (take b boxes)) bits)
 table_read [] bits b h = absurd (omega (arith, h))
 table_read (pins ∷ boxes) bits zero h = refl
@@ -28,15 +28,15 @@ table_read (pins ∷ boxes) bits (suc b) h =
     table_read boxes (drop (bits_of_table pins) bits) b (omega (arith, h))
     ∙ ap (table_in (box_at boxes b)) (drop-drop (table_bits (take b boxes)) (bits_of_table pins) bits ∙ ap (λ n. drop n bits) (sym (table_bits-cons pins (take b boxes))))
 
--- where those of the first boxes are read, one more is read behind them
+-- where those of the first boxes are read, one more is read after them
 pub read_more : (boxes : List Pins) (bits : List Bool) (k start : ℕ) (tables : List TableBits) (t : TableBits) → k < length boxes → t ≡ table_in (box_at boxes k) (drop start bits)
     → tables ++ tables_in (drop k boxes) (drop start bits) ≡ tables_in boxes bits
     → (tables ++ t ∷ []) ++ tables_in (drop (k + 1) boxes) (drop (start + bits_of_table (box_at boxes k)) bits) ≡ tables_in boxes bits
 read_more boxes bits k start tables t there is so_far =
     let none : Pins = record { ins = []; outs = [] } in
-    let front = ap (λ bs. tables_in bs (drop start bits)) (drop-cons boxes k none there) in
+    let prefix = ap (λ bs. tables_in bs (drop start bits)) (drop-cons boxes k none there) in
     let rest = ap₂ tables_in (ap (λ n. drop n boxes) (add-one k)) (sym (drop-drop (bits_of_table (box_at boxes k)) start bits)) in
-    append_assoc tables (t ∷ []) _ ∙ (ap (λ ts. tables ++ ts) (ap₂ (λ u ts. u ∷ ts) is rest ∙ sym front) ∙ so_far)
+    append_assoc tables (t ∷ []) _ ∙ (ap (λ ts. tables ++ ts) (ap₂ (λ u ts. u ∷ ts) is rest ∙ sym prefix) ∙ so_far)
 
 -- tables that were read fit their boxes
 pub read_fit : (boxes : List Pins) (bits : List Bool) → table_bits boxes ≤ length bits → FitBoxes (tables_in boxes bits) boxes
@@ -66,7 +66,7 @@ read_bit boxes bits b row p h below there =
     ∙ get_or-drop start bits (row * outs + p) false
     ∙ assigned bits (start + (row * outs + p)) (table_variable boxes b row p) (omega arith)
 
--- the bits of tables, one after another, and how many stand before those of a box
+-- the bits of tables, one after another, and how many precede those of a box
 pub length-rows : (tables : List TableBits) (boxes : List Pins) → FitBoxes tables boxes → (b : ℕ) → b ≤ length boxes → length (flat_map (λ t. t.rows) (take b tables)) ≡ table_bits (take b boxes)
 length-rows tables boxes fit zero h = refl
 length-rows tables boxes fit (suc b) h =

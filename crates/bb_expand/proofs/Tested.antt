@@ -4,7 +4,7 @@ use Rattle.std.specs.Prelude.{if◌then◌else◌}
 use Rattle.std.specs.List.{list_any, list_all}
 use Rattle.std.proofs.lemmas.List.Elements.{All-nil, All-cons, All-head, All-tail}
 use Rattle.std.proofs.lemmas.List.Folds.{Any-from_list_any, list_any-from_Any}
-use Rattle.bb_lists.proofs.Bits.{and_left, and_right, both_true}
+use Rattle.bb_lemmas.proofs.Bits.{and_left, and_right, both_true}
 use Rattle.bb_net.specs.Values.{xor}
 use Rattle.bb_cnf.specs.declared.clauses.Lit.{Lit}
 use Rattle.bb_expand.specs.Expansions.{having}
@@ -49,8 +49,8 @@ unit_bit true false = refl
 unit_bit false true = refl
 unit_bit false false = refl
 
-pub unit_says : (v : ℕ → Bool) (y : ℕ) (b : Bool) → IsTrueClause v (having y b ∷ []) ↔ (v y ≡ b)
-unit_says v y b = (
+pub unit_reports : (v : ℕ → Bool) (y : ℕ) (b : Bool) → IsTrueClause v (having y b ∷ []) ↔ (v y ≡ b)
+unit_reports v y b = (
   λ h. same_is (v y) b (sym (unit_bit (v y) b) ∙ list_any-from_Any (truth.literal_bit v) (having y b ∷ []) h),
   λ e. Any-from_list_any (truth.literal_bit v) (having y b ∷ []) (unit_bit (v y) b ∙ is_same (v y) b e),
 )

@@ -10,7 +10,7 @@ use Rattle.std.proofs.lemmas.List.FromFn.{length-map-range_with_len}
 use Rattle.bb_bits.specs.Numbers.{number_of}
 use Rattle.bb_bits.specs.Tables.{TableBits, table_bit}
 use Rattle.bb_net.specs.declared.cell.Cell.TheVariants.{BoxOut}
-use Rattle.bb_net.specs.Agreement.{AllRight, wanted_bit}
+use Rattle.bb_net.specs.Equivalence.{AllRight, wanted_bit}
 use Rattle.bb_net.specs.Completions.{table_bits}
 use Rattle.bb_net.specs.Kinds.{FitKinds, shown, spread}
 use Rattle.bb_net.specs.Netlists.{Netlist, Pins, IsNetlist, cell_at, box_at}
@@ -27,7 +27,7 @@ use Rattle.bb_expand.proofs.Pieces.{pieces_hold, all_hold, length-pieces}
 use Rattle.bb_expand.proofs.RowLemmas.{row_fits}
 use Rattle.bb_expand.proofs.SharedBoxes.{kind_shown, pin_shown, row_shown}
 use Rattle.bb_expand.proofs.TableBits.{assigned, length-rows}
-use Rattle.bb_expand.proofs.Tested.{unit_says}
+use Rattle.bb_expand.proofs.Tested.{unit_reports}
 
 module _ (numbering : Numbering) (exists : ValueExists) (sharing : Sharing) (spec imp : Netlist) (kinds : List ℕ) (kept : IsNetlist imp) (fits : FitKinds kinds imp.boxes) (vectors : List (List Bool))
     (tables : List TableBits) (fit : FitBoxes tables (shown kinds imp.boxes)) (right : All (λ y. AllRight spec imp y (flat_with imp y (spread kinds tables))) vectors) where
@@ -117,7 +117,7 @@ module _ (numbering : Numbering) (exists : ValueExists) (sharing : Sharing) (spe
     out_true : (j : ℕ) → j < length imp.outs → IsTrueClause assigns (having (var (get_or imp.outs j 0)) (wanted_bit spec x j) ∷ [])
     out_true j h =
         let placed = All-get_or (λ k. k < length imp.cells) imp.outs j 0 h kept.outs_there in
-        (unit_says assigns (var (get_or imp.outs j 0)) (wanted_bit spec x j)).1 (cell_is (get_or imp.outs j 0) placed ∙ right v [] there j h)
+        (unit_reports assigns (var (get_or imp.outs j 0)) (wanted_bit spec x j)).1 (cell_is (get_or imp.outs j 0) placed ∙ right v [] there j h)
 
     vector_true : Satisfies assigns (vector_clauses spec imp kinds v x)
     vector_true = All-append (IsTrueClause assigns) (cells_clauses imp kinds v x) (output_clauses spec imp kinds v x)

@@ -9,9 +9,9 @@ use Rattle.bb_net.specs.declared.cell.Cell.TheVariants.{Const, Input, Not, And, 
 use Rattle.bb_net.specs.Completions.{table_bits}
 use Rattle.bb_net.specs.Kinds.{FitKinds, shown}
 use Rattle.bb_net.specs.Netlists.{Netlist, Pins, IsNetlist, ReadsBefore, cell_at, box_at}
-use Rattle.bb_net.specs.Agreement.{wanted_bit}
+use Rattle.bb_net.specs.Equivalence.{wanted_bit}
 use Rattle.bb_cnf.specs.declared.clauses.Lit.{Lit}
-use Rattle.bb_cnf.specs.Clauses.{IsWithin, positive, negated}
+use Rattle.bb_cnf.specs.Clauses.{HasVariablesWithin, positive, negated}
 use Rattle.bb_expand.specs.Expansions.{having, differing, row_clauses, cell_clauses, cell_variable, cells_clauses, output_clauses, vector_clauses, table_variable}
 use Rattle.bb_expand.specs.Inside.LawsBelow.{Sharing}
 use Rattle.bb_expand.specs.Laws.{VariablesAreWithin}
@@ -40,7 +40,7 @@ lits_in : (vars : ℕ) (lits : List Lit) → EachIn vars lits → IsIn vars lits
 lits_in vars [] h = All-nil (λ l. (1 ≤ l.var) × (l.var ≤ vars))
 lits_in vars (l ∷ lits) h = All-cons (λ m. (1 ≤ m.var) × (m.var ≤ vars)) l lits h.0 (lits_in vars lits h.1)
 
-pub clauses_in : (vars : ℕ) (clauses : List (List Lit)) → ClausesIn vars clauses → IsWithin vars clauses
+pub clauses_in : (vars : ℕ) (clauses : List (List Lit)) → ClausesIn vars clauses → HasVariablesWithin vars clauses
 clauses_in vars [] h = All-nil (IsIn vars)
 clauses_in vars (c ∷ clauses) h = All-cons (IsIn vars) c clauses (lits_in vars c h.0) (clauses_in vars clauses h.1)
 
@@ -54,15 +54,15 @@ module _ (vars : ℕ) (var : ℕ → ℕ) where
   row_clause_in : (lits : List Lit) (l m : Lit) → IsIn vars lits → Ranges vars l.var → Ranges vars m.var → IsIn vars (lits ++ l ∷ m ∷ [])
   row_clause_in lits l m h hl hm = All-append (λ n. (1 ≤ n.var) × (n.var ≤ vars)) lits (l ∷ m ∷ []) h (lits_in vars (l ∷ m ∷ []) (hl, (hm, tt)))
 
-  row_in : (pins : List ℕ) (y t : ℕ) (row : List Bool) → All (λ p. Ranges vars (var p)) pins → Ranges vars y → Ranges vars t → IsWithin vars (row_clauses var pins y row t)
+  row_in : (pins : List ℕ) (y t : ℕ) (row : List Bool) → All (λ p. Ranges vars (var p)) pins → Ranges vars y → Ranges vars t → HasVariablesWithin vars (row_clauses var pins y row t)
   row_in pins y t row h hy ht =
-      let front = differing_in pins row h in
+      let prefix = differing_in pins row h in
       All-cons (IsIn vars) (differing var pins row ++ negated y ∷ positive t ∷ []) ((differing var pins row ++ positive y ∷ negated t ∷ []) ∷ [])
-      (row_clause_in (differing var pins row) (negated y) (positive t) front hy ht)
-      (All-cons (IsIn vars) (differing var pins row ++ positive y ∷ negated t ∷ []) [] (row_clause_in (differing var pins row) (positive y) (negated t) front hy ht) (All-nil (IsIn vars)))
+      (row_clause_in (differing var pins row) (negated y) (positive t) prefix hy ht)
+      (All-cons (IsIn vars) (differing var pins row ++ positive y ∷ negated t ∷ []) [] (row_clause_in (differing var pins row) (positive y) (negated t) prefix hy ht) (All-nil (IsIn vars)))
 
   pub cell_in : (inputs place y : ℕ) (kinds : List ℕ) (boxes : List Pins) (x : List Bool) (cell : Cell) → ReadsBefore inputs boxes place cell → ((k : ℕ) → k < place → Ranges vars (var k)) → Ranges vars y
-      → ((b p row : ℕ) → cell ≡ BoxOut b p → row < 2 ^ length (box_at boxes b).ins → Ranges vars (table_variable (shown kinds boxes) (slice_index kinds b) row p)) → IsWithin vars (cell_clauses kinds boxes x var y cell)
+      → ((b p row : ℕ) → cell ≡ BoxOut b p → row < 2 ^ length (box_at boxes b).ins → Ranges vars (table_variable (shown kinds boxes) (slice_index kinds b) row p)) → HasVariablesWithin vars (cell_clauses kinds boxes x var y cell)
   cell_in inputs place y kinds boxes x (Const b) reads h hy ht = clauses_in vars (cell_clauses kinds boxes x var y (Const b)) ((hy, tt), tt)
   cell_in inputs place y kinds boxes x (Input i) reads h hy ht = clauses_in vars (cell_clauses kinds boxes x var y (Input i)) ((hy, tt), tt)
   cell_in inputs place y kinds boxes x (Not a) reads h hy ht = let ha = h a reads in clauses_in vars (cell_clauses kinds boxes x var y (Not a)) ((hy, (ha, tt)), ((hy, (ha, tt)), tt))
@@ -97,7 +97,7 @@ module _ (sharing : Sharing) (spec imp : Netlist) (kinds : List ℕ) (kept : IsN
       let p : (v + 1) * length imp.cells ≤ length vectors * length imp.cells = mul-le (v + 1) (length imp.cells) (length vectors) (length imp.cells) (omega (arith, there)) (omega arith) in
       (omega arith, omega (arith, p, h))
 
-  vector_in : (v : ℕ) → v < length vectors → (x : List Bool) → IsWithin vars (vector_clauses spec imp kinds v x)
+  vector_in : (v : ℕ) → v < length vectors → (x : List Bool) → HasVariablesWithin vars (vector_clauses spec imp kinds v x)
   vector_in v there x = All-append (IsIn vars) (cells_clauses imp kinds v x) (output_clauses spec imp kinds v x)
       (pieces_hold (IsIn vars) (λ q. cell_clauses kinds imp.boxes x (cell_variable imp kinds v) (cell_variable imp kinds v q) (cell_at imp.cells q)) (length imp.cells)
       (λ q h. cell_in vars (cell_variable imp kinds v) imp.inputs q (cell_variable imp kinds v q) kinds imp.boxes x (cell_at imp.cells q) (kept.ordered q h)

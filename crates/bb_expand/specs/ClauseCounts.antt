@@ -1,5 +1,5 @@
--- How many clauses an expansion has: for each vector those of the cells, by their kinds, and one for each output. A box output
--- has two for each row of its table.
+-- How many clauses an expansion has: for each vector those of the cells, by their gates, and one for each output. A box
+-- output has two for each row of its table.
 use Rattle.std.specs.Prelude.{ℕ, ◌+◌, ◌*◌, ◌^◌, List, length, sum_by}
 use Rattle.bb_net.specs.declared.cell.Cell.{Cell}
 use Rattle.bb_net.specs.declared.cell.Cell.TheVariants.{Const, Input, Not, And, Or, Xor, Mux, BoxOut}

@@ -1,14 +1,14 @@
--- The expansion of a pair over some vectors: clauses that are true exactly where bits of tables for the boxes, and bits of
--- the implementation's cells at each vector, belong together and give the specification's outputs. The clauses of a gate are
--- those of Tseitin, On the complexity of derivation in propositional calculus (1968). Boxes of one kind share a table, whose
--- variables they share. Variables count from 1: first the bits of the tables, one for each kind in order, of a table its rows,
--- and of a row its output pins; then the cells at the first vector, and so on.
+-- The expansion of a pair over some vectors: clauses that are true exactly where bits of tables for the boxes, and bits
+-- of the implementation's cells at each vector, belong together and give the specification's outputs. The clauses of a
+-- gate are those of Tseitin, On the complexity of derivation in propositional calculus (1968). Boxes of one sharing
+-- class (kind) share a table and its variables. Variables count from 1: first the bits of the tables, one for each
+-- class in order, of a table its rows, and of a row its output pins; then the cells at the first vector, and so on.
 use Rattle.std.specs.Prelude.{ℕ, ◌+◌, ◌*◌, ◌^◌, Bool, not, List, [], ◌∷◌, ◌++◌, length, map, take, slice_index}
 use Rattle.std.specs.List.{flat_map, range_with_len, slice_index_or, zip}
 use Rattle.bb_bits.specs.Numbers.{bits_of}
 use Rattle.bb_net.specs.declared.cell.Cell.{Cell}
 use Rattle.bb_net.specs.declared.cell.Cell.TheVariants.{Const, Input, Not, And, Or, Xor, Mux, BoxOut}
-use Rattle.bb_net.specs.Agreement.{wanted_bit}
+use Rattle.bb_net.specs.Equivalence.{wanted_bit}
 use Rattle.bb_net.specs.Completions.{table_bits}
 use Rattle.bb_net.specs.Kinds.{shown}
 use Rattle.bb_net.specs.Netlists.{Netlist, Pins, cell_at, box_at}
@@ -16,7 +16,7 @@ use Rattle.bb_net.specs.Values.{bit_of}
 use Rattle.bb_cnf.specs.declared.clauses.Lit.{Lit}
 use Rattle.bb_cnf.specs.Clauses.{Formula, positive, negated}
 
--- the variable of a bit of a kind's table, in a row at an output pin, where these boxes are shown, one for each kind
+-- the variable of a bit of a sharing class's table, in a row at an output pin, where `boxes` has one box for each class
 abbrev pub table_variable : List Pins → ℕ → ℕ → ℕ → ℕ
 table_variable boxes kind row pin = table_bits (take kind boxes) + row * length (box_at boxes kind).outs + pin + 1
 
@@ -69,6 +69,6 @@ expansion spec imp kinds vectors = record {
   clauses = flat_map (λ v. vector_clauses spec imp kinds v (slice_index_or vectors v [])) (range_with_len 0 (length vectors));
 }
 
--- all lists of so many bits, in rising order of the numbers that they spell, the first bit most significant
+-- all lists of n bits, in rising order of the numbers that they spell, the first bit most significant
 abbrev pub all_vectors : ℕ → List (List Bool)
 all_vectors n = map (bits_of n) (range_with_len 0 (2 ^ n))

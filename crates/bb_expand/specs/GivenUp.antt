@@ -1,12 +1,12 @@
--- When the check by expansion gives up: the clauses over all vectors are more than the budget, and for some list of vectors, at each
--- of which some tables are wrong that agree at all before it, either the clauses over it are, or some tables that agree at all of it
--- are too large for decision diagrams of the implementation filled with them.
+-- When the check by expansion gives up: the clauses over all vectors exceed the budget, and for some list of required
+-- samples (vectors at each of which some tables are wrong that agree at all before it) either the clauses over it do,
+-- or some tables that agree at all of it are too large for BDDs of the implementation filled with them.
 use Rattle.std.specs.Prelude.{◌⊎◌, ℕ, ◌<◌, ◌^◌, Bool, List, length, All}
 use Rattle.bb_bits.specs.Tables.{TableBits}
 use Rattle.bb_bits.specs.Truth.{IsBeadOfAny}
 use Rattle.bb_bits.specs.TruthSets.{HasMoreThan}
-use Rattle.bb_filled.specs.Filled.{IsFilled}
-use Rattle.bb_filled.specs.Forced.{AgreeAt, AreForced}
+use Rattle.bb_subst.specs.Filled.{IsFilled}
+use Rattle.bb_subst.specs.Distinguishing.{AreEquivalentAt, AreDistinguishing}
 use Rattle.bb_net.specs.Completions.{table_bits}
 use Rattle.bb_net.specs.Kinds.{shown, spread}
 use Rattle.bb_net.specs.Netlists.{Netlist, IsNetlist}
@@ -19,14 +19,14 @@ use Rattle.bb_expand.specs.Expansions.{expansion}
 abbrev pub FillTooLarge : Netlist → Netlist → List TableBits → Type 0
 FillTooLarge spec imp tables = (filled : Netlist) × (at : ℕ → ℕ) × IsNetlist filled × IsFilled imp tables filled at × HasMoreThan (IsBeadOfAny (output_functions spec filled)) 1000000
 
--- some tables, one for each kind, agree at all of these vectors, and fill the boxes so, or have more than 2^20 bits where each box
--- counts: a table is filled in once for each box of its kind
+-- some tables, one for each sharing class, agree at all of these vectors, and fill the boxes so, or have more than 2^20
+-- bits where each box counts: a table is filled in once for each box of its class
 abbrev pub SuitsLargeTables : Netlist → Netlist → List ℕ → List (List Bool) → Type 0
-SuitsLargeTables spec imp kinds vectors = (tables : List TableBits) × FitBoxes tables (shown kinds imp.boxes) × All (AgreeAt spec imp (spread kinds tables)) vectors
+SuitsLargeTables spec imp kinds vectors = (tables : List TableBits) × FitBoxes tables (shown kinds imp.boxes) × All (AreEquivalentAt spec imp (spread kinds tables)) vectors
     × ((2 ^ 20 < table_bits imp.boxes) ⊎ FillTooLarge spec imp (spread kinds tables))
 
 pub record NeedsMoreClauses (spec imp : Netlist) (kinds : List ℕ) (budget : ℕ) : Type 0 where
   pub many : budget < clause_total imp
-  pub held : List (List Bool)
-  pub forced : AreForced spec imp kinds held
-  pub cause : (budget < length (expansion spec imp kinds held).clauses) ⊎ SuitsLargeTables spec imp kinds held
+  pub samples : List (List Bool)
+  pub distinguishing : AreDistinguishing spec imp kinds samples
+  pub cause : (budget < length (expansion spec imp kinds samples).clauses) ⊎ SuitsLargeTables spec imp kinds samples

@@ -1,8 +1,8 @@
--- What the code says to itself: no clause of the top call rests on it.
+-- Invariants of the check's code: no clause of the top call rests on them.
 pub mod Cones
 pub mod Failures
 pub mod FreeClauses
-pub mod Holding
+pub mod Sampling
 pub mod LawsBelow
 pub mod ReadTables
 pub mod Searches

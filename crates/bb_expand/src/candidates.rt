@@ -1,5 +1,6 @@
-//! Which cells may have one bit at every vector: those that have at all patterns that were simulated. Nothing is proved
-//! of it.
+//! Candidate classes for SAT sweeping: cells with the same signature over simulated patterns, or with the complement. A
+//! signature is a hash of the bits and not the bits, so memory is one word a cell; a collision costs one failed
+//! candidate. No proof uses the classes, since the solver refutes each merge.
 
 ghost use Rattle.std.specs.Prelude.{◌≡◌, ◌≤◌, true, All, length};
 
@@ -9,15 +10,15 @@ use bb_tern::{patterns, words};
 use indexmap::IndexMap;
 use std::alloc::Global;
 
-// How many patterns are drawn, behind those with at most one bit that differs from the others.
+// Drawn patterns come after those in which at most one bit differs from the others.
 const DRAWN: u32 = 1024;
 
 const SEED: u64 = 0x2545_f491_4f6c_dd1d;
 
-// How many patterns go through a netlist at once.
+// The width of one pass of `bb_tern`.
 const LANES: usize = 64;
 
-/// A cell that another may be merged with, by its place in the swept netlist, or the inverse of one.
+/// A cell by its place in the swept netlist; with `inverse`, its complement is meant.
 #[derive(Clone, Copy, Debug)]
 pub(crate) struct Candidate {
     pub place: u32,
@@ -30,33 +31,30 @@ struct First {
     phase: bool,
 }
 
-/// The classes of cells with the same bits at all patterns, or with opposite ones.
+/// Cells are entered in order, so `firsts` has the lowest place of each class and merging goes towards the inputs.
 #[derive(Debug, Drop)]
 pub(crate) struct Classes {
-    // What is left of the bits of each cell: two that have the same have the same number.
+    // Equal bits have equal numbers; unequal bits may, too.
     signatures: Vec<u64>,
-    // The bit of each cell at the first pattern. Where it is 1 its inverse is what the signature is of.
+    // The bit of each cell at the first pattern. A cell that is 1 there is entered as its complement, so that both
+    // phases fall into one class.
     phases: Vec<bool>,
-    // The places of the cells so far.
     places: Vec<u32>,
-    // The first cell of each class.
     firsts: IndexMap<u64, First>,
 }
 
-// Do all have so many bits?
 fn are_vectors(vectors: &[Vec<bool>], inputs: u32) -> bool
     ensures { result ≡ true → All (λ x. length x.items ≡ inputs) vectors.now }
 {
     vectors.iter().all(|x| x.len() == inputs as usize)
 }
 
-// A number for a cell with these bits more.
+// A multiplicative hash step (Knuth TAOCP 3, 6.4), then high bits folded into low ones.
 fn mixed(signature: u64, word: u64) -> u64 {
     let next = (signature ^ word).wrapping_mul(11_400_714_819_323_198_485);
     next ^ (next >> 29)
 }
 
-// The signatures after these bits more.
 fn add_words(signatures: &mut [u64], phases: &[bool], words: &[u64]) {
     for (k, signature) in signatures.iter_mut().enumerate() {
         let word = words.get(k).copied().unwrap_or(0);
@@ -65,7 +63,7 @@ fn add_words(signatures: &mut [u64], phases: &[bool], words: &[u64]) {
     }
 }
 
-// The first bit of each word.
+// Pattern 0 is the lowest bit of a word.
 fn first_bits(alloc: Global, words: &[u64]) -> Result<Vec<bool>, NoMemory> {
     let mut bits = Vec::with_capacity(alloc, words.len())?;
     for word in words {
@@ -75,7 +73,7 @@ fn first_bits(alloc: Global, words: &[u64]) -> Result<Vec<bool>, NoMemory> {
 }
 
 impl Classes {
-    /// The classes at drawn patterns.
+    /// The phase is fixed by the first drawn pattern, since a later change would invalidate all signatures.
     pub(crate) fn of(alloc: Global, net: &Net) -> Result<Classes, NoMemory>
         requires { net.now.inputs ≤ 2048 }
     {
@@ -91,7 +89,7 @@ impl Classes {
         Ok(classes)
     }
 
-    // The signatures after these patterns more, if they are such.
+    // Vectors of another length are ignored, so that callers need no contract about them.
     fn simulate(
         &mut self,
         alloc: Global,
@@ -111,7 +109,7 @@ impl Classes {
         Ok(())
     }
 
-    /// The cell that the one with this number may be merged with.
+    /// None where no earlier cell has the signature: the cell then is the first of its class.
     pub(crate) fn candidate(&self, number: usize) -> Option<Candidate> {
         let first = self.firsts.get(self.signatures.get(number)?)?;
         let inverse = first.phase != *self.phases.get(number)?;
@@ -121,7 +119,6 @@ impl Classes {
         })
     }
 
-    // The cell with this number is at the place. It is the first of its class where there is none yet.
     fn set_first(&mut self, number: usize, place: u32) -> Result<(), NoMemory> {
         let signature = self.signatures.get(number).copied().unwrap_or(0);
         let phase = self.phases.get(number).copied().unwrap_or(false);
@@ -131,14 +128,14 @@ impl Classes {
         Ok(())
     }
 
-    /// The next cell is at this place.
     pub(crate) fn enter(&mut self, place: u32) -> Result<(), NoMemory> {
         let number = self.places.len();
         self.places.push(place)?;
         self.set_first(number, place)
     }
 
-    /// The classes after these patterns more.
+    /// Counterexamples of failed candidates split their classes. The first cells are found anew, since signatures
+    /// changed.
     pub(crate) fn refine(
         &mut self,
         alloc: Global,

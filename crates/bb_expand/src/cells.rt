@@ -1,4 +1,5 @@
-//! The clauses of the implementation's cells, at one vector.
+//! Tseitin clauses of the implementation at one sample. Inputs are constants there and become unit clauses, which the
+//! solver propagates; folding them into the gates would save clauses, but then their count would depend on the sample.
 
 ghost use Rattle.std.specs.Prelude.{◌≡◌, ◌+◌, ◌^◌, ◌<◌, ◌++◌, ℕ, length, slice_index, take, OnOk};
 ghost use Rattle.std.specs.List.{flat_map, range_with_len};
@@ -17,7 +18,7 @@ use bb_cnf::Lit;
 use bb_net::{BoxPins, Cell, Net};
 use smallvec::SmallVec;
 
-// The variable of the cell at `place` is the cell's bit, at a vector before whose cells there are `base` variables.
+// The variable of a cell is `base + place + 1`: `base` counts the variables of the tables and of earlier samples.
 fn push_cell(
     clauses: &mut Vec<SmallVec<Lit, 4>>,
     base: u32,
@@ -55,7 +56,6 @@ fn push_cell(
     }
 }
 
-// The clauses of all cells.
 pub(crate) fn push_cells(
     clauses: &mut Vec<SmallVec<Lit, 4>>,
     base: u32,

@@ -1,6 +1,6 @@
-//! The clauses of a gate, after Tseitin.
-//!
-//! An or is an and of negations, so the two share their clauses.
+//! Tseitin clauses of gates. Both directions of each gate are emitted, and not only the one that its polarity needs:
+//! the count of clauses is part of the contract and must not depend on who reads a cell. An or is an and of negations,
+//! so the two share their clauses.
 
 ghost use Rattle.std.specs.Prelude.{◌≡◌, ◌+◌, ◌<◌, ◌∷◌, ◌++◌, [], not, OnOk};
 ghost use Rattle.bb_cnf.specs.Clauses.{positive, negated, lists_of};
@@ -10,28 +10,24 @@ use bb_bits::NoMemory;
 use bb_cnf::Lit;
 use smallvec::SmallVec;
 
-// The literal that is true where the variable has the bit.
 pub(crate) fn having(var: u32, bit: bool) -> Lit
     ensures { result ≡ having var bit }
 {
     Lit { var, neg: !bit }
 }
 
-// The variable itself.
 pub(crate) fn yes(var: u32) -> Lit
     ensures { result ≡ positive var }
 {
     having(var, true)
 }
 
-// Its negation.
 pub(crate) fn no(var: u32) -> Lit
     ensures { result ≡ negated var }
 {
     having(var, false)
 }
 
-// Adds a clause.
 pub(crate) fn push(clauses: &mut Vec<SmallVec<Lit, 4>>, lits: &[Lit]) -> Result<(), NoMemory>
     ensures { OnOk result (lists_of clauses.new.items ≡ lists_of clauses.old.items ++ lits.now ∷ []) }
 {
@@ -40,7 +36,6 @@ pub(crate) fn push(clauses: &mut Vec<SmallVec<Lit, 4>>, lits: &[Lit]) -> Result<
     Ok(())
 }
 
-// y is not a.
 pub(crate) fn push_not(clauses: &mut Vec<SmallVec<Lit, 4>>, y: u32, a: u32) -> Result<(), NoMemory>
     ensures { OnOk result (lists_of clauses.new.items ≡ lists_of clauses.old.items
         ++ (positive y ∷ positive a ∷ []) ∷ (negated y ∷ negated a ∷ []) ∷ []) }
@@ -49,7 +44,7 @@ pub(crate) fn push_not(clauses: &mut Vec<SmallVec<Lit, 4>>, y: u32, a: u32) -> R
     push(clauses, &[no(y), no(a)])
 }
 
-// The literal of y is the and of those of a and b; each is the variable's own where `sign` is true, else its negation.
+// The literals of `y`, `a` and `b` are positive where `sign` is true, else negative; so one function gives and and or.
 pub(crate) fn push_and(
     clauses: &mut Vec<SmallVec<Lit, 4>>,
     sign: bool,
@@ -69,7 +64,6 @@ pub(crate) fn push_and(
     )
 }
 
-// y is the exclusive or of a and b.
 pub(crate) fn push_xor(
     clauses: &mut Vec<SmallVec<Lit, 4>>,
     y: u32,
@@ -86,7 +80,7 @@ pub(crate) fn push_xor(
     push(clauses, &[yes(y), yes(a), no(b)])
 }
 
-// y is t where c is true, and e where it is not.
+// No clause for t = e: it is implied, and would only help propagation.
 pub(crate) fn push_mux(
     clauses: &mut Vec<SmallVec<Lit, 4>>,
     y: u32,

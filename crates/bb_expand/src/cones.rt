@@ -1,16 +1,18 @@
-//! Whether a cell of a netlist without boxes is 1 at some vector, by a solver over its cone or a window of it.
+//! Is a cell of a netlist without boxes ever 1? The solver gets its cone, or a window of it (see `bb_strash`). A window
+//! with free leaves is an over-approximation: UNSAT proves that the cell is constant 0, while a model has to be
+//! confirmed by simulation of the whole netlist.
 
 ghost use Rattle.std.specs.Prelude.{◌≡◌, ◌<◌, ◌≤◌, [], length, IfOk};
 ghost use Rattle.bb_expand.specs.Inside.Cones.{IfOne, IfZero, IsZero};
 
 use crate::free::by_solver;
-use crate::sought::Sought;
+use crate::search_result::SearchResult;
 use bb_bits::NoMemory;
 use bb_net::{Cell, Net};
 use bb_strash::{bits, window_of};
 use std::alloc::Global;
 
-/// How far a search goes: so many gates of a window, clauses, and learned clauses.
+/// Limits of one search: gates in the window, clauses of the query, learned clauses.
 #[derive(Clone, Copy, Debug)]
 pub(crate) struct Effort {
     pub gates: usize,
@@ -18,10 +20,10 @@ pub(crate) struct Effort {
     pub learned: u32,
 }
 
-// A netlist may have so many inputs.
+// Bounds the leaves of a window: they are the inputs of its netlist.
 const INPUTS: usize = 2048;
 
-// The netlist with one output, which is 0.
+// The second netlist of the query: its output is 0, so a difference is a 1 of the cell.
 fn zero(alloc: Global, inputs: u32) -> Result<Net, NoMemory>
     requires few { inputs ≤ 2048 }
     ensures { IfOk result (IsZero inputs) }
@@ -34,7 +36,7 @@ fn zero(alloc: Global, inputs: u32) -> Result<Net, NoMemory>
     Ok(net)
 }
 
-// The vector that has these bits at the inputs among the leaves, and 0 at the others.
+// Leaves that are no inputs are dropped: their bits follow from the inputs.
 fn vector_of(alloc: Global, net: &Net, leaves: &[u32], bits: &[bool]) -> Result<Vec<bool>, NoMemory>
     ensures { IfOk result (λ x. length x.items ≡ net.now.inputs) }
 {
@@ -49,8 +51,7 @@ fn vector_of(alloc: Global, net: &Net, leaves: &[u32], bits: &[bool]) -> Result<
     Ok(x)
 }
 
-// The vector, if the cell is 1 there.
-fn tried(alloc: Global, net: &Net, place: u32, x: Vec<bool>) -> Result<Sought, NoMemory>
+fn tried(alloc: Global, net: &Net, place: u32, x: Vec<bool>) -> Result<SearchResult, NoMemory>
     requires none { net.now.boxes ≡ [] }
     requires there { place < length net.now.cells }
     requires inputs { length x.items ≡ net.now.inputs }
@@ -60,21 +61,20 @@ fn tried(alloc: Global, net: &Net, place: u32, x: Vec<bool>) -> Result<Sought, N
     let mut value = vec![in alloc; false; net.cells().len()]?;
     net.value(&x, &[], &mut value);
     if value[place as usize] {
-        Ok(Sought::At(x))
+        Ok(SearchResult::At(x))
     } else {
-        Ok(Sought::GivenUp)
+        Ok(SearchResult::GivenUp)
     }
 }
 
-/// A vector at which the cell is 1, or that there is none, by a window of its cone. Gives up where that takes more than
-/// the effort, where the window has more than 2,048 leaves, or where the window is 1 and the one vector that is tried
-/// for it does not show it.
-pub(crate) fn seek_cell(
+/// Gives up beyond the effort, beyond 2,048 leaves, and where the window has a model that the simulated vector does not
+/// confirm.
+pub(crate) fn search_cell(
     alloc: Global,
     net: &Net,
     place: u32,
     effort: Effort,
-) -> Result<Sought, NoMemory>
+) -> Result<SearchResult, NoMemory>
     requires none { net.now.boxes ≡ [] }
     requires there { place < length net.now.cells }
     requires budget { effort.clauses ≤ 8000000 }
@@ -84,19 +84,19 @@ pub(crate) fn seek_cell(
     bits();
     net.keeps_its_order();
     if place == 0 {
-        return Ok(Sought::Nowhere);
+        return Ok(SearchResult::Nowhere);
     }
     let Some(part) = window_of(alloc, net, place, effort.gates)? else {
-        return Ok(Sought::GivenUp);
+        return Ok(SearchResult::GivenUp);
     };
     if part.leaves.len() > INPUTS {
-        return Ok(Sought::GivenUp);
+        return Ok(SearchResult::GivenUp);
     }
     let zero = zero(alloc, part.leaves.len() as u32)?;
     match by_solver(alloc, &part.net, &zero, effort.clauses, effort.learned)? {
-        Sought::Nowhere => Ok(Sought::Nowhere),
-        Sought::GivenUp => Ok(Sought::GivenUp),
-        Sought::At(bits) => {
+        SearchResult::Nowhere => Ok(SearchResult::Nowhere),
+        SearchResult::GivenUp => Ok(SearchResult::GivenUp),
+        SearchResult::At(bits) => {
             let x = vector_of(alloc, net, &part.leaves, &bits)?;
             tried(alloc, net, place, x)
         }

@@ -1,6 +1,5 @@
-//! How many clauses an expansion has, before any is made.
-//!
-//! A box with many inputs has more rows than any number here holds, so all counts stop at the greatest number.
+//! The number of clauses before any is made, so the budget is checked without memory. A box with many inputs has more
+//! rows than 64 bits hold, so all counts saturate at 2^64 - 1, which no budget reaches.
 
 ghost use Rattle.std.specs.Prelude.{◌≡◌, ◌+◌, ◌-◌, ◌*◌, ◌^◌, ◌<◌, ◌≤◌, ℕ, true, false, min, length, sum_by};
 ghost use Rattle.bb_net.specs.Netlists.{cell_at};
@@ -8,7 +7,7 @@ ghost use Rattle.bb_expand.specs.ClauseCounts.{cell_clause_count, clauses_per_ve
 
 use bb_net::{BoxPins, Cell, Net, Pair};
 
-// Doubles a number so many times.
+// Saturates, which a shift would not.
 fn doubled(number: u64, times: usize) -> u64
     ensures { result ≡ min (2 ^ times * number) (2 ^ 64 - 1) }
 {
@@ -19,7 +18,6 @@ fn doubled(number: u64, times: usize) -> u64
     doubled
 }
 
-// The clauses of a cell.
 fn cell_clauses(boxes: &[BoxPins], cell: Cell) -> u64
     requires there { (b p : ℕ) → cell ≡ Cell.BoxOut b p → b < length boxes.now }
     ensures { result ≡ min (cell_clause_count boxes.now cell) (2 ^ 64 - 1) }
@@ -33,7 +31,6 @@ fn cell_clauses(boxes: &[BoxPins], cell: Cell) -> u64
     }
 }
 
-// The clauses of cells.
 fn clauses_of_cells(boxes: &[BoxPins], cells: &[Cell]) -> u64
     requires there { (place b p : ℕ) → place < length cells.now → cell_at cells.now place ≡ Cell.BoxOut b p → b < length boxes.now }
     ensures { result ≡ min (sum_by (cell_clause_count boxes.now) cells.now) (2 ^ 64 - 1) }
@@ -45,7 +42,6 @@ fn clauses_of_cells(boxes: &[BoxPins], cells: &[Cell]) -> u64
     count
 }
 
-// The clauses of a vector.
 pub(crate) fn per_vector(imp: &Net) -> u64
     ensures { result ≡ min (clauses_per_vector imp.now) (2 ^ 64 - 1) }
 {
@@ -53,7 +49,7 @@ pub(crate) fn per_vector(imp: &Net) -> u64
     clauses_of_cells(imp.boxes(), imp.cells()).saturating_add(outs)
 }
 
-/// The number of clauses of the expansion over all vectors; 2^64 - 1 where it is that or more. Takes no memory.
+/// The number of clauses over all vectors; saturates at 2^64 - 1. Takes no memory.
 pub fn clause_count(pair: &Pair) -> u64
     ensures count { result ≡ min (clause_total pair.now.imp) (2 ^ 64 - 1) }
 {
@@ -61,7 +57,6 @@ pub fn clause_count(pair: &Pair) -> u64
     doubled(per_vector(imp), imp.inputs() as usize)
 }
 
-// Are the clauses over all vectors within the budget?
 pub(crate) fn is_within_budget(pair: &Pair, clauses: u32) -> bool
     ensures yes { result ≡ true → clause_total pair.now.imp ≤ clauses }
     ensures no { result ≡ false → clauses < clause_total pair.now.imp }

@@ -1,4 +1,8 @@
-//! The check: the budgets, and turns in which a solver gives tables and a vector is sought at which they fail.
+//! The CEGIS loop. It begins with no samples and tables of zeros. An iteration looks for vectors at which the tables
+//! fail; the first becomes a required sample (`distinguishing`), others are added while there is room, and the solver gives
+//! tables that agree at all samples. The loop ends since required samples only become more, and no two are the same.
+//! What was weighed: one vector an iteration keeps fewer samples, but the solver then has to guess what many samples
+//! would settle.
 
 ghost use Rattle.std.specs.Prelude.{◌≡◌, ◌^◌, ◌<◌, ◌≤◌, IfOk, OnOk, IsErrOf};
 ghost use Rattle.bb_net.specs.Completions.{table_bits, HaveSmallTables};
@@ -10,32 +14,34 @@ ghost use Rattle.bb_expand.specs.GivenUp.{NeedsMoreClauses};
 
 use crate::counting::{is_within_budget, per_vector};
 use crate::expanded::{ExpandFault, Expanded};
-use crate::held::{Held, nothing_held};
-use crate::holding::hold_failures;
-use crate::seeking::{failing_vectors, may_be_filled};
-use crate::turns::{refuted, tables_of, zero_tables};
+use crate::iterations::{refuted, tables_of, zero_tables};
+use crate::samples::{SampleSet, no_samples};
+use crate::sampling::hold_failures;
+use crate::searching::{failing_vectors, may_be_filled};
 use bb_cdcl::Solved;
-use bb_filled::laws::{forced_are_distinct, vectors_are_few};
 use bb_net::Pair;
+use bb_subst::laws::{distinguishing_vectors_are_distinct, vectors_are_few};
 use std::alloc::Global;
 
-// What the numbers of turns are mixed with to draw patterns.
+// Mixed with the number of required samples, so each iteration draws other patterns.
 const SEED: u64 = 0x9e37_79b9_7f4a_7c15;
 
-// How many vectors are sought in the first turn at most.
+// A cap on the samples of the first iteration.
 const FIRST: u64 = 128;
 
-// How many vectors a turn seeks: at first one for each bit of the tables, as long as these take a quarter of the budget, and later as many
-// as are held, so that they double. Most vectors are easy, and with few at a time the solver has to guess what many would tell it.
-fn wanted(pair: &Pair, bits: u32, clauses: u32, held: usize) -> usize
+// The first iteration looks for one vector a table bit, within a quarter of the budget, since zero tables are wrong
+// nearly everywhere. Later ones look for as many as there are samples: while samples double, all iterations together
+// cost about twice the last.
+fn wanted(pair: &Pair, bits: u32, clauses: u32, samples: usize) -> usize
     ensures { 1 ≤ result }
 {
     let room = u64::from(clauses) / 4 / per_vector(pair.imp()).max(1);
     let first = room.min(FIRST).min(u64::from(bits)).max(1);
-    held.max(first as usize)
+    samples.max(first as usize)
 }
 
-// The number of bits of tables for all kinds, where they are not too many.
+// `Wide` is tested first, so it comes whatever the budget. There is no bound on cells: a filled netlist has at most one
+// cell more for each table bit, and no search needs such a bound.
 fn admit(pair: &Pair, clauses: u32) -> Result<u32, ExpandFault>
     requires budget { clauses ≤ 8000000 }
     ensures bits { IfOk result (λ bits. bits ≡ table_bits (shown pair.now.kinds pair.now.imp.boxes)) }
@@ -54,11 +60,12 @@ fn admit(pair: &Pair, clauses: u32) -> Result<u32, ExpandFault>
     Ok(bits)
 }
 
-/// Decides by clauses whether some tables agree, one for each kind of boxes.
+/// Decides whether some tables agree, one for each sharing class (`kinds`) of boxes.
 ///
-/// `Wide` comes exactly where tables for all kinds have more than 2^24 bits; it is tried first. `Clauses` comes only where the clauses
-/// over all vectors are more than `clauses`, and for some vectors, at each of which tables fail that agree at those before, either the
-/// clauses are, or some tables that agree at all of them are too large to be tried.
+/// `Wide` comes exactly where the tables of all classes have more than 2^24 bits, and before any search. `Clauses`
+/// comes only where the clauses over all vectors exceed `clauses`, and for some required samples either their clauses
+/// do, or tables that agree at all of them are too large to be tried. It never has to come: which samples are required
+/// depends on the tables that the solver finds.
 pub fn expand(alloc: Global, pair: &Pair, clauses: u32) -> Result<Expanded, ExpandFault>
     requires budget { clauses ≤ 8000000 }
     ensures ok { IfOk result (IsExpanded pair.now.spec pair.now.imp pair.now.kinds clauses) }
@@ -67,32 +74,30 @@ pub fn expand(alloc: Global, pair: &Pair, clauses: u32) -> Result<Expanded, Expa
     ensures clauses { IsErrOf result fault.Clauses → HaveSmallTables (shown pair.now.kinds pair.now.imp.boxes) × NeedsMoreClauses pair.now.spec pair.now.imp pair.now.kinds clauses }
 {
     vectors_are_few();
-    forced_are_distinct();
-    // No vector is held at first, and all bits of the tables are 0. In each turn vectors are sought at which the tables fail, one is held
-    // and some of the others where there is room, and a solver gives tables that agree at all held ones.
+    distinguishing_vectors_are_distinct();
     let bits = admit(pair, clauses)?;
-    let mut held = nothing_held(alloc, pair, bits)?;
+    let mut samples = no_samples(alloc, pair, bits)?;
     let mut tables = zero_tables(alloc, pair, bits)?;
     loop {
-        let seed = held.forced.len() as u64 ^ SEED;
-        let wanted = wanted(pair, bits, clauses, held.vectors.len());
+        let seed = samples.distinguishing.len() as u64 ^ SEED;
+        let wanted = wanted(pair, bits, clauses, samples.vectors.len());
         let failing = failing_vectors(alloc, pair, &tables, clauses, seed, wanted)?;
         if failing.is_empty() {
             return Ok(Expanded::Repair(tables));
         }
-        let Held {
+        let SampleSet {
             vectors,
-            forced,
+            distinguishing,
             solver,
-        } = hold_failures(alloc, pair, bits, clauses, held, &tables, &failing)?;
+        } = hold_failures(alloc, pair, bits, clauses, samples, &tables, &failing)?;
         match solver.solve()? {
             Solved::Sat(model, solver) => {
-                held = Held {
+                samples = SampleSet {
                     vectors,
-                    forced,
+                    distinguishing,
                     solver,
                 };
-                tables = tables_of(alloc, pair, &held, &model)?;
+                tables = tables_of(alloc, pair, &samples, &model)?;
             }
             Solved::Unsat(cnf, refutation) => return Ok(refuted(pair, vectors, cnf, refutation)),
         }

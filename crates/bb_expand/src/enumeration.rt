@@ -1,10 +1,11 @@
-//! The first vector at which tables fail: all vectors are looked at, one after another.
+//! The last resort of the counterexample search: all vectors in rising order. It runs only where the clauses over all
+//! vectors are within the budget, so there are few of them, and it never gives up.
 
 ghost use Rattle.std.specs.Prelude.{◌≡◌, ◌^◌, ◌<◌, ◌≤◌, All, length, IfOk, IfSome, IfNone, true, false};
-ghost use Rattle.bb_net.specs.Agreement.{TablesAgree};
+ghost use Rattle.bb_net.specs.Equivalence.{TablesMakeEquivalent};
 ghost use Rattle.bb_net.specs.Kinds.{spread};
 ghost use Rattle.bb_net.specs.Values.{FitBoxes};
-ghost use Rattle.bb_filled.specs.Forced.{AgreeAt, FailAt};
+ghost use Rattle.bb_subst.specs.Distinguishing.{AreEquivalentAt, FailAt};
 ghost use Rattle.bb_expand.specs.ClauseCounts.{clause_total};
 ghost use Rattle.bb_expand.specs.Inside.Failures.{FailsAt, HasSameBits, HasOtherBit};
 
@@ -14,7 +15,6 @@ use bb_bits::{NoMemory, Table};
 use bb_net::Pair;
 use std::alloc::Global;
 
-// Do bits at some places of one list differ from those at places of another, pair by pair?
 fn differ(places: &[u32], bits: &[bool], wanted_places: &[u32], wanted: &[bool]) -> bool
     requires count { length wanted_places.now ≡ length places.now }
     requires there { All (λ place. place < length bits.now) places.now }
@@ -30,7 +30,7 @@ fn differ(places: &[u32], bits: &[bool], wanted_places: &[u32], wanted: &[bool])
     false
 }
 
-// Is some output wrong at the vector? The bits of all cells are written into `bits` and `wanted`.
+// `bits` and `wanted` are scratch for one pass, so that no vector allocates.
 fn fails_at(
     pair: &Pair,
     tables: &[Table],
@@ -43,7 +43,7 @@ fn fails_at(
     requires room { length bits.old ≡ length pair.now.imp.cells }
     requires wanted_room { length wanted.old ≡ length pair.now.spec.cells }
     ensures yes { result ≡ true → FailAt pair.now.spec pair.now.imp (spread pair.now.kinds tables.now) x.now }
-    ensures no { result ≡ false → AgreeAt pair.now.spec pair.now.imp (spread pair.now.kinds tables.now) x.now }
+    ensures no { result ≡ false → AreEquivalentAt pair.now.spec pair.now.imp (spread pair.now.kinds tables.now) x.now }
     ensures room { length bits.new ≡ length pair.now.imp.cells }
     ensures wanted_room { length wanted.new ≡ length pair.now.spec.cells }
 {
@@ -53,7 +53,7 @@ fn fails_at(
     differ(imp.outs(), bits, spec.outs(), wanted)
 }
 
-// The first vector at which the tables fail, in rising order.
+// The least vector, the first input most significant.
 pub(crate) fn first_failure(
     alloc: Global,
     pair: &Pair,
@@ -62,7 +62,7 @@ pub(crate) fn first_failure(
     requires fit { FitBoxes (spread pair.now.kinds tables.now) pair.now.imp.boxes }
     requires few { clause_total pair.now.imp ≤ 8000000 }
     ensures found { IfOk result (λ found. IfSome found (λ x. FailsAt pair.now.spec pair.now.imp (spread pair.now.kinds tables.now) x.items)) }
-    ensures none { IfOk result (λ found. IfNone found (TablesAgree pair.now.spec pair.now.imp (spread pair.now.kinds tables.now))) }
+    ensures none { IfOk result (λ found. IfNone found (TablesMakeEquivalent pair.now.spec pair.now.imp (spread pair.now.kinds tables.now))) }
 {
     laws_below();
     let (spec, imp) = (pair.spec(), pair.imp());

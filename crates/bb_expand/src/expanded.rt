@@ -1,11 +1,13 @@
-//! What the check answers.
+//! Answers of the check. The refutation comes with its vectors and clauses, so it can be checked without this crate;
+//! for all contents of the boxes the designs differ at one of the vectors, so who believes no solver can simulate these
+//! alone.
 
 use bb_bits::{NoMemory, Table};
 use bb_cnf::{Cnf, Refutation};
 
-/// The tables agree, one for each kind; or no such tables do, as the refutation of the expansion over some vectors shows.
+/// Either tables that agree, one for each sharing class in order, or a refutation of the clauses over `vectors`.
 ///
-/// No two of the vectors are one. The clauses stand in the order of the vectors, and the tables in the order of the kinds.
+/// No vector occurs twice, and the clauses are in the order of the vectors.
 #[derive(Drop)]
 pub enum Expanded {
     Error {
@@ -16,13 +18,13 @@ pub enum Expanded {
     Repair(Vec<Table>),
 }
 
-/// Why a pair is not decided.
+/// Why a pair stays open.
 #[derive(Clone, Copy, Debug, PartialEq, Eq)]
 pub enum ExpandFault {
-    /// More clauses may be needed than the budget allows: those over all vectors are more, and for some vectors, at each of which tables
-    /// fail that agree at those before, either the clauses are, or some tables that agree at all of them are too large to be tried.
+    /// The clauses over all vectors exceed the budget, and for some required samples either their clauses do, or some
+    /// tables that agree at all of them are too large to be tried.
     Clauses,
-    /// Tables for all kinds have more than 2^24 bits together.
+    /// The tables of all sharing classes have more than 2^24 bits together. Tested before any search.
     Wide,
     NoMemory,
 }

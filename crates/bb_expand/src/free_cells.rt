@@ -1,4 +1,5 @@
-//! The clauses of the cells of a netlist without boxes, at a vector that is free.
+//! Tseitin clauses of a netlist without boxes whose inputs are variables. An input cell gets its own variable, made
+//! equal to that of the input, so that cells of both netlists are numbered by place alone.
 
 ghost use Rattle.std.specs.Prelude.{◌≡◌, ◌+◌, ◌^◌, ◌<◌, ◌≤◌, ◌∷◌, ◌++◌, [], ℕ, length, OnOk};
 ghost use Rattle.bb_cnf.specs.Clauses.{lists_of};
@@ -11,7 +12,6 @@ use bb_cnf::Lit;
 use bb_net::{Cell, Net};
 use smallvec::SmallVec;
 
-// y is z.
 fn push_equal(clauses: &mut Vec<SmallVec<Lit, 4>>, y: u32, z: u32) -> Result<(), NoMemory>
     ensures { OnOk result (lists_of clauses.new.items ≡ lists_of clauses.old.items ++ equal_clauses y z) }
 {
@@ -19,7 +19,7 @@ fn push_equal(clauses: &mut Vec<SmallVec<Lit, 4>>, y: u32, z: u32) -> Result<(),
     push(clauses, &[yes(y), no(z)])
 }
 
-// The variable of the cell at `place` is the cell's bit, where `base` variables stand before those of the cells.
+// The variable of a cell is `base + place + 1`; those of the inputs are 1, 2, ...
 fn push_free_cell(
     clauses: &mut Vec<SmallVec<Lit, 4>>,
     base: u32,
@@ -46,7 +46,6 @@ fn push_free_cell(
     }
 }
 
-/// The clauses of all cells, where `base` variables stand before theirs, those of the inputs first.
 pub(crate) fn push_free_cells(
     clauses: &mut Vec<SmallVec<Lit, 4>>,
     base: u32,

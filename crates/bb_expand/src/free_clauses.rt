@@ -1,4 +1,5 @@
-//! The clauses at a free vector: those of the cells of two netlists, and then some output differs.
+//! The miter as clauses: both netlists over shared inputs, an xor for each output, and one clause that some xor is 1.
+//! Variables in order: inputs, cells of the implementation, cells of the specification, outputs.
 
 ghost use Rattle.std.specs.Prelude.{◌≡◌, ◌+◌, ◌^◌, ◌<◌, ◌≤◌, ◌++◌, length, IfOk, OnOk};
 ghost use Rattle.bb_cnf.specs.Clauses.{lists_of};
@@ -16,7 +17,7 @@ use bb_net::Net;
 use smallvec::SmallVec;
 use std::alloc::Global;
 
-// The clauses of the outputs. The cells of the specification stand behind `wanted` variables, the outputs behind `base`.
+// `wanted` variables come before the specification's cells and `base` before the outputs.
 fn push_differences(
     clauses: &mut Vec<SmallVec<Lit, 4>>,
     wanted: u32,
@@ -39,7 +40,6 @@ fn push_differences(
     Ok(())
 }
 
-// Some output differs.
 fn some_differs(
     alloc: Global,
     base: u32,
@@ -58,7 +58,7 @@ fn some_differs(
     Ok(clause)
 }
 
-/// The clauses that two netlists without boxes differ at a vector, which is free.
+/// A model's first bits are the vector, since inputs have the first variables.
 pub(crate) fn free_clauses(alloc: Global, spec: &Net, imp: &Net) -> Result<Cnf, NoMemory>
     requires comparable { AreComparable spec.now imp.now }
     requires few { length (free_clauses spec.now imp.now).clauses ≤ 8000000 }

@@ -1,4 +1,5 @@
-//! How many clauses there are at a free vector, before any is made.
+//! The number of clauses of the miter, so the limit is tested before memory is taken. It is exact, and so it is also
+//! the capacity of the list, which never grows.
 
 ghost use Rattle.std.specs.Prelude.{◌≡◌, ◌+◌, ◌-◌, ◌^◌, ◌<◌, ◌≤◌, [], ℕ, length, min};
 ghost use Rattle.bb_miter.specs.Inside.Equivalence.{AreComparable};
@@ -6,7 +7,6 @@ ghost use Rattle.bb_expand.specs.Inside.FreeClauses.{free_cell_clauses, cells_af
 
 use bb_net::{Cell, Net};
 
-// The clauses of a cell.
 fn of_cell(cell: Cell) -> u64
     requires no_box { (b p : ℕ) → cell ≡ Cell.BoxOut b p → ⊥ }
     ensures count { (var : ℕ → ℕ) (y : ℕ) → result ≡ length (free_cell_clauses var y cell) }
@@ -21,7 +21,7 @@ fn of_cell(cell: Cell) -> u64
     }
 }
 
-// The clauses of all cells.
+// No overflow: at most 4 a cell, and places are 32 bits.
 fn of_cells(net: &Net) -> u64
     requires { net.now.boxes ≡ [] }
     ensures count { (base : ℕ) → result ≡ length (cells_after base net.now.cells) }
@@ -35,7 +35,7 @@ fn of_cells(net: &Net) -> u64
     count
 }
 
-/// The number of clauses at a free vector; 2^64 - 1 where it is that or more. Takes no memory.
+/// Takes no memory.
 pub(crate) fn free_count(spec: &Net, imp: &Net) -> u64
     requires { AreComparable spec.now imp.now }
     ensures { result ≡ min (length (free_clauses spec.now imp.now).clauses) (2 ^ 64 - 1) }

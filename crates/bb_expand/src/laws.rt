@@ -1,20 +1,20 @@
-//! Laws of expansions. Each public function has laws as its contract and does nothing.
+//! Laws of expansions, as contracts of empty functions: crates above call a function and cite no proof of this one.
 
 ghost use Rattle.bb_expand.specs.Laws.{CellClausesSayGate, ModelsAreTables, AllVectorsDecide, ClausesAreCounted, VariablesAreWithin, VectorsRise, VectorsAreAll, ExpansionsAreRefuted, RefutationsShowVectors, AnswersExist};
 ghost use Rattle.bb_expand.specs.Inside.LawsBelow.{Numbering, Sharing, ValueExists, ValueIsUnique};
 
 use bb_bits::{number_is_below, number_spelled, number_spelled_once};
 use bb_cnf::laws;
-use bb_filled::laws::{forced_are_distinct, vectors_are_few};
 use bb_net::{
     BoxPins, kinds_are_counted, kinds_are_shown, tables_are_spread, value_exists, value_is_unique,
 };
+use bb_subst::laws::{distinguishing_vectors_are_distinct, vectors_are_few};
 
-/// A cell's clauses say that its variable is the gate's bit; so an expansion has a model exactly where some tables, one for each kind,
-/// give every output the wanted bit at each of its vectors, and over all vectors exactly where some such tables agree.
+/// A cell's clauses make its variable the gate's bit. So an expansion has a model exactly where some tables, one for
+/// each sharing class, give every output the wanted bit at each of its vectors; over all vectors, exactly where some
+/// tables agree.
 ///
-/// Each vector adds as many clauses as are counted, and all variables are in range. The list of all vectors has each of them
-/// at the number that its bits spell.
+/// Each vector adds as many clauses as counted, and the list of all vectors has each at the number that its bits spell.
 pub fn expansions_and_tables()
     ensures gate { CellClausesSayGate }
     ensures models { ModelsAreTables }
@@ -27,22 +27,21 @@ pub fn expansions_and_tables()
     laws_below();
 }
 
-/// Where no tables agree, one for each kind, the expansion over all vectors has a refutation. Each pair has an answer, or needs more
-/// clauses, where the clauses over any forced vectors, if they are within the budget and have no model, have a refutation that a list
-/// may hold.
+/// Each pair has an answer or exceeds the budget, if refutations over required samples are short enough for a list in
+/// memory.
 pub fn answers_exist()
     ensures refuted { ExpansionsAreRefuted }
     ensures answer { AnswersExist }
 {
     laws::refutations_exist();
     laws::models();
-    forced_are_distinct();
+    distinguishing_vectors_are_distinct();
     vectors_are_few();
     expansions_and_tables();
     laws_below();
 }
 
-/// Where the expansion over some vectors is refuted, with all tables, one for each kind, some output is wrong at one of them.
+/// Any tables, one for each sharing class, fail at one of the vectors of a refuted expansion.
 pub fn refutations_show_vectors()
     ensures { RefutationsShowVectors }
 {
@@ -50,7 +49,7 @@ pub fn refutations_show_vectors()
     expansions_and_tables();
 }
 
-// The laws of numbers, of values and of kinds on which these rest.
+// Laws of numbers, values and sharing classes that most lemmas here need together.
 pub(crate) fn laws_below()
     ensures numbering { Numbering }
     ensures exists { ValueExists }

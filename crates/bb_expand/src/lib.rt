@@ -1,4 +1,7 @@
-//! The check of a pair by expansion: clauses for vectors that are held one after another, until tables agree everywhere or none do.
+//! Filling black boxes by counterexample-guided synthesis (CEGIS) over clauses. A sample set of input vectors grows
+//! until a SAT solver refutes the clauses over it, or gives tables that no vector contradicts. Clauses over all vectors
+//! would exceed a budget at about twelve inputs, while few vectors of a wide design decide it: an adder of 64 bits with
+//! sixteen boxes needs few of its 2^129.
 #![tactic(auto)]
 
 mod candidates;
@@ -14,17 +17,17 @@ mod free_cells;
 mod free_clauses;
 mod free_counting;
 mod free_laws;
-mod held;
-mod holding;
+mod iterations;
 mod laws;
 mod merging;
 mod numbers;
 mod outputs;
 mod rows;
-mod seeking;
-mod sought;
+mod samples;
+mod sampling;
+mod search_result;
+mod searching;
 mod tables;
-mod turns;
 mod vectors;
 
 pub use counting::clause_count;

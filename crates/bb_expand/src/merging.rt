@@ -1,19 +1,21 @@
-//! Cells are merged that have one bit at every vector, as SAT sweeping does (Kuehlmann, Dynamic transition relation
-//! simplification for bounded property checking, 2004).
+//! SAT sweeping (Kuehlmann 2004): cells are merged from the inputs on, each pair after the solver refuted on a window
+//! that they differ. Candidates come from simulation and windows are guesses; only the refutation counts, and it goes
+//! into no printed proof, since equivalence here only ends the search for a counterexample.
 
 ghost use Rattle.std.specs.Prelude.{◌≡◌, ◌+◌, ◌<◌, ◌≤◌, ◌^◌, [], true, length, IfOk, IfSome, OnOk};
 ghost use Rattle.bb_expand.specs.Inside.Cones.{IfOne, IfZero};
 ghost use Rattle.bb_strash.specs.Inside.Extensions.{bit, Extends, Gives};
 
 use crate::candidates::{Candidate, Classes};
-use crate::cones::{Effort, seek_cell};
-use crate::sought::Sought;
+use crate::cones::{Effort, search_cell};
+use crate::search_result::SearchResult;
 use bb_bits::NoMemory;
 use bb_net::{Cell, Net};
 use bb_strash::{Hashed, Merger, bits};
 use std::alloc::Global;
 
-// What is tried to settle a candidate: first a small window, and then a large one.
+// Two efforts: a window that is UNSAT settles the candidate whatever its size, so the large one is tried only where the
+// small one gives up.
 const NEAR: Effort = Effort {
     gates: 64,
     clauses: 1_000,
@@ -26,25 +28,24 @@ const FAR: Effort = Effort {
     learned: 1_000,
 };
 
-// How much may fail before no other candidates are tried: one that is refuted by a vector counts 1, and one that stays
-// open more. So many vectors are kept before classes are refined.
+// The budget of failures: a candidate refuted by a vector costs 1, one left open `LEFT_OPEN`. Refuting vectors are kept
+// until there are `KEPT`, since refinement walks over all cells.
 const FAILED: u32 = 4_000;
 
 const LEFT_OPEN: u32 = 250;
 
 const KEPT: usize = 32;
 
-/// The sweeping of a netlist.
 #[derive(Debug, Drop)]
 pub(crate) struct Sweep<'a> {
     net: &'a Net,
     classes: Classes,
-    // Vectors at which candidates differ that were not taken in yet.
+    // Vectors that separate candidates and are not yet in the classes.
     against: Vec<Vec<bool>>,
     failed: u32,
 }
 
-// What became of a candidate.
+// `against` is the vector that separates the two, where one was found.
 #[derive(Debug, Drop)]
 struct Settled {
     place: u32,
@@ -52,7 +53,7 @@ struct Settled {
     against: Option<Vec<bool>>,
 }
 
-// The cell that the candidate is.
+// Hashing makes the complement only once.
 fn candidate_at(hashed: &mut Hashed, candidate: Candidate) -> Result<u32, NoMemory>
     requires none { hashed.old.boxes ≡ [] }
     requires there { candidate.place < length hashed.old.cells }
@@ -68,20 +69,20 @@ fn candidate_at(hashed: &mut Hashed, candidate: Candidate) -> Result<u32, NoMemo
     }
 }
 
-// A vector at which a cell is 1, or that there is none, by windows.
-fn seek_near(alloc: Global, net: &Net, place: u32) -> Result<Sought, NoMemory>
+fn search_near(alloc: Global, net: &Net, place: u32) -> Result<SearchResult, NoMemory>
     requires none { net.now.boxes ≡ [] }
     requires there { place < length net.now.cells }
     ensures one { IfOk result (IfOne net.now place) }
     ensures zero { IfOk result (IfZero net.now place) }
 {
-    match seek_cell(alloc, net, place, NEAR)? {
-        Sought::GivenUp => seek_cell(alloc, net, place, FAR),
+    match search_cell(alloc, net, place, NEAR)? {
+        SearchResult::GivenUp => search_cell(alloc, net, place, FAR),
         answer => Ok(answer),
     }
 }
 
-// The candidate, where it has the bits of the cell at every vector, and else the cell itself.
+// The candidate where it equals the cell at every vector, else the cell itself. The question is whether their xor is
+// ever 1; that xor stays in the netlist, unread.
 fn settle(
     alloc: Global,
     hashed: &mut Hashed,
@@ -98,18 +99,18 @@ fn settle(
     bits();
     let other = candidate_at(hashed, candidate)?;
     let difference = hashed.add(Cell::Xor(other, place))?;
-    match seek_near(alloc, hashed.net(), difference)? {
-        Sought::Nowhere => Ok(Settled {
+    match search_near(alloc, hashed.net(), difference)? {
+        SearchResult::Nowhere => Ok(Settled {
             place: other,
             failed: false,
             against: None,
         }),
-        Sought::At(x) => Ok(Settled {
+        SearchResult::At(x) => Ok(Settled {
             place,
             failed: true,
             against: Some(x),
         }),
-        Sought::GivenUp => Ok(Settled {
+        SearchResult::GivenUp => Ok(Settled {
             place,
             failed: true,
             against: None,
@@ -118,7 +119,6 @@ fn settle(
 }
 
 impl<'a> Sweep<'a> {
-    /// The sweeping of a netlist, before its first cell.
     pub(crate) fn of(alloc: Global, net: &'a Net) -> Result<Sweep<'a>, NoMemory>
         requires { net.now.inputs ≤ 2048 }
     {
@@ -130,7 +130,8 @@ impl<'a> Sweep<'a> {
         })
     }
 
-    // The cell that this one may be merged with.
+    // Constants and inputs stay, since the new netlist has them at fixed places. A candidate counts only where the new
+    // netlist has that cell: nothing else is known of the classes.
     fn candidate(&self, number: usize, places: usize) -> Option<Candidate>
         ensures { IfSome result (λ c. c.place < places) }
     {
@@ -145,7 +146,6 @@ impl<'a> Sweep<'a> {
         }
     }
 
-    // Takes in what became of a candidate.
     fn note(
         &mut self,
         alloc: Global,

@@ -1,9 +1,8 @@
-//! Numbers spelled in bits.
+//! Vectors as numbers, the first bit most significant: this is the order in which all vectors are enumerated.
 
 ghost use Rattle.std.specs.Prelude.{◌≡◌, ◌+◌, ◌^◌, ◌<◌, ◌≤◌, length};
 ghost use Rattle.bb_bits.specs.Numbers.{bits_of};
 
-// Spells a number in bits, the first one most significant.
 pub(crate) fn spell(number: u32, bits: &mut [bool])
     requires few { length bits.old ≤ 31 }
     ensures { bits.new ≡ bits_of (length bits.old) number }

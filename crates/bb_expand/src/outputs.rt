@@ -1,4 +1,8 @@
-//! Whether two netlists without boxes differ, output by output of their miter.
+//! Counterexample search in the miter of two netlists, cheap steps first. Gates are hashed as the miter is built, so a
+//! design beside itself needs no search. Few learned clauses are spent on all outputs together, whose vectors are of
+//! more kinds than those of the first output; then small BDDs, for tables, register files and state machines. BDDs are
+//! not first since they give the least vector, and of such more are needed. Then each output has its cone, and where
+//! some stay open, SAT sweeping and once more each output.
 
 ghost use Rattle.std.specs.Prelude.{◌≡◌, ◌≤◌, [], IfOk};
 ghost use Rattle.bb_miter.specs.Inside.Equivalence.{AreComparable};
@@ -6,10 +10,10 @@ ghost use Rattle.bb_expand.specs.Inside.Cones.{IfNone, IfSomeOne};
 ghost use Rattle.bb_expand.specs.Inside.Searches.{IfAt, IfNowhere};
 ghost use Rattle.bb_strash.specs.Inside.Miters.{IsMiter};
 
-use crate::cones::{Effort, seek_cell};
+use crate::cones::{Effort, search_cell};
 use crate::free::by_solver;
 use crate::merging::Sweep;
-use crate::sought::Sought;
+use crate::search_result::SearchResult;
 use bb_bits::NoMemory;
 use bb_miter::difference;
 use bb_net::Net;
@@ -17,9 +21,9 @@ use bb_strash::{miter, swept};
 use bb_sym::RungFault;
 use std::alloc::Global;
 
-// A vector at which some output is 1, or that none ever is, one output after another. Where so many are left open, the
-// others are not looked at.
-fn by_outputs(alloc: Global, net: &Net, effort: Effort, most: u32) -> Result<Sought, NoMemory>
+// The first output that can be 1 ends the search. Once `most` outputs are open the result cannot be `Nowhere`, so the
+// rest is skipped.
+fn by_outputs(alloc: Global, net: &Net, effort: Effort, most: u32) -> Result<SearchResult, NoMemory>
     requires none { net.now.boxes ≡ [] }
     requires budget { effort.clauses ≤ 8000000 }
     ensures one { IfOk result (IfSomeOne net.now) }
@@ -27,38 +31,38 @@ fn by_outputs(alloc: Global, net: &Net, effort: Effort, most: u32) -> Result<Sou
 {
     let mut open: u32 = 0;
     for out in net.outs() {
-        match seek_cell(alloc, net, *out, effort)? {
-            Sought::At(x) => return Ok(Sought::At(x)),
-            Sought::Nowhere => {}
-            Sought::GivenUp => open = open.saturating_add(1),
+        match search_cell(alloc, net, *out, effort)? {
+            SearchResult::At(x) => return Ok(SearchResult::At(x)),
+            SearchResult::Nowhere => {}
+            SearchResult::GivenUp => open = open.saturating_add(1),
         }
         if open >= most {
-            return Ok(Sought::GivenUp);
+            return Ok(SearchResult::GivenUp);
         }
     }
     if open == 0 {
-        Ok(Sought::Nowhere)
+        Ok(SearchResult::Nowhere)
     } else {
-        Ok(Sought::GivenUp)
+        Ok(SearchResult::GivenUp)
     }
 }
 
-// What is said of the miter of two is said of the two.
-fn lifted(spec: &Net, imp: &Net, net: &Net, sought: Sought) -> Sought
+// A statement about the miter becomes one about the two netlists; it exists for its contract.
+fn lifted(spec: &Net, imp: &Net, net: &Net, search_result: SearchResult) -> SearchResult
     requires miter { IsMiter spec.now imp.now net.now }
-    requires one { IfSomeOne net.now sought }
-    requires zero { IfNone net.now sought }
+    requires one { IfSomeOne net.now search_result }
+    requires zero { IfNone net.now search_result }
     ensures at { IfAt spec.now imp.now result }
     ensures nowhere { IfNowhere spec.now imp.now result }
 {
     let _ = spec;
     let _ = imp;
     let _ = net;
-    sought
+    search_result
 }
 
-// The same after cells that have one bit at every vector were merged.
-fn by_sweeping(alloc: Global, net: &Net, effort: Effort) -> Result<Sought, NoMemory>
+// One open output gives up here: after sweeping there is no further step in this file.
+fn by_sweeping(alloc: Global, net: &Net, effort: Effort) -> Result<SearchResult, NoMemory>
     requires none { net.now.boxes ≡ [] }
     requires inputs { net.now.inputs ≤ 2048 }
     requires budget { effort.clauses ≤ 8000000 }
@@ -68,14 +72,12 @@ fn by_sweeping(alloc: Global, net: &Net, effort: Effort) -> Result<Sought, NoMem
     let mut sweep = Sweep::of(alloc, net)?;
     match swept(alloc, net, &mut sweep)? {
         Some(merged) => by_outputs(alloc, &merged, effort, 1),
-        None => Ok(Sought::GivenUp),
+        None => Ok(SearchResult::GivenUp),
     }
 }
 
-// What is tried one after another: whether all outputs are the constant 0 as they are; how many clauses the solver may
-// learn for all outputs together, where it finds vectors of many kinds; diagrams of so many beads with so many cached
-// results, which are quick where inputs are few or well ordered; how many clauses it may learn for each output; and for
-// each after cells were merged.
+// Limits of the steps, in their order. `AS_IT_IS` cuts each output at itself, so it settles those that hashing made
+// constant. `TOGETHER`, `EACH` and `MERGED` are learned clauses; `NODES` and `CACHE` limit the BDDs.
 const AS_IT_IS: Effort = Effort {
     gates: 0,
     clauses: 100,
@@ -90,13 +92,12 @@ const CACHE: u32 = 16_384;
 
 const EACH: u32 = 200;
 
-// So many outputs may be left open where each is tried.
+// Once that many outputs are open, the rest waits for sweeping.
 const OPEN: u32 = 4;
 
 const MERGED: u32 = 10_000;
 
-// A vector at which some output of a miter is 1, or that none ever is.
-fn seek_in_miter(alloc: Global, net: &Net, clauses: u32) -> Result<Sought, NoMemory>
+fn search_in_miter(alloc: Global, net: &Net, clauses: u32) -> Result<SearchResult, NoMemory>
     requires none { net.now.boxes ≡ [] }
     requires inputs { net.now.inputs ≤ 2048 }
     requires budget { clauses ≤ 8000000 }
@@ -109,7 +110,7 @@ fn seek_in_miter(alloc: Global, net: &Net, clauses: u32) -> Result<Sought, NoMem
         learned: EACH,
     };
     match by_outputs(alloc, net, each, OPEN)? {
-        Sought::GivenUp => by_sweeping(
+        SearchResult::GivenUp => by_sweeping(
             alloc,
             net,
             Effort {
@@ -122,28 +123,27 @@ fn seek_in_miter(alloc: Global, net: &Net, clauses: u32) -> Result<Sought, NoMem
     }
 }
 
-// A vector at which some output of the two differs, or that there is none, by diagrams that stay small.
-fn by_small_diagrams(alloc: Global, spec: &Net, imp: &Net) -> Result<Sought, NoMemory>
+// Too many nodes is no error here: the next step takes over.
+fn by_small_diagrams(alloc: Global, spec: &Net, imp: &Net) -> Result<SearchResult, NoMemory>
     requires comparable { AreComparable spec.now imp.now }
     ensures at { IfOk result (IfAt spec.now imp.now) }
     ensures nowhere { IfOk result (IfNowhere spec.now imp.now) }
 {
     match difference(alloc, spec, imp, NODES, CACHE) {
-        Ok(Some(x)) => Ok(Sought::At(x)),
-        Ok(None) => Ok(Sought::Nowhere),
-        Err(RungFault::Nodes) => Ok(Sought::GivenUp),
+        Ok(Some(x)) => Ok(SearchResult::At(x)),
+        Ok(None) => Ok(SearchResult::Nowhere),
+        Err(RungFault::Nodes) => Ok(SearchResult::GivenUp),
         Err(RungFault::NoMemory) => Err(NoMemory),
     }
 }
 
-// The same by small diagrams, and where these grow too large by the miter of the two.
-fn seek_apart(
+fn search_apart(
     alloc: Global,
     spec: &Net,
     imp: &Net,
     net: &Net,
     clauses: u32,
-) -> Result<Sought, NoMemory>
+) -> Result<SearchResult, NoMemory>
     requires comparable { AreComparable spec.now imp.now }
     requires miter { IsMiter spec.now imp.now net.now }
     requires budget { clauses ≤ 8000000 }
@@ -151,22 +151,21 @@ fn seek_apart(
     ensures nowhere { IfOk result (IfNowhere spec.now imp.now) }
 {
     match by_small_diagrams(alloc, spec, imp)? {
-        Sought::GivenUp => {
-            let sought = seek_in_miter(alloc, net, clauses)?;
-            Ok(lifted(spec, imp, net, sought))
+        SearchResult::GivenUp => {
+            let search_result = search_in_miter(alloc, net, clauses)?;
+            Ok(lifted(spec, imp, net, search_result))
         }
         answer => Ok(answer),
     }
 }
 
-// The same by all outputs together, whose vectors are of many kinds, and then apart.
-fn seek_both(
+fn search_both(
     alloc: Global,
     spec: &Net,
     imp: &Net,
     net: &Net,
     clauses: u32,
-) -> Result<Sought, NoMemory>
+) -> Result<SearchResult, NoMemory>
     requires comparable { AreComparable spec.now imp.now }
     requires miter { IsMiter spec.now imp.now net.now }
     requires budget { clauses ≤ 8000000 }
@@ -174,30 +173,28 @@ fn seek_both(
     ensures nowhere { IfOk result (IfNowhere spec.now imp.now) }
 {
     match by_solver(alloc, spec, imp, clauses, TOGETHER)? {
-        Sought::GivenUp => seek_apart(alloc, spec, imp, net, clauses),
+        SearchResult::GivenUp => search_apart(alloc, spec, imp, net, clauses),
         answer => Ok(answer),
     }
 }
 
-/// A vector at which some output of the two differs, or that there is none. In their miter gates are looked up before
-/// they are added, so that outputs whose cones are one need no search. Gives up where an output takes more clauses, or
-/// more learned ones, than are allowed.
+/// Gives up where an output takes more clauses or more learned ones than the limits.
 pub(crate) fn by_miter(
     alloc: Global,
     spec: &Net,
     imp: &Net,
     clauses: u32,
-) -> Result<Sought, NoMemory>
+) -> Result<SearchResult, NoMemory>
     requires comparable { AreComparable spec.now imp.now }
     requires budget { clauses ≤ 8000000 }
     ensures at { IfOk result (IfAt spec.now imp.now) }
     ensures nowhere { IfOk result (IfNowhere spec.now imp.now) }
 {
     let Some(net) = miter(alloc, spec, imp)? else {
-        return Ok(Sought::GivenUp);
+        return Ok(SearchResult::GivenUp);
     };
     match by_outputs(alloc, &net, AS_IT_IS, 1)? {
-        Sought::GivenUp => seek_both(alloc, spec, imp, &net, clauses),
+        SearchResult::GivenUp => search_both(alloc, spec, imp, &net, clauses),
         answer => Ok(lifted(spec, imp, &net, answer)),
     }
 }

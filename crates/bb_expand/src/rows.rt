@@ -1,4 +1,6 @@
-//! The clauses of a box's output pin: one row of its table after another.
+//! Clauses of a box output: two for each row of its table. A row is a guard over the input pins, so the variables of
+//! the table bits are selected by position and need no multiplexer tree. Boxes of one sharing class use the same table
+//! variables.
 
 ghost use Rattle.std.specs.Prelude.{◌≡◌, ◌+◌, ◌*◌, ◌^◌, ◌<◌, ◌≤◌, ◌∷◌, ◌++◌, [], ℕ, All, length, map, slice_index, take, IfOk, OnOk};
 ghost use Rattle.std.specs.List.{flat_map, range_with_len};
@@ -19,7 +21,7 @@ use bb_net::{BoxPins, Pair};
 use smallvec::SmallVec;
 use std::alloc::Global;
 
-// How many bits the table of a box has.
+// Without outputs there are no bits, however many rows; the test comes before the shift, which could overflow.
 pub(crate) fn box_bits(pins: &BoxPins) -> u32
     requires small { length pins.now.outs * 2 ^ length pins.now.ins ≤ 2 ^ 24 }
     ensures bits { result ≡ length pins.now.outs * 2 ^ length pins.now.ins }
@@ -32,7 +34,6 @@ pub(crate) fn box_bits(pins: &BoxPins) -> u32
     }
 }
 
-// For each of these boxes how many table bits stand before its own.
 fn starts_of_boxes(alloc: Global, firsts: &[u32], boxes: &[BoxPins]) -> Result<Vec<u32>, NoMemory>
     requires there { All (λ b. b < length boxes.now) firsts.now }
     requires small { HaveSmallTables (map (box_at boxes.now) firsts.now) }
@@ -47,7 +48,7 @@ fn starts_of_boxes(alloc: Global, firsts: &[u32], boxes: &[BoxPins]) -> Result<V
     Ok(starts)
 }
 
-// For each kind how many table bits stand before its own.
+// For each sharing class, how many table bits come before its table.
 pub(crate) fn table_starts(alloc: Global, pair: &Pair) -> Result<Vec<u32>, NoMemory>
     requires small { HaveSmallTables (shown pair.now.kinds pair.now.imp.boxes) }
     ensures starts { IfOk result (λ starts. AreStarts starts.items (shown pair.now.kinds pair.now.imp.boxes)) }
@@ -57,7 +58,7 @@ pub(crate) fn table_starts(alloc: Global, pair: &Pair) -> Result<Vec<u32>, NoMem
     Ok(starts)
 }
 
-// Some input pin differs from its bit of a row, or one of two more literals is true.
+// Some input pin differs from the row, or `y` or `t` is true.
 fn row_clause(
     alloc: Global,
     base: u32,
@@ -79,7 +80,6 @@ fn row_clause(
     Ok(clause)
 }
 
-// Where the input pins have the bits of a row, the variables y and t are equal.
 fn push_row(
     clauses: &mut Vec<SmallVec<Lit, 4>>,
     base: u32,
@@ -98,7 +98,7 @@ fn push_row(
     Ok(())
 }
 
-// In each row the variable y is the table's bit at an output pin, where so many table bits stand before those of the box's table.
+// `start` table bits come before those of this table. In it the order is row by row, and output pins within a row.
 pub(crate) fn push_pin(
     clauses: &mut Vec<SmallVec<Lit, 4>>,
     base: u32,

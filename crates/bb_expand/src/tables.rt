@@ -1,4 +1,5 @@
-//! Tables as a model of an expansion has them.
+//! Tables from the first variables of a model: their variables come before those of the samples, so they stay where
+//! they are when samples are added. One table for each sharing class, in the order of first boxes.
 
 ghost use Rattle.std.specs.Prelude.{◌≡◌, ◌+◌, ◌*◌, ◌^◌, ◌<◌, ◌≤◌, ℕ, All, length, map, take, drop, IfOk};
 ghost use Rattle.bb_net.specs.Completions.{table_bits, HaveSmallTables};
@@ -13,7 +14,7 @@ use bb_bits::{NoMemory, Table};
 use bb_net::{BoxPins, Pair};
 use std::alloc::Global;
 
-// The table of a box with these bits, row after row.
+// Bits are row by row, output pins within a row.
 fn read_table(alloc: Global, pins: &BoxPins, bits: &[bool]) -> Result<Table, NoMemory>
     requires small { length pins.now.outs * 2 ^ length pins.now.ins ≤ 2 ^ 24 }
     requires few { length pins.now.ins < 2 ^ 32 }
@@ -28,7 +29,6 @@ fn read_table(alloc: Global, pins: &BoxPins, bits: &[bool]) -> Result<Table, NoM
     Ok(table)
 }
 
-// The tables of these boxes, whose bits stand one after another.
 fn tables_of_boxes(
     alloc: Global,
     firsts: &[u32],
@@ -52,7 +52,7 @@ fn tables_of_boxes(
     Ok(tables)
 }
 
-// The boxes to which tables of all kinds belong: the first of each kind.
+// One box for each sharing class, the first: its pins give the size of the table.
 pub(crate) fn shown_boxes(alloc: Global, pair: &Pair) -> Result<Vec<u32>, NoMemory>
     ensures shown { IfOk result (λ firsts. map (box_at pair.now.imp.boxes) firsts.items ≡ shown pair.now.kinds pair.now.imp.boxes) }
     ensures there { IfOk result (λ firsts. All (λ b. b < length pair.now.imp.boxes) firsts.items) }
@@ -63,7 +63,6 @@ pub(crate) fn shown_boxes(alloc: Global, pair: &Pair) -> Result<Vec<u32>, NoMemo
     Ok(firsts)
 }
 
-// The tables of all kinds, whose bits stand one after another.
 pub(crate) fn read_tables(
     alloc: Global,
     pair: &Pair,

@@ -1,4 +1,5 @@
-//! The clauses of a vector: those of the implementation's cells, and then each output has the specification's bit.
+//! The clauses of one sample: implementation cells with constant inputs, then unit clauses for the outputs. The
+//! specification is simulated and not encoded, since its inputs are known at a sample.
 
 ghost use Rattle.std.specs.Prelude.{◌≡◌, ◌+◌, ◌*◌, ◌^◌, ◌<◌, ◌≤◌, ◌∷◌, ◌++◌, [], ℕ, All, length, slice_index, map, take, OnOk};
 ghost use Rattle.std.specs.List.{flat_map, range_with_len};
@@ -18,7 +19,6 @@ use bb_cnf::Lit;
 use bb_net::Pair;
 use smallvec::SmallVec;
 
-// Each output has the bit that stands at its place among the bits of the specification's cells.
 fn push_outputs(
     clauses: &mut Vec<SmallVec<Lit, 4>>,
     base: u32,
@@ -41,7 +41,7 @@ fn push_outputs(
     Ok(())
 }
 
-// The clauses of the vector x with the number v. The bits of the specification's cells are written into `bits`.
+// `x` is sample number `v`. `bits` is scratch for the specification's cells.
 pub(crate) fn push_vector(
     clauses: &mut Vec<SmallVec<Lit, 4>>,
     base: u32,

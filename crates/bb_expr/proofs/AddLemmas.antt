@@ -11,8 +11,8 @@ use Rattle.bb_expr.specs.declared.step.BitStep.{BitStep}
 use Rattle.bb_expr.specs.declared.step.BitStep.TheVariants as steps
 use Rattle.bb_expr.specs.Lists.{extended}
 use Rattle.bb_expr.specs.Terms.{Term, Const, Not}
-use Rattle.bb_expr.specs.Cells.{Made, without_cells, inverted}
-use Rattle.bb_expr.specs.Lowered.{step_term, term_at, Reads, is_operator}
+use Rattle.bb_expr.specs.Cells.{MadeTerms, without_cells, inverted}
+use Rattle.bb_expr.specs.Lowered.{step_term, term_at, ReadsEarlier, is_operator}
 use Rattle.bb_expr.specs.Inside.Growing.{Adds, AddsRow}
 use Rattle.bb_expr.proofs.StepLemmas.{reads-later}
 use Rattle.bb_expr.proofs.RowLemmas.{row_cell, terms-of-rows, terms-kept, adds-nothing, adds-rows}
@@ -22,7 +22,7 @@ range-below a n = All-from_get_or (λ k. k < a + n) (range_with_len a n) 0 (λ i
 
 -- steps that are no operators, and read nothing
 abbrev pub AreLeaves : List NetInfo → List BitStep → Type 0
-AreLeaves nets rows = AllByRecursion (λ s. (is_operator s ≡ false) × Reads nets 0 s) rows
+AreLeaves nets rows = AllByRecursion (λ s. (is_operator s ≡ false) × ReadsEarlier nets 0 s) rows
 
 abbrev pub leaf_term : List NetInfo → BitStep → Term
 leaf_term nets s = step_term nets s (λ k. Const false)
@@ -37,7 +37,7 @@ module _ (nets : List NetInfo) where
   leaf-same (steps.Xor a b) v h = cc
   leaf-same (steps.Mux c t e) v h = cc
 
-  leaves-read : (n : ℕ) (rows : List BitStep) → AreLeaves nets rows → AllByRecursion (Reads nets n) rows
+  leaves-read : (n : ℕ) (rows : List BitStep) → AreLeaves nets rows → AllByRecursion (ReadsEarlier nets n) rows
   leaves-read n [] h = tt
   leaves-read n (s ∷ rows) h = (reads-later nets 0 n s (omega arith) h.0.1, leaves-read n rows h.1)
 
@@ -61,11 +61,11 @@ module _ (nets : List NetInfo) where
   adds-leaves rows old new out row leaves =
       subst (Adds nets (without_cells (map (leaf_term nets) rows)) old new) (sym row.numbered)
       (adds-rows nets (without_cells []) old old new rows [] (range_with_len (length old) (length rows)) (map (leaf_term nets) rows) [] (adds-nothing nets old) row.grows
-      (All-from_recursion (Reads nets (length old)) rows (leaves-read (length old) rows leaves))
+      (All-from_recursion (ReadsEarlier nets (length old)) rows (leaves-read (length old) rows leaves))
       (range-below (length old) (length rows))
       (length-range_with_len (length old) (length rows) ∙ sym (length-map rows (leaf_term nets))) (omega (arith, length-range_with_len (length old) (length rows)))
       (λ ordered same. (
-        terms-of-rows nets old rows ordered (All-from_recursion (Reads nets (length old)) rows (leaves-read (length old) rows leaves)) ∙ leaves-terms (term_at nets old) rows leaves,
+        terms-of-rows nets old rows ordered (All-from_recursion (ReadsEarlier nets (length old)) rows (leaves-read (length old) rows leaves)) ∙ leaves-terms (term_at nets old) rows leaves,
         leaves-cells old rows leaves,
       )))
 
@@ -78,14 +78,14 @@ module _ (nets : List NetInfo) where
   zeros-terms v (suc n) = ap (λ r. Const false ∷ r) (zeros-terms v n)
 
   -- zeros on the left
-  pub adds-extended : (m : Made) (old mid new : List BitStep) (bits out : List ℕ) (w : ℕ) → Adds nets m old mid bits → new ≡ mid ++ replicate (w - length bits) (steps.Const false)
+  pub adds-extended : (m : MadeTerms) (old mid new : List BitStep) (bits out : List ℕ) (w : ℕ) → Adds nets m old mid bits → new ≡ mid ++ replicate (w - length bits) (steps.Const false)
       → out ≡ range_with_len (length mid) (w - length bits) ++ bits → Adds nets (record { bits = extended (Const false) w m.bits; cells = m.cells }) old new out
   adds-extended m old mid new bits out w x grows is =
       let n = w - length bits in
       let rows = replicate n (steps.Const false) in
       let range = range_with_len (length mid) n in
       let count : length rows ≡ n = length-replicate n (steps.Const false) in
-      let reads = All-from_recursion (Reads nets (length mid)) rows (leaves-read (length mid) rows (zeros-leaves n)) in
+      let reads = All-from_recursion (ReadsEarlier nets (length mid)) rows (leaves-read (length mid) rows (zeros-leaves n)) in
       let zeros : extended (Const false) w m.bits ≡ replicate n (Const false) ++ m.bits = ap (λ k. replicate (w - k) (Const false) ++ m.bits) (sym x.long) in
       subst (λ cells. Adds nets (record { bits = extended (Const false) w m.bits; cells = cells }) old new out) (append-nil m.cells)
       (subst (λ b. Adds nets (record { bits = b; cells = m.cells ++ [] }) old new out) (sym zeros)
@@ -105,20 +105,20 @@ module _ (nets : List NetInfo) where
       )))))
 
   -- a row of operators that read all of the bits
-  pub adds-operators : (m : Made) (old mid new rows : List BitStep) (bits out : List ℕ) (cells : List Term) → Adds nets m old mid bits → AddsRow rows mid new out
-      → AllByRecursion (Reads nets (length mid)) rows → AllByRecursion (λ s. is_operator s ≡ true) rows
+  pub adds-operators : (m : MadeTerms) (old mid new rows : List BitStep) (bits out : List ℕ) (cells : List Term) → Adds nets m old mid bits → AddsRow rows mid new out
+      → AllByRecursion (ReadsEarlier nets (length mid)) rows → AllByRecursion (λ s. is_operator s ≡ true) rows
       → length rows ≡ length cells → length bits ≤ 3 * length rows
       → (map (term_at nets mid) bits ≡ m.bits → map (λ s. step_term nets s (term_at nets mid)) rows ≡ cells)
       → Adds nets (record { bits = cells; cells = m.cells ++ cells }) old new out
   adds-operators m old mid new rows bits out cells x row reads are count fits terms =
       let range = range_with_len (length mid) (length rows) in
-      let reading = All-from_recursion (Reads nets (length mid)) rows reads in
+      let reading = All-from_recursion (ReadsEarlier nets (length mid)) rows reads in
       subst (Adds nets (record { bits = cells; cells = m.cells ++ cells }) old new) (sym row.numbered)
       (adds-rows nets m old mid new rows bits range cells cells x row.grows reading (range-below (length mid) (length rows))
       (length-range_with_len (length mid) (length rows) ∙ count) (omega (arith, length-range_with_len (length mid) (length rows), count, fits))
       (λ ordered same. (terms-of-rows nets mid rows ordered reading ∙ terms same, operator-cells mid rows are ∙ terms same)))
 
-  nots-read : (n : ℕ) (bits : List ℕ) → AllByRecursion (λ k. k < n) bits → AllByRecursion (Reads nets n) (map steps.Not bits)
+  nots-read : (n : ℕ) (bits : List ℕ) → AllByRecursion (λ k. k < n) bits → AllByRecursion (ReadsEarlier nets n) (map steps.Not bits)
   nots-read n [] h = tt
   nots-read n (b ∷ bits) h = (h.0, nots-read n bits h.1)
 
@@ -131,7 +131,7 @@ module _ (nets : List NetInfo) where
   nots-terms v (b ∷ bits) = ap (λ r. Not (v b) ∷ r) (nots-terms v bits)
 
   -- a complement of each bit
-  pub adds-inverted : (m : Made) (old mid new : List BitStep) (bits out : List ℕ) → Adds nets m old mid bits → AddsRow (map steps.Not bits) mid new out
+  pub adds-inverted : (m : MadeTerms) (old mid new : List BitStep) (bits out : List ℕ) → Adds nets m old mid bits → AddsRow (map steps.Not bits) mid new out
       → Adds nets (record { bits = inverted m.bits; cells = m.cells ++ inverted m.bits }) old new out
   adds-inverted m old mid new bits out x row =
       adds-operators m old mid new (map steps.Not bits) bits out (inverted m.bits) x row (nots-read (length mid) bits (recursion_from_All (λ k. k < length mid) bits x.within)) (nots-are bits)

@@ -5,8 +5,8 @@ use Rattle.std.proofs.lemmas.List.{length-map}
 use Rattle.std.proofs.lemmas.List.Elements.{All-from_recursion}
 use Rattle.std.specs.Prelude.{replicate, sum}
 use Rattle.std.specs.List.{AllByRecursion, list_all, range_with_len}
-use Rattle.bb_lists.proofs.Ranges.{length-range}
-use Rattle.bb_lists.proofs.Bits.{and_left, and_right}
+use Rattle.bb_lemmas.proofs.Ranges.{length-range}
+use Rattle.bb_lemmas.proofs.Bits.{and_left, and_right}
 use Rattle.bb_ast.specs.Syntax.{Expression, Net, Bit, Part, Sized, Plain, Not, Fold, Chain, Words, Cond, Concat, Repeat, Parts, no_part, part}
 use Rattle.bb_ast.specs.Folds.{of_parts}
 use Rattle.bb_ast.specs.Assignable.{assigning, is_assignable}

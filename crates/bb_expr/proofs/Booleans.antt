@@ -1,4 +1,4 @@
--- What a test tells of its parts.
+-- What a test says of its parts.
 use Rattle.std.proofs.Common.{◌≡◌, Bool, true, false, ◌||◌, refl}
 
 pub or-true : (a : Bool) → (a || true) ≡ true

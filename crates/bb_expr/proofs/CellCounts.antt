@@ -4,7 +4,7 @@ use Rattle.std.proofs.lemmas.List.{length-map}
 use Rattle.std.proofs.lemmas.List.Sums.{sum_by-cons}
 use Rattle.std.specs.Prelude.{fold, reverse, sum, sum_by, if◌then◌else◌}
 use Rattle.std.proofs.lemmas.List.{length-reverse}
-use Rattle.bb_lists.proofs.Ranges.{length-range}
+use Rattle.bb_lemmas.proofs.Ranges.{length-range}
 use Rattle.bb_ast.specs.declared.expr.Op.{Op}
 use Rattle.bb_ast.specs.declared.expr.Op.TheVariants as ops
 use Rattle.bb_ast.specs.Syntax.{Expression, Net, Bit, Part, Sized, Plain, Not, Fold, Chain, Words, Cond, Concat, Repeat, Operands, no_operand, operand, WordOperands, no_word, word, Arms, no_arm, arm, Parts, no_part, part}
@@ -19,7 +19,7 @@ use Rattle.bb_word.specs.Words.{HaveOneWidth, word_circuit, word_cells}
 use Rattle.bb_word.specs.Laws.CountLaws.{word_count as circuit-cells, fold_count as reduction-cells, word_long, fold_long}
 use Rattle.bb_expr.specs.Lists.{copies, bitwise}
 use Rattle.bb_expr.specs.Terms.{Term, Const, And, Or, Xor, terms}
-use Rattle.bb_expr.specs.Cells.{Made, made, makes, inverted, operated, chained, any_from, any_bit, selected, arm_made, arms_made, part_bits, part_cells, net_terms, word_made, word_count, op_cells, counts, cell_count}
+use Rattle.bb_expr.specs.Cells.{MadeTerms, made, makes, inverted, operated, chained, any_from, any_bit, selected, arm_made, arms_made, part_bits, part_cells, net_terms, word_made, word_count, op_cells, counts, cell_count}
 use Rattle.bb_word.specs.Folds.{is_odd}
 use Rattle.bb_expr.specs.Laws.{CellsAreCounted}
 use Rattle.bb_expr.proofs.ValueLemmas.{length-extended, length-bitwise, length-copies, length-bits_of, sum-step, first-fits, second-fits, result-fits, one-width}
@@ -56,12 +56,12 @@ length-selected w c (t ∷ ts) [] a b = grind (arith, a, b)
 length-selected zero c (t ∷ ts) (e ∷ es) a b = grind (arith, a, b)
 length-selected (suc w) c (t ∷ ts) (e ∷ es) a b = grind (arith, length-selected w c ts es (grind (arith, a)) (grind (arith, b)))
 
-inverted-cells : (o : Bool) (w n : ℕ) (x : Made) → length x.bits ≡ w → length x.cells ≡ n
+inverted-cells : (o : Bool) (w n : ℕ) (x : MadeTerms) → length x.bits ≡ w → length x.cells ≡ n
     → length (if o then record { bits = inverted x.bits; cells = x.cells ++ inverted x.bits } else x).cells ≡ n + (if o then w else 0)
 inverted-cells true w n x a b = length-append x.cells (inverted x.bits) ∙ rw (length-map, a, b) refl
 inverted-cells false w n x a b = b ∙ omega arith
 
-arm-cells : (w n k m v : ℕ) (c t e : Made) → length c.bits ≡ n → length t.bits ≡ w → length e.bits ≡ w → length c.cells ≡ k → length t.cells ≡ m → length e.cells ≡ v
+arm-cells : (w n k m v : ℕ) (c t e : MadeTerms) → length c.bits ≡ n → length t.bits ≡ w → length e.bits ≡ w → length c.cells ≡ k → length t.cells ≡ m → length e.cells ≡ v
     → length (arm_made c t e).cells ≡ (k + (n - 1) + m + w) + v
 arm-cells w n k m v c t e a b d f g h =
     rw (length-append, length-append, length-append, length-append, any-cells n c.bits a, length-selected w _ t.bits e.bits b d, f, g, h) (omega arith)
@@ -69,19 +69,19 @@ arm-cells w n k m v c t e a b d f g h =
 length-net_terms : (n : List ℕ) (place count : ℕ) → length (net_terms n place count) ≡ count
 length-net_terms n place count = rw (length-map, length-range) refl
 
-inverted-long : (o : Bool) (w : ℕ) (x : Made) → length x.bits ≡ w → length (if o then record { bits = inverted x.bits; cells = x.cells ++ inverted x.bits } else x).bits ≡ w
+inverted-long : (o : Bool) (w : ℕ) (x : MadeTerms) → length x.bits ≡ w → length (if o then record { bits = inverted x.bits; cells = x.cells ++ inverted x.bits } else x).bits ≡ w
 inverted-long true w x a = length-map x.bits _ ∙ a
 inverted-long false w x a = a
 
 -- an operand that makes as many bits as its context has
-abbrev pub IsLong : ℕ → (ℕ → Made) → Type 0
+abbrev pub IsLong : ℕ → (ℕ → MadeTerms) → Type 0
 IsLong l f = (w : ℕ) → l ≤ w → length (f w).bits ≡ w
 
-word-widths : (op : WordOp) (l r w : ℕ) (a b : Made) → length a.bits ≡ first_at op l r w → length b.bits ≡ second_at op l r w → HaveOneWidth op (length (reverse a.bits)) (length (reverse b.bits))
+word-widths : (op : WordOp) (l r w : ℕ) (a b : MadeTerms) → length a.bits ≡ first_at op l r w → length b.bits ≡ second_at op l r w → HaveOneWidth op (length (reverse a.bits)) (length (reverse b.bits))
 word-widths op l r w a b first second =
     subst (λ i. HaveOneWidth op i (length (reverse b.bits))) (sym (length-reverse a.bits ∙ first)) (subst (λ i. HaveOneWidth op (first_at op l r w) i) (sym (length-reverse b.bits ∙ second)) (one-width op l r w))
 
-pub word-makes : (op : WordOp) (l r : ℕ) (f h : ℕ → Made) → IsLong l f → IsLong r h → IsLong (operator_width op l r) (word_step word_made (record { width = l; at = f }) (op, record { width = r; at = h })).at
+pub word-makes : (op : WordOp) (l r : ℕ) (f h : ℕ → MadeTerms) → IsLong l f → IsLong r h → IsLong (operator_width op l r) (word_step word_made (record { width = l; at = f }) (op, record { width = r; at = h })).at
 word-makes op l r f h first second w fits =
     let a = f (first_at op l r w) in
     let b = h (second_at op l r w) in
@@ -113,14 +113,14 @@ mutual
   length-made ranges (Repeat k all) w fits =
       length-extended (Const false) w (copies k (part_bits (of_parts (made_seen ranges) (makes ranges) all))) _ (length-copies k _ ∙ ap (λ n. k * n) (parts-long ranges all)) fits
 
-  chain-long : (ranges : Ranges) (rest : Operands) (w : ℕ) (m : Made) → length m.bits ≡ w → greatest (map (λ x. x.1) (of_operands (λ x a. a) (widths ranges) rest)) ≤ w
+  chain-long : (ranges : Ranges) (rest : Operands) (w : ℕ) (m : MadeTerms) → length m.bits ≡ w → greatest (map (λ x. x.1) (of_operands (λ x a. a) (widths ranges) rest)) ≤ w
       → length (fold (λ a x. let b = x.1.at w in chained a b (operated x.0 a.bits b.bits)) m (of_operands (made_seen ranges) (makes ranges) rest)).bits ≡ w
   chain-long ranges no_operand w m long fits = long
   chain-long ranges (operand op e rest) w m long fits =
       chain-long ranges rest w (chained m (made ranges e w) (operated op m.bits (made ranges e w).bits))
       (length-operated op w m.bits (made ranges e w).bits long (length-made ranges e w (omega (arith, fits)))) (omega (arith, fits))
 
-  pub words-long : (ranges : Ranges) (rest : WordOperands) (l : ℕ) (f : ℕ → Made) → IsLong l f
+  pub words-long : (ranges : Ranges) (rest : WordOperands) (l : ℕ) (f : ℕ → MadeTerms) → IsLong l f
       → IsLong (fold (λ n x. operator_width x.0 n x.1) l (of_words (λ x a. a) (widths ranges) rest)) (fold (word_step word_made) (record { width = l; at = f }) (of_words (made_seen ranges) (makes ranges) rest)).at
   words-long ranges no_word l f long = long
   words-long ranges (word op e rest) l f long =
@@ -141,11 +141,11 @@ mutual
       ∙ sum-step _ _ _ (of_parts (λ x a. a) (widths ranges) rest) (length-made ranges e (own_width ranges e) (omega arith)) (parts-long ranges rest)
 
 -- what is made, and how much of it is counted, for an operand of some own width
-pub record AreCounted (l : ℕ) (f : ℕ → Made) (k : ℕ → ℕ) : Type 0 where
+pub record AreCounted (l : ℕ) (f : ℕ → MadeTerms) (k : ℕ → ℕ) : Type 0 where
   pub long : IsLong l f
   pub many : (w : ℕ) → l ≤ w → length (f w).cells ≡ k w
 
-word-counted : (op : WordOp) (l r : ℕ) (f h : ℕ → Made) (k j : ℕ → ℕ) → AreCounted l f k → AreCounted r h j
+word-counted : (op : WordOp) (l r : ℕ) (f h : ℕ → MadeTerms) (k j : ℕ → ℕ) → AreCounted l f k → AreCounted r h j
     → AreCounted (operator_width op l r) (word_step word_made (record { width = l; at = f }) (op, record { width = r; at = h })).at (word_step word_count (record { width = l; at = k }) (op, record { width = r; at = j })).at
 word-counted op l r f h k j first second = record {
   long = word-makes op l r f h first.long second.long;
@@ -183,7 +183,7 @@ mutual
   cells-counted ranges (Concat all) w fits = parts-cells ranges all
   cells-counted ranges (Repeat k all) w fits = parts-cells ranges all
 
-  chain-cells : (ranges : Ranges) (rest : Operands) (w : ℕ) (m : Made) (n : ℕ) → length m.bits ≡ w → length m.cells ≡ n
+  chain-cells : (ranges : Ranges) (rest : Operands) (w : ℕ) (m : MadeTerms) (n : ℕ) → length m.bits ≡ w → length m.cells ≡ n
       → greatest (map (λ x. x.1) (of_operands (λ x a. a) (widths ranges) rest)) ≤ w
       → length (fold (λ a x. let b = x.1.at w in chained a b (operated x.0 a.bits b.bits)) m (of_operands (made_seen ranges) (makes ranges) rest)).cells
       ≡ n + sum_by (λ x. x.1.at w + op_cells x.0 * w) (of_operands (count_seen ranges) counts rest)
@@ -196,7 +196,7 @@ mutual
       (length-operated op w m.bits _ long here) (rw (length-append, length-append, many, cells, gates) (omega arith)) (omega (arith, fits))
       ∙ rw (sum_by-cons) (omega arith)
 
-  words-cells : (ranges : Ranges) (rest : WordOperands) (l : ℕ) (f : ℕ → Made) (k : ℕ → ℕ) → AreCounted l f k
+  words-cells : (ranges : Ranges) (rest : WordOperands) (l : ℕ) (f : ℕ → MadeTerms) (k : ℕ → ℕ) → AreCounted l f k
       → AreCounted (fold (λ n x. operator_width x.0 n x.1) l (of_words (λ x a. a) (widths ranges) rest))
       (fold (word_step word_made) (record { width = l; at = f }) (of_words (made_seen ranges) (makes ranges) rest)).at
       (fold (word_step word_count) (record { width = l; at = k }) (of_words (count_seen ranges) counts rest)).at

@@ -11,13 +11,13 @@ use Rattle.bb_expr.specs.declared.step.BitStep.{BitStep}
 use Rattle.bb_expr.specs.declared.step.BitStep.TheVariants as steps
 use Rattle.bb_expr.specs.Lists.{copies, bitwise}
 use Rattle.bb_expr.specs.Terms.{Term, Or, Mux}
-use Rattle.bb_expr.specs.Cells.{Made, any_bit, selected, arm_made}
-use Rattle.bb_expr.specs.Lowered.{term_at, Reads}
+use Rattle.bb_expr.specs.Cells.{MadeTerms, any_bit, selected, arm_made}
+use Rattle.bb_expr.specs.Lowered.{term_at, ReadsEarlier}
 use Rattle.bb_expr.specs.Inside.Growing.{Adds, AddsRow, paired}
 use Rattle.bb_expr.proofs.ValueLemmas.{length-bitwise, length-copies}
 use Rattle.bb_expr.proofs.RowLemmas.{terms-of-rows, terms-kept, adds-rows, adds-beside, adds-same}
 use Rattle.bb_expr.proofs.AddLemmas.{adds-operators}
-use Rattle.bb_expr.proofs.ListLemmas.{all-front, all-back, all-join}
+use Rattle.bb_expr.proofs.ListLemmas.{all-prefix, all-back, all-join}
 use Rattle.bb_expr.proofs.GateLemmas.{both-halves, length-paired, selected-bitwise, pairs-read, pairs-are, pairs-terms}
 
 three-equal : {X : Type 0} (p q x y : X) (ps xs : List X) → p ∷ q ∷ ps ≡ x ∷ y ∷ xs → (p ≡ x) × (q ≡ y) × (ps ≡ xs)
@@ -46,8 +46,8 @@ module _ (nets : List NetInfo) where
   adds-or old mid new a b ks x y zs cells h grows =
       let row = steps.Or a b ∷ [] in
       let below = recursion_from_All (λ k. k < length mid) (a ∷ b ∷ ks) h.within in
-      let reads : AllByRecursion (Reads nets (length mid)) row = ((below.0, below.1.0), tt) in
-      let reading = All-from_recursion (Reads nets (length mid)) row reads in
+      let reads : AllByRecursion (ReadsEarlier nets (length mid)) row = ((below.0, below.1.0), tt) in
+      let reading = All-from_recursion (ReadsEarlier nets (length mid)) row reads in
       adds-rows nets (record { bits = x ∷ y ∷ zs; cells = cells }) old mid new row (a ∷ b ∷ ks) (length mid ∷ ks) (Or x y ∷ zs) (Or x y ∷ []) h grows reading
       (All-cons (λ k. k < length mid + 1) (length mid) ks (omega arith) (All-from_recursion (λ k. k < length mid + 1) ks (weaker ks below.1.1)))
       (omega (arith, h.long)) (omega (arith, h.long))
@@ -62,19 +62,19 @@ module _ (nets : List NetInfo) where
       weaker (k ∷ ks) all = (omega (arith, all.0), weaker ks all.1)
 
   -- a choice between the bits of two expressions by a bit
-  pub adds-selected : (me mt : Made) (x : Term) (cells : List Term) (old s1 s2 s3 new : List BitStep) (e t out : List ℕ) (c : ℕ) → Adds nets me old s1 e → Adds nets (record { bits = x ∷ []; cells = cells }) s1 s2 (c ∷ []) → Adds nets mt s2 s3 t
+  pub adds-selected : (me mt : MadeTerms) (x : Term) (cells : List Term) (old s1 s2 s3 new : List BitStep) (e t out : List ℕ) (c : ℕ) → Adds nets me old s1 e → Adds nets (record { bits = x ∷ []; cells = cells }) s1 s2 (c ∷ []) → Adds nets mt s2 s3 t
       → length t ≡ length e → 1 ≤ length t → AddsRow (paired (steps.Mux c) t e) s3 new out
       → Adds nets (record { bits = selected x mt.bits me.bits; cells = ((me.cells ++ cells) ++ mt.cells) ++ selected x mt.bits me.bits }) old new out
   adds-selected me mt x cells old s1 s2 s3 new e t out c he hc ht long some row =
       let two = adds-beside nets me (record { bits = x ∷ []; cells = cells }) old s1 s2 e (c ∷ []) he hc in
       let all = adds-beside nets (record { bits = me.bits ++ x ∷ []; cells = me.cells ++ cells }) mt old s2 s3 (e ++ c ∷ []) t two ht in
       let below = recursion_from_All (λ k. k < length s3) ((e ++ c ∷ []) ++ t) all.within in
-      let front = all-front (λ k. k < length s3) (e ++ c ∷ []) t below in
-      let first : c < length s3 = (all-back (λ k. k < length s3) e (c ∷ []) front).0 in
+      let prefix = all-prefix (λ k. k < length s3) (e ++ c ∷ []) t below in
+      let first : c < length s3 = (all-back (λ k. k < length s3) e (c ∷ []) prefix).0 in
       let count : length (paired (steps.Mux c) t e) ≡ length t = length-paired (steps.Mux c) (length t) t e refl (sym long) in
       subst (λ bits. Adds nets (record { bits = bits; cells = ((me.cells ++ cells) ++ mt.cells) ++ bits }) old new out) (selected-bitwise x mt.bits me.bits)
       (adds-operators nets (record { bits = (me.bits ++ x ∷ []) ++ mt.bits; cells = (me.cells ++ cells) ++ mt.cells }) old s3 new (paired (steps.Mux c) t e) ((e ++ c ∷ []) ++ t) out (bitwise (Mux x) mt.bits me.bits) all row
-      (pairs-read nets (steps.Mux c) (length s3) (λ u v lu lv. (first, lu, lv)) t e (all-back (λ k. k < length s3) (e ++ c ∷ []) t below) (all-front (λ k. k < length s3) e (c ∷ []) front))
+      (pairs-read nets (steps.Mux c) (length s3) (λ u v lu lv. (first, lu, lv)) t e (all-back (λ k. k < length s3) (e ++ c ∷ []) t below) (all-prefix (λ k. k < length s3) e (c ∷ []) prefix))
       (pairs-are nets (steps.Mux c) (λ u v. refl) t e)
       (count ∙ sym (length-bitwise (Mux x) (length t) mt.bits me.bits (sym ht.long) (sym he.long ∙ sym long)))
       (omega (arith, count, long, some, length-append (e ++ c ∷ []) t, length-append e (c ∷ [])))
@@ -89,7 +89,7 @@ module _ (nets : List NetInfo) where
       heads u w same = cc
 
   -- an arm of a conditional
-  pub adds-arm : (me mc mt : Made) (old s1 s2 s3 new : List BitStep) (e t out : List ℕ) (c : ℕ) → Adds nets me old s1 e → Adds nets (record { bits = (any_bit mc.bits).0 ∷ []; cells = mc.cells ++ (any_bit mc.bits).1 }) s1 s2 (c ∷ []) → Adds nets mt s2 s3 t
+  pub adds-arm : (me mc mt : MadeTerms) (old s1 s2 s3 new : List BitStep) (e t out : List ℕ) (c : ℕ) → Adds nets me old s1 e → Adds nets (record { bits = (any_bit mc.bits).0 ∷ []; cells = mc.cells ++ (any_bit mc.bits).1 }) s1 s2 (c ∷ []) → Adds nets mt s2 s3 t
       → length t ≡ length e → 1 ≤ length t → AddsRow (paired (steps.Mux c) t e) s3 new out → Adds nets (arm_made mc mt me) old new out
   adds-arm me mc mt old s1 s2 s3 new e t out c he hc ht long some row =
       let any = any_bit mc.bits in
@@ -101,7 +101,7 @@ module _ (nets : List NetInfo) where
       (adds-selected me mt any.0 k old s1 s2 s3 new e t out c he hc ht long some row)
 
   -- copies side by side
-  pub adds-copied : (k : ℕ) → 1 ≤ k → (m : Made) (old new : List BitStep) (bits : List ℕ) → Adds nets m old new bits → Adds nets (record { bits = copies k m.bits; cells = m.cells }) old new (copies k bits)
+  pub adds-copied : (k : ℕ) → 1 ≤ k → (m : MadeTerms) (old new : List BitStep) (bits : List ℕ) → Adds nets m old new bits → Adds nets (record { bits = copies k m.bits; cells = m.cells }) old new (copies k bits)
   adds-copied k some m old new bits x = record {
     more = x.more;
     grows = x.grows;

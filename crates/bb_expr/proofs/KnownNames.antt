@@ -8,9 +8,9 @@ use Rattle.std.proofs.lemmas.Bool.{false≢true}
 use Rattle.std.proofs.lemmas.List.{map-id}
 use Rattle.std.proofs.lemmas.List.Elements.{All-from_recursion}
 use Rattle.std.proofs.lemmas.List.Folds.{list_any-append}
-use Rattle.bb_lists.proofs.Places.{there_at, got-map}
-use Rattle.bb_lists.proofs.Names.{same_equal, same_self}
-use Rattle.bb_lists.proofs.Members.{either}
+use Rattle.bb_lemmas.proofs.Places.{there_at, got-map}
+use Rattle.bb_lemmas.proofs.Names.{same_equal, same_self}
+use Rattle.bb_lemmas.proofs.Members.{either}
 use Rattle.bb_bits.specs.Names.{same_name, placed}
 use Rattle.bb_ast.specs.Syntax.{PlainModule}
 use Rattle.bb_bits.specs.Earlier.{once, has_name}
@@ -27,7 +27,7 @@ any-left p xs ys h = list_any-append p xs ys ∙ ap (λ b. b || list_any p ys) h
 any-right : {X : Type 0} (p : X → Bool) (xs ys : List X) → list_any p ys ≡ true → list_any p (xs ++ ys) ≡ true
 any-right p xs ys h = list_any-append p xs ys ∙ ap (λ b. list_any p xs || b) h ∙ or-true (list_any p xs)
 
--- whether or not one more stands before
+-- whether or not one more precedes
 any-kept : {X Y : Type 0} (p : Y → Bool) (f : X → Y) (b : Bool) (x : X) (xs : List X) → list_any p (map f xs) ≡ true → list_any p (map f (cond b (x ∷ xs) xs)) ≡ true
 any-kept p f true x xs h = ap (λ b. p (f x) || b) h ∙ or-true (p (f x))
 any-kept p f false x xs h = h
@@ -83,7 +83,7 @@ known-listed m n known plain = once-listed n (header_names m ++ declared_names m
   | inr e ↦ any-right (same_name n) (header_names m ++ declared_names m) (implicit_names m) (sym (ap (λ b. b || has_name n (implicit_names m)) e) ∙ known)
 ])
 
--- a listed name is found at a place, where it stands
+-- a listed name is found at a place, where it is
 placed-found : (n : List ℕ) (names : List (List ℕ)) (j : ℕ) → list_any (same_name n) names ≡ true → (k : ℕ) × (lookup (same_name n) (placed j names) ≡ Some (j + k)) × (slice_get names k ≡ Some n)
 placed-found n [] j h = absurd (false≢true h)
 placed-found n (m ∷ names) j h = elim (either (same_name n m)) [
@@ -112,7 +112,7 @@ there-listed n [] k lt is = absurd (omega (arith, lt))
 there-listed n (m ∷ names) zero lt is = ap (λ b. b || list_any (same_name n) names) (subst (λ x. same_name n x ≡ true) (sym is) (same_self n))
 there-listed n (m ∷ names) (suc k) lt is = ap (λ b. same_name n m || b) (there-listed n names k (omega (arith, lt)) is) ∙ or-true (same_name n m)
 
--- the net of a name stands at a place of the nets, which the index keeps for it
+-- the net of a name is at a place of the nets, which the index keeps for it
 pub net-at : (m : PlainModule) (n : List ℕ) → Contains (net_names m) n → (k : ℕ) × (lookup (same_name n) (placed 0 (net_names m)) ≡ Some k) × (slice_get (nets_of m) k ≡ Some (net_of m n))
 net-at m n has =
     let at = placed-found n (net_names m) 0 (there-listed n (net_names m) has.0 has.1 has.2) in
@@ -133,7 +133,7 @@ has-net m nets n there =
       range = refl;
     }
 
--- no name stands twice
+-- no name is twice
 abbrev AreApart : List (List ℕ) → Type 0
 AreApart [] = Unit {0}
 AreApart (n ∷ names) = AllByRecursion (λ m. n ≢ m) names × AreApart names

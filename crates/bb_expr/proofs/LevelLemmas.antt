@@ -10,7 +10,7 @@ use Rattle.bb_ast.specs.Levels.{level_of, AreOfLevel, IsOneLevel}
 use Rattle.bb_names.specs.Widths.{Ranges, own_width, widths, operator_width, first_at, second_at, word_step}
 use Rattle.bb_word.specs.Meanings.{word_width}
 use Rattle.bb_word.specs.Words.{word_cells, HaveOneWidth}
-use Rattle.bb_expr.specs.Cells.{Made, made, makes, word_made, word_count, counts, cell_count}
+use Rattle.bb_expr.specs.Cells.{MadeTerms, made, makes, word_made, word_count, counts, cell_count}
 use Rattle.bb_expr.specs.Inside.Levels.{width_on, taken, words_cells, words_on}
 use Rattle.bb_expr.proofs.ValueLemmas.{first-fits}
 use Rattle.bb_expr.proofs.MadeValue.{made_seen}
@@ -172,7 +172,7 @@ module _ (ranges : Ranges) where
   low-taken (x ∷ xs) level low h l w =
       low-first x.0 l (own_width ranges x.1) (taken ranges (operator_width x.0 l (own_width ranges x.1)) xs w) (omega (arith, low, h.0)) ∙ low-taken xs level low h.1 (operator_width x.0 l (own_width ranges x.1)) w
 
-  -- a look at the next operator tells how wide the left part is taken
+  -- a look at the next operator says how wide the left part is taken
   pub next-taken : (x : WordOp × Expression) (xs : List (WordOp × Expression)) (l w : ℕ) → IsOneLevel (word_operands (x ∷ xs)) → taken ranges l (x ∷ xs) w ≡ first_at x.0 l (own_width ranges x.1) w
   next-taken x xs l w h =
       let r = own_width ranges x.1 in
@@ -201,7 +201,7 @@ module _ (ranges : Ranges) where
       let r = own_width ranges x.1 in
       first-most x.0 l r (taken ranges (operator_width x.0 l r) xs w) n a all.0 (taken-most n (operator_width x.0 l r) xs w all.1 some (operator-most x.0 l r n a all.0 some) b)
 
-  words-folded : (xs : List (WordOp × Expression)) (l : ℕ) (f : ℕ → Made) (w : ℕ)
+  words-folded : (xs : List (WordOp × Expression)) (l : ℕ) (f : ℕ → MadeTerms) (w : ℕ)
       → (fold (word_step word_made) (record { width = l; at = f }) (of_words (made_seen ranges) (makes ranges) (word_operands xs))).at w ≡ words_on ranges (f (taken ranges l xs w)) l xs w
   words-folded [] l f w = refl
   words-folded (x ∷ xs) l f w =

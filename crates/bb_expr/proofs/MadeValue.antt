@@ -3,8 +3,8 @@ use Rattle.std.proofs.Common.{◌≡◌, ℕ, zero, suc, ◌+◌, ◌≤◌, Boo
 use Rattle.std.proofs.lemmas.List.{length-map}
 use Rattle.std.specs.Prelude.{fold, reverse, not, ◌||◌, if◌then◌else◌}
 use Rattle.std.specs.List.{flat_map, list_any, range_with_len}
-use Rattle.bb_lists.proofs.Bits.{or_assoc}
-use Rattle.bb_lists.proofs.Maps.{reverse-map, replicate-map, or-false}
+use Rattle.bb_lemmas.proofs.Bits.{or_assoc}
+use Rattle.bb_lemmas.proofs.Maps.{reverse-map, replicate-map, or-false}
 use Rattle.bb_ast.specs.declared.expr.Op.{Op}
 use Rattle.bb_ast.specs.declared.expr.Op.TheVariants as ops
 use Rattle.bb_ast.specs.Syntax.{Expression, Net, Bit, Part, Sized, Plain, Not, Fold, Chain, Words, Cond, Concat, Repeat, Operands, no_operand, operand, WordOperands, no_word, word, Arms, no_arm, arm, Parts, no_part, part}
@@ -21,9 +21,9 @@ use Rattle.bb_word.specs.Words.{HaveOneWidth, word_circuit}
 use Rattle.bb_word.specs.Laws.MapLaws.{word_map, fold_map}
 use Rattle.bb_word.specs.Laws.Numbers.{WordsHaveBits, FoldsGiveBits}
 use Rattle.bb_expr.specs.Lists.{extended, copies, bitwise}
-use Rattle.bb_expr.specs.Values.{Bits, value, values, op_bit, chosen, complemented, word_value}
+use Rattle.bb_expr.specs.Values.{Bits, value, values, op_bit, chosen_arm, complemented, word_value}
 use Rattle.bb_expr.specs.Terms.{Term, Const, Net as NetTerm, And, Or, Xor, term_bit, terms}
-use Rattle.bb_expr.specs.Cells.{Made, made, makes, net_terms, inverted, operated, chained, any_from, any_bit, selected, arms_made, circuit_made, word_made, fold_made}
+use Rattle.bb_expr.specs.Cells.{MadeTerms, made, makes, net_terms, inverted, operated, chained, any_from, any_bit, selected, arms_made, circuit_made, word_made, fold_made}
 use Rattle.bb_word.specs.Folds.{is_odd}
 use Rattle.bb_expr.specs.Laws.{MadeHasValue}
 use Rattle.bb_expr.proofs.ValueLemmas.{value-length, arms-length, seen, IsWide, word-wide, first-fits, second-fits, one-width}
@@ -87,7 +87,7 @@ map-same : (f : Bool → Bool) → ((b : Bool) → f b ≡ b) → (bits : List B
 map-same f same [] = refl
 map-same f same (b ∷ bits) = ap₂ (λ c r. c ∷ r) (sym (same b)) (map-same f same bits)
 
-inverted-by : (env : Bits) (o : Bool) (f : Bool → Bool) → ((b : Bool) → f b ≡ (if o then not b else b)) → (x : Made)
+inverted-by : (env : Bits) (o : Bool) (f : Bool → Bool) → ((b : Bool) → f b ≡ (if o then not b else b)) → (x : MadeTerms)
     → map (term_bit env) (if o then record { bits = inverted x.bits; cells = x.cells ++ inverted x.bits } else x).bits ≡ map f (map (term_bit env) x.bits)
 inverted-by env true f same x = map-complements env f same x.bits
 inverted-by env false f same x = map-same f same (map (term_bit env) x.bits)
@@ -137,7 +137,7 @@ pub record WordsMean : Type 0 where
 circuit-bits : (env : Bits) (cells : List Term) (circuit : Circuit Term) (w : ℕ) (bits : List Bool) → reverse (map (term_bit env) circuit.bits) ≡ bits → map (term_bit env) (circuit_made cells circuit w).bits ≡ extended false w bits
 circuit-bits env cells circuit w bits is = map-extended env w (reverse circuit.bits) ∙ ap (extended false w) (reverse-map (term_bit env) circuit.bits ∙ is)
 
-word-means : WordsMean → (env : Bits) (op : WordOp) (m n : ℕ) (a b : Made) (w : ℕ) (x y : List Bool) → map (term_bit env) a.bits ≡ x → map (term_bit env) b.bits ≡ y → HaveOneWidth op (length x) (length y)
+word-means : WordsMean → (env : Bits) (op : WordOp) (m n : ℕ) (a b : MadeTerms) (w : ℕ) (x y : List Bool) → map (term_bit env) a.bits ≡ x → map (term_bit env) b.bits ≡ y → HaveOneWidth op (length x) (length y)
     → map (term_bit env) (word_made op m n a b w).bits ≡ word_value op m n x y w
 word-means law env op m n a b w x y first second one =
     let bit = term_bit env in
@@ -146,7 +146,7 @@ word-means law env op m n a b w x y first second one =
     (ap (λ c. reverse c.bits) (word_map terms bit_gates bit (terms_map env) op (reverse a.bits) (reverse b.bits))
     ∙ ap₂ (λ p q. reverse (word_circuit bit_gates op p q).bits) (read a.bits x first) (read b.bits y second) ∙ law.words op x y one)
 
-fold-means : WordsMean → (env : Bits) (op : FoldOp) (a : Made) (w : ℕ) (x : List Bool) → map (term_bit env) a.bits ≡ x → map (term_bit env) (fold_made op a w).bits ≡ extended false w (fold_bit op x ∷ [])
+fold-means : WordsMean → (env : Bits) (op : FoldOp) (a : MadeTerms) (w : ℕ) (x : List Bool) → map (term_bit env) a.bits ≡ x → map (term_bit env) (fold_made op a w).bits ≡ extended false w (fold_bit op x ∷ [])
 fold-means law env op a w x first =
     let bit = term_bit env in
     circuit-bits env a.cells (fold_circuit terms op (reverse a.bits)) w (fold_bit op x ∷ [])
@@ -154,11 +154,11 @@ fold-means law env op a w x first =
     ∙ ap (λ p. reverse (fold_circuit bit_gates op p).bits) (reverse-map bit a.bits ∙ ap reverse first) ∙ ap reverse (law.folds op x))
 
 -- what is made and the value agree, for an operand of some own width
-pub record AreOne (env : Bits) (l : ℕ) (f : ℕ → Made) (g : ℕ → List Bool) : Type 0 where
+pub record AreOne (env : Bits) (l : ℕ) (f : ℕ → MadeTerms) (g : ℕ → List Bool) : Type 0 where
   pub wide : IsWide (record { width = l; at = g })
   pub means : (w : ℕ) → l ≤ w → map (term_bit env) (f w).bits ≡ g w
 
-word-one : WordsMean → (env : Bits) (op : WordOp) (l r : ℕ) (f h : ℕ → Made) (g k : ℕ → List Bool) → AreOne env l f g → AreOne env r h k
+word-one : WordsMean → (env : Bits) (op : WordOp) (l r : ℕ) (f h : ℕ → MadeTerms) (g k : ℕ → List Bool) → AreOne env l f g → AreOne env r h k
     → AreOne env (operator_width op l r) (word_step word_made (record { width = l; at = f }) (op, record { width = r; at = h })).at (word_step word_value (record { width = l; at = g }) (op, record { width = r; at = k })).at
 word-one law env op l r f h g k first second = record {
   wide = word-wide op (record { width = l; at = g }) (record { width = r; at = k }) first.wide second.wide;
@@ -172,7 +172,7 @@ word-one law env op l r f h g k first second = record {
 }
 
 -- what an operand of the cells is seen as
-abbrev pub made_seen : Ranges → Expression → (ℕ → Made) → Operand Made
+abbrev pub made_seen : Ranges → Expression → (ℕ → MadeTerms) → Operand MadeTerms
 made_seen ranges e a = record { width = own_width ranges e; at = a }
 
 -- the bits that are made have the value, at each width that suffices
@@ -207,7 +207,7 @@ module _ (law : WordsMean) where
     made-value ranges env (Concat all) w fits = map-extended env w _ ∙ ap (extended false w) (parts-value ranges env all)
     made-value ranges env (Repeat k all) w fits = map-extended env w _ ∙ ap (extended false w) (map-copies env k _ ∙ ap (copies k) (parts-value ranges env all))
 
-    chain-value : (ranges : Ranges) (env : Bits) (rest : Operands) (w : ℕ) (m : Made) (bits : List Bool) → map (term_bit env) m.bits ≡ bits
+    chain-value : (ranges : Ranges) (env : Bits) (rest : Operands) (w : ℕ) (m : MadeTerms) (bits : List Bool) → map (term_bit env) m.bits ≡ bits
         → greatest (map (λ x. x.1) (of_operands (λ x a. a) (widths ranges) rest)) ≤ w
         → map (term_bit env) (fold (λ a x. let b = x.1.at w in chained a b (operated x.0 a.bits b.bits)) m (of_operands (made_seen ranges) (makes ranges) rest)).bits
         ≡ fold (λ b x. bitwise (op_bit x.0) b (x.1.at w)) bits (of_operands (seen ranges) (values ranges env) rest)
@@ -216,7 +216,7 @@ module _ (law : WordsMean) where
         chain-value ranges env rest w (chained m (made ranges e w) (operated op m.bits (made ranges e w).bits)) (bitwise (op_bit op) bits (value ranges env e w))
         (map-operated env op m.bits (made ranges e w).bits ∙ ap₂ (bitwise (op_bit op)) same (made-value ranges env e w (omega (arith, fits)))) (omega (arith, fits))
 
-    words-value : (ranges : Ranges) (env : Bits) (rest : WordOperands) (l : ℕ) (f : ℕ → Made) (g : ℕ → List Bool) → AreOne env l f g
+    words-value : (ranges : Ranges) (env : Bits) (rest : WordOperands) (l : ℕ) (f : ℕ → MadeTerms) (g : ℕ → List Bool) → AreOne env l f g
         → AreOne env (fold (λ n x. operator_width x.0 n x.1) l (of_words (λ x a. a) (widths ranges) rest))
         (fold (word_step word_made) (record { width = l; at = f }) (of_words (made_seen ranges) (makes ranges) rest)).at
         (fold (word_step word_value) (record { width = l; at = g }) (of_words (seen ranges) (values ranges env) rest)).at
@@ -231,11 +231,11 @@ module _ (law : WordsMean) where
         → greatest (map (λ x. x.1) (of_arms (λ x a. a) (widths ranges) all)) ≤ w → own_width ranges last ≤ w
         → map (term_bit env) (made ranges last w).bits ≡ value ranges env last w
         → map (term_bit env) (arms_made (of_arms (made_seen ranges) (makes ranges) all) (made_seen ranges last (made ranges last)) w).bits
-        ≡ chosen (of_arms (seen ranges) (values ranges env) all) (seen ranges last (value ranges env last)) w
+        ≡ chosen_arm (of_arms (seen ranges) (values ranges env) all) (seen ranges last (value ranges env last)) w
     arms-value ranges env no_arm w last fits own same = same
     arms-value ranges env (arm c e rest) w last fits own same =
         let below : map (term_bit env) (arms_made (of_arms (made_seen ranges) (makes ranges) rest) (made_seen ranges last (made ranges last)) w).bits
-        ≡ chosen (of_arms (seen ranges) (values ranges env) rest) (seen ranges last (value ranges env last)) w
+        ≡ chosen_arm (of_arms (seen ranges) (values ranges env) rest) (seen ranges last (value ranges env last)) w
         = arms-value ranges env rest w last (omega (arith, fits)) own same in
         let branch : map (term_bit env) (made ranges e w).bits ≡ value ranges env e w = made-value ranges env e w (omega (arith, fits)) in
         let condition : map (term_bit env) (made ranges c (own_width ranges c)).bits ≡ value ranges env c (own_width ranges c) = made-value ranges env c (own_width ranges c) (omega arith) in
@@ -245,10 +245,10 @@ module _ (law : WordsMean) where
         ∙ if-of (any-bit env (made ranges c (own_width ranges c)).bits ∙ ap (list_any (λ b. b)) condition) branch below
 
     parts-value : (ranges : Ranges) (env : Bits) (all : Parts)
-        → map (term_bit env) (flat_map (λ x. (alone {A = Made} x).bits) (of_parts (made_seen ranges) (makes ranges) all)) ≡ flat_map alone (of_parts (seen ranges) (values ranges env) all)
+        → map (term_bit env) (flat_map (λ x. (alone {A = MadeTerms} x).bits) (of_parts (made_seen ranges) (makes ranges) all)) ≡ flat_map alone (of_parts (seen ranges) (values ranges env) all)
     parts-value ranges env no_part = refl
     parts-value ranges env (part e rest) =
-        map-append (term_bit env) (made ranges e (own_width ranges e)).bits (flat_map (λ x. (alone {A = Made} x).bits) (of_parts (made_seen ranges) (makes ranges) rest))
+        map-append (term_bit env) (made ranges e (own_width ranges e)).bits (flat_map (λ x. (alone {A = MadeTerms} x).bits) (of_parts (made_seen ranges) (makes ranges) rest))
         ∙ ap₂ (λ a r. a ++ r) (made-value ranges env e (own_width ranges e) (omega arith)) (parts-value ranges env rest)
 
   pub made_has_value : MadeHasValue

@@ -4,9 +4,9 @@ use Rattle.std.specs.Prelude.{◌⊎◌, IfSome, slice_get, nat_le}
 use Rattle.std.specs.List.{range_with_len}
 use Rattle.std.specs.Map.{lookup}
 use Rattle.std.specs.Option.{option_map_or}
-use Rattle.bb_lists.proofs.Places.{some_same}
-use Rattle.bb_lists.proofs.Tests.{le_from_test}
-use Rattle.bb_lists.proofs.Bits.{or_cases, and_left, and_right}
+use Rattle.bb_lemmas.proofs.Places.{some_same}
+use Rattle.bb_lemmas.proofs.Tests.{le_from_test}
+use Rattle.bb_lemmas.proofs.Bits.{or_cases, and_left, and_right}
 use Rattle.bb_bits.specs.Names.{same_name}
 use Rattle.bb_ast.specs.declared.module.Range.{Range}
 use Rattle.bb_names.specs.declared.net.NetInfo.{NetInfo}

@@ -1,4 +1,4 @@
--- What holds of an expression's operands, arms and parts one by one, where these stand as plain lists.
+-- What holds of an expression's operands, arms and parts one by one, where these are as plain lists.
 use Rattle.std.proofs.Common.{◌≡◌, ℕ, zero, suc, ◌*◌, ◌≤◌, List, [], ◌∷◌, ◌++◌, map, refl, ap, arith}
 use Rattle.std.specs.Prelude.{All, sum, max}
 use Rattle.std.specs.List.{AllByRecursion, flat_map}
@@ -11,9 +11,9 @@ use Rattle.bb_ast.specs.Folds.{of_operands, of_words, of_arms, of_parts}
 use Rattle.bb_names.specs.Widths.{Ranges, greatest, widths, own_width}
 use Rattle.bb_names.specs.Faults.{widest}
 use Rattle.bb_names.specs.Inside.Checked.{ModuleFacts}
-use Rattle.bb_expr.specs.Inside.Standing.{gathering, expressions_in}
+use Rattle.bb_expr.specs.Inside.Occurrences.{gathering, expressions_in}
 use Rattle.bb_expr.specs.Inside.Fit.{IsFit, AreFit, ranges_in}
-use Rattle.bb_expr.proofs.ListLemmas.{all-front, all-back}
+use Rattle.bb_expr.proofs.ListLemmas.{all-prefix, all-back}
 
 module _ (m : ModuleFacts) where
   each-in : (e : Expression) → AreFit m e → AllByRecursion (IsFit m) (expressions_in e)
@@ -33,20 +33,20 @@ module _ (m : ModuleFacts) where
 
   words-each : (xs : List (WordOp × Expression)) → AllByRecursion (IsFit m) (flat_map (λ x. x.1) (of_words (λ x all. x ∷ all) gathering (word_operands xs))) → AllByRecursion (λ x. AreFit m x.1) xs
   words-each [] h = tt
-  words-each (x ∷ xs) h = (fit-of x.1 (all-front (IsFit m) (expressions_in x.1) _ h), words-each xs (all-back (IsFit m) (expressions_in x.1) _ h))
+  words-each (x ∷ xs) h = (fit-of x.1 (all-prefix (IsFit m) (expressions_in x.1) _ h), words-each xs (all-back (IsFit m) (expressions_in x.1) _ h))
 
   pub fit-left : (e : Expression) (xs : List (WordOp × Expression)) → AreFit m (Words e (word_operands xs)) → AreFit m e
-  fit-left e xs fit = fit-of e (all-front (IsFit m) (expressions_in e) _ (each-in (Words e (word_operands xs)) fit).1)
+  fit-left e xs fit = fit-of e (all-prefix (IsFit m) (expressions_in e) _ (each-in (Words e (word_operands xs)) fit).1)
 
   pub fit-words : (e : Expression) (xs : List (WordOp × Expression)) → AreFit m (Words e (word_operands xs)) → All (λ x. AreFit m x.1) xs
   fit-words e xs fit = All-from_recursion (λ x. AreFit m x.1) xs (words-each xs (all-back (IsFit m) (expressions_in e) _ (each-in (Words e (word_operands xs)) fit).1))
 
   operands-each : (xs : List (Op × Expression)) → AllByRecursion (IsFit m) (flat_map (λ x. x.1) (of_operands (λ x all. x ∷ all) gathering (operands xs))) → AllByRecursion (λ x. AreFit m x.1) xs
   operands-each [] h = tt
-  operands-each (x ∷ xs) h = (fit-of x.1 (all-front (IsFit m) (expressions_in x.1) _ h), operands-each xs (all-back (IsFit m) (expressions_in x.1) _ h))
+  operands-each (x ∷ xs) h = (fit-of x.1 (all-prefix (IsFit m) (expressions_in x.1) _ h), operands-each xs (all-back (IsFit m) (expressions_in x.1) _ h))
 
   pub fit-first : (e : Expression) (xs : List (Op × Expression)) → AreFit m (Chain e (operands xs)) → AreFit m e
-  fit-first e xs fit = fit-of e (all-front (IsFit m) (expressions_in e) _ (each-in (Chain e (operands xs)) fit).1)
+  fit-first e xs fit = fit-of e (all-prefix (IsFit m) (expressions_in e) _ (each-in (Chain e (operands xs)) fit).1)
 
   pub fit-operands : (e : Expression) (xs : List (Op × Expression)) → AreFit m (Chain e (operands xs)) → All (λ x. AreFit m x.1) xs
   fit-operands e xs fit = All-from_recursion (λ x. AreFit m x.1) xs (operands-each xs (all-back (IsFit m) (expressions_in e) _ (each-in (Chain e (operands xs)) fit).1))
@@ -54,20 +54,20 @@ module _ (m : ModuleFacts) where
   arms-each : (xs : List (Expression × Expression)) → AllByRecursion (IsFit m) (flat_map (λ x. x.0 ++ x.1) (of_arms (λ x all. x ∷ all) gathering (arms xs))) → AllByRecursion (λ x. AreFit m x.0 × AreFit m x.1) xs
   arms-each [] h = tt
   arms-each (x ∷ xs) h =
-      let first = all-front (IsFit m) (expressions_in x.0 ++ expressions_in x.1) _ h in (
-        (fit-of x.0 (all-front (IsFit m) (expressions_in x.0) (expressions_in x.1) first), fit-of x.1 (all-back (IsFit m) (expressions_in x.0) (expressions_in x.1) first)),
+      let first = all-prefix (IsFit m) (expressions_in x.0 ++ expressions_in x.1) _ h in (
+        (fit-of x.0 (all-prefix (IsFit m) (expressions_in x.0) (expressions_in x.1) first), fit-of x.1 (all-back (IsFit m) (expressions_in x.0) (expressions_in x.1) first)),
         arms-each xs (all-back (IsFit m) (expressions_in x.0 ++ expressions_in x.1) _ h),
       )
 
   pub fit-arms : (xs : List (Expression × Expression)) (last : Expression) → AreFit m (Cond (arms xs) last) → All (λ x. AreFit m x.0 × AreFit m x.1) xs
-  fit-arms xs last fit = All-from_recursion (λ x. AreFit m x.0 × AreFit m x.1) xs (arms-each xs (all-front (IsFit m) _ (expressions_in last) (each-in (Cond (arms xs) last) fit).1))
+  fit-arms xs last fit = All-from_recursion (λ x. AreFit m x.0 × AreFit m x.1) xs (arms-each xs (all-prefix (IsFit m) _ (expressions_in last) (each-in (Cond (arms xs) last) fit).1))
 
   pub fit-last : (xs : List (Expression × Expression)) (last : Expression) → AreFit m (Cond (arms xs) last) → AreFit m last
   fit-last xs last fit = fit-of last (all-back (IsFit m) (flat_map (λ x. x.0 ++ x.1) (of_arms (λ x all. x ∷ all) gathering (arms xs))) (expressions_in last) (each-in (Cond (arms xs) last) fit).1)
 
   parts-each : (xs : List Expression) → AllByRecursion (IsFit m) (flat_map (λ e. e) (of_parts (λ x all. x ∷ all) gathering (listed_parts xs))) → AllByRecursion (AreFit m) xs
   parts-each [] h = tt
-  parts-each (x ∷ xs) h = (fit-of x (all-front (IsFit m) (expressions_in x) _ h), parts-each xs (all-back (IsFit m) (expressions_in x) _ h))
+  parts-each (x ∷ xs) h = (fit-of x (all-prefix (IsFit m) (expressions_in x) _ h), parts-each xs (all-back (IsFit m) (expressions_in x) _ h))
 
   pub fit-parts : (xs : List Expression) → AreFit m (Concat (listed_parts xs)) → All (AreFit m) xs
   fit-parts xs fit = All-from_recursion (AreFit m) xs (parts-each xs (each-in (Concat (listed_parts xs)) fit).1)

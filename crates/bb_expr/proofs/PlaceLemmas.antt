@@ -4,12 +4,12 @@ use Rattle.std.specs.Prelude.{replicate, nat_le, if◌then◌else◌, ◌^◌}
 use Rattle.std.specs.List.{range_with_len}
 use Rattle.std.proofs.lemmas.List.{length-map, length-take-le, length-replicate, map_more, take_all, replicate_more, map_push}
 use Rattle.std.proofs.lemmas.List.FromFn.{length-range_with_len}
-use Rattle.bb_lists.proofs.Ranges.{range_last}
+use Rattle.bb_lemmas.proofs.Ranges.{range_last}
 use Rattle.bb_bits.specs.Numbers.{bits_of}
 use Rattle.bb_names.specs.declared.net.NetInfo.{NetInfo}
 use Rattle.bb_expr.specs.declared.step.BitStep.{BitStep}
 use Rattle.bb_expr.specs.declared.step.BitStep.TheVariants as steps
-use Rattle.bb_expr.specs.Cells.{Made}
+use Rattle.bb_expr.specs.Cells.{MadeTerms}
 use Rattle.bb_expr.specs.Lists.{copies}
 use Rattle.bb_expr.specs.Inside.Growing.{Adds, AddsRow, paired, widened}
 use Rattle.bb_expr.proofs.AddLemmas.{adds-extended}
@@ -65,7 +65,7 @@ copies-more (suc k) xs = append_assoc xs (copies k xs) xs ∙ ap (λ r. xs ++ r)
     next k = omega arith
 
 -- the zeros before some bits
-pub extended-made : (nets : List NetInfo) (m : Made) (old mid new : List BitStep) (bits places out : List ℕ) (w turn : ℕ) → Adds nets m old mid bits → AddsRow (replicate turn (steps.Const false)) mid new places
+pub extended-made : (nets : List NetInfo) (m : MadeTerms) (old mid new : List BitStep) (bits places out : List ℕ) (w turn : ℕ) → Adds nets m old mid bits → AddsRow (replicate turn (steps.Const false)) mid new places
     → turn ≡ w - length bits → out ≡ places ++ bits → Adds nets (widened w m) old new out
 extended-made nets m old mid new bits places out w turn x row count is =
     adds-extended nets m old mid new bits out w x (row.grows ∙ ap (λ n. mid ++ replicate n (steps.Const false)) count)

@@ -1,4 +1,4 @@
--- What the next operator of a level needs, and that the level behind it can be lowered then.
+-- What the next operator of a level needs, and that the level after it can be lowered then.
 use Rattle.std.proofs.Common.{◌≡◌, ℕ, zero, suc, ◌+◌, ◌*◌, ◌<◌, ◌≤◌, List, [], ◌∷◌, map, drop, get_or, length, refl, sym, ap, ap₂, ◌∙◌, subst, arith}
 use Rattle.std.specs.Prelude.{◌^◌, All}
 use Rattle.std.specs.List.{AllByRecursion}
@@ -15,7 +15,7 @@ use Rattle.bb_word.specs.Words.{word_cells, HaveOneWidth, AreWidths}
 use Rattle.bb_names.specs.declared.net.NetInfo.{NetInfo}
 use Rattle.bb_names.specs.Widths.{Ranges}
 use Rattle.bb_expr.specs.declared.step.BitStep.{BitStep}
-use Rattle.bb_expr.specs.Cells.{Made, made, word_made, cell_count}
+use Rattle.bb_expr.specs.Cells.{MadeTerms, made, word_made, cell_count}
 use Rattle.bb_expr.specs.Inside.Fit.{AreFit, ranges_in}
 use Rattle.bb_expr.specs.Inside.Growing.{Adds, most_steps, word_joined, widened}
 use Rattle.bb_expr.specs.Inside.Levels.{width_on, taken, words_cells, words_on, AreReady}
@@ -24,8 +24,8 @@ use Rattle.bb_expr.proofs.FitLemmas.{operator-some}
 use Rattle.bb_expr.proofs.OperandLemmas.{fit-here, fit-left, fit-words, fit-folded}
 use Rattle.std.proofs.lemmas.List.{at_drop_all}
 use Rattle.std.specs.Prelude.{min}
-use Rattle.bb_lists.proofs.Turns.{all_here}
-use Rattle.bb_expr.proofs.AskLemmas.{IsAsked}
+use Rattle.bb_lemmas.proofs.Turns.{all_here}
+use Rattle.bb_expr.proofs.RequestLemmas.{IsRequired}
 use Rattle.bb_expr.proofs.Loops.{rest-here}
 use Rattle.bb_expr.proofs.LevelLemmas.{first-some, second-some, first-most, second-most, operator-most, word-some, cells-hold, level-tail, left-fits, taken-most, words-cells, level-width}
 
@@ -43,7 +43,7 @@ pub record CanStep (m : ModuleFacts) (x : WordOp × Expression) (xs : List (Word
   pub few : cell_count (ranges_in m) x.1 second + word_cells x.0 b second ≤ 2000000
   pub room : n + most_steps second (cell_count (ranges_in m) x.1 second) ≤ 2 ^ 31
   pub next : (n' b' : ℕ) → n' + word_width x.0 b ≤ n + (second + 3 * cell_count (ranges_in m) x.1 second) + 2 + word_cells x.0 b second + context → b' ≡ context → AreReady m xs w result n' b'
-  pub all : (p : Made) → words_on (ranges_in m) p l (x ∷ xs) w ≡ words_on (ranges_in m) (word_made x.0 b second p (made (ranges_in m) x.1 second) context) result xs w
+  pub all : (p : MadeTerms) → words_on (ranges_in m) p l (x ∷ xs) w ≡ words_on (ranges_in m) (word_made x.0 b second p (made (ranges_in m) x.1 second) context) result xs w
 
 module _ (m : ModuleFacts) where
   pub each-most : (xs : List (WordOp × Expression)) → AllByRecursion (λ x. AreFit m x.1) xs → AllByRecursion (λ x. own_width (ranges_in m) x.1 ≤ 65536) xs
@@ -90,7 +90,7 @@ module _ (m : ModuleFacts) where
       ready-numbers : (x : WordOp × Expression) (xs : List (WordOp × Expression)) (w l n b right result context second : ℕ) → AreFit m x.1 → own_width (ranges_in m) x.1 ≤ second → second ≤ 65536 → 1 ≤ second → b ≤ 65536 → 1 ≤ b
           → HaveOneWidth x.0 b second → word_width x.0 b ≤ context → context ≤ 65536 → cell_count (ranges_in m) x.1 second + word_cells x.0 b second ≤ 2000000 → n + most_steps second (cell_count (ranges_in m) x.1 second) ≤ 2 ^ 31
           → ((n' b' : ℕ) → n' + word_width x.0 b ≤ n + (second + 3 * cell_count (ranges_in m) x.1 second) + 2 + word_cells x.0 b second + context → b' ≡ context → AreReady m xs w result n' b')
-          → ((p : Made) → words_on (ranges_in m) p l (x ∷ xs) w ≡ words_on (ranges_in m) (word_made x.0 b second p (made (ranges_in m) x.1 second) context) result xs w)
+          → ((p : MadeTerms) → words_on (ranges_in m) p l (x ∷ xs) w ≡ words_on (ranges_in m) (word_made x.0 b second p (made (ranges_in m) x.1 second) context) result xs w)
           → CanStep m x xs w l n b right result context second
       ready-numbers x xs w l n b right result context second a1 a2 a3 a4 a5 a6 a7 a8 a9 a10 a11 a12 a13 =
           record { fit = a1; fits = a2; right_most = a3; right_some = a4; left_most = a5; left_some = a6; widths = a7; narrow = a8; top = a9; few = a10; room = a11; next = a12; all = a13 }
@@ -126,41 +126,41 @@ module _ (m : ModuleFacts) where
         cells-hold x.0 (first_at x.0 l r t) (second_at x.0 l r t) (first-some x.0 l r t some here.some wide) (second-some x.0 l r t some here.some wide) (one-width x.0 l r t),
       )
 
-  module _ (e : Expression) (xs : List (WordOp × Expression)) (w n : ℕ) (asked : IsAsked m (Words e (word_operands xs)) w n) (top : w ≤ 65536) where
+  module _ (e : Expression) (xs : List (WordOp × Expression)) (w n : ℕ) (requested : IsRequired m (Words e (word_operands xs)) w n) (top : w ≤ 65536) where
     reach : width_on (ranges_in m) (own_width (ranges_in m) e) xs ≤ w
-    reach = omega (arith, asked.own, level-width (ranges_in m) e xs)
+    reach = omega (arith, requested.own, level-width (ranges_in m) e xs)
 
-    pub asked-left : (t : ℕ) → t ≡ taken (ranges_in m) (own_width (ranges_in m) e) xs w
+    pub requested-left : (t : ℕ) → t ≡ taken (ranges_in m) (own_width (ranges_in m) e) xs w
         → (own_width (ranges_in m) e ≤ t) × (t ≤ 65536) × (n + most_steps t (cell_count (ranges_in m) e t) ≤ 2 ^ 31) × (cell_count (ranges_in m) e t ≤ 2000000)
-    asked-left t is =
+    requested-left t is =
         let ranges = ranges_in m in
         let l = own_width ranges e in
-        let here = fit-here m e (fit-left m e xs asked.fit) in
-        let each = recursion_from_All (λ x. AreFit m x.1) xs (fit-words m e xs asked.fit) in
+        let here = fit-here m e (fit-left m e xs requested.fit) in
+        let each = recursion_from_All (λ x. AreFit m x.1) xs (fit-words m e xs requested.fit) in
         let cells = words-cells ranges e xs w ∙ ap (λ k. cell_count ranges e k + words_cells ranges l xs w) (sym is) in (
           omega (arith, left-fits ranges l xs w reach, is),
           omega (arith, taken-most ranges 65536 l xs w (each-most xs each) (omega arith) here.bounded top, is),
-          omega (arith, asked.room, cells, left-held xs l w each here.some reach, is),
-          omega (arith, asked.few, cells),
+          omega (arith, requested.room, cells, left-held xs l w each here.some reach, is),
+          omega (arith, requested.few, cells),
         )
 
-    pub asked-ready : (own t n' b : ℕ) → own ≡ own_width (ranges_in m) e → t ≡ taken (ranges_in m) own xs w → n' ≤ n + (t + 3 * cell_count (ranges_in m) e t) → b ≡ t → AreReady m xs w own n' b
-    asked-ready own t n' b is_own is_t grown is_b =
+    pub requested-ready : (own t n' b : ℕ) → own ≡ own_width (ranges_in m) e → t ≡ taken (ranges_in m) own xs w → n' ≤ n + (t + 3 * cell_count (ranges_in m) e t) → b ≡ t → AreReady m xs w own n' b
+    requested-ready own t n' b is_own is_t grown is_b =
         let ranges = ranges_in m in
         let l = own_width ranges e in
-        let here = fit-here m e (fit-left m e xs asked.fit) in
+        let here = fit-here m e (fit-left m e xs requested.fit) in
         let cells = words-cells ranges e xs w ∙ ap (λ k. cell_count ranges e k + words_cells ranges l xs w) (sym (is_t ∙ ap (λ k. taken ranges k xs w) is_own)) in
         subst (λ k. AreReady m xs w k n' b) (sym is_own)
         record {
-          fit = fit-words m e xs asked.fit;
-          level = (fit-here m (Words e (word_operands xs)) asked.fit).right;
+          fit = fit-words m e xs requested.fit;
+          level = (fit-here m (Words e (word_operands xs)) requested.fit).right;
           some = here.some;
           bounded = here.bounded;
           reach = reach;
           top = top;
           bits = is_b ∙ is_t ∙ ap (λ k. taken ranges k xs w) is_own;
-          few = omega (arith, asked.few, cells);
-          room = omega (arith, asked.room, cells, grown, is_b);
+          few = omega (arith, requested.few, cells);
+          room = omega (arith, requested.room, cells, grown, is_b);
         }
 
   fold-holds : (op : FoldOp) (w : ℕ) → (w ≤ fold_cells op w + 1) × (fold_cells op w ≤ w + 1)
@@ -173,16 +173,16 @@ module _ (m : ModuleFacts) where
   fold-holds folds.NotOdd w = (omega arith, omega arith)
 
   -- what the operand of a reduction needs
-  pub asked-folded : (op : FoldOp) (e : Expression) (w n own : ℕ) → IsAsked m (Fold op e) w n → own ≡ own_width (ranges_in m) e
+  pub requested-folded : (op : FoldOp) (e : Expression) (w n own : ℕ) → IsRequired m (Fold op e) w n → own ≡ own_width (ranges_in m) e
       → (1 ≤ own) × (own ≤ 65536) × (n + most_steps own (cell_count (ranges_in m) e own) ≤ 2 ^ 31) × (cell_count (ranges_in m) e own ≤ 2000000) × (fold_cells op own ≤ own + 1)
-  asked-folded op e w n own asked is =
+  requested-folded op e w n own requested is =
       let ranges = ranges_in m in
-      let here = fit-here m e (fit-folded m op e asked.fit) in
+      let here = fit-here m e (fit-folded m op e requested.fit) in
       let cells = ap (λ k. cell_count ranges e k + fold_cells op k) is in (
         omega (arith, here.some, is),
         omega (arith, here.bounded, is),
-        omega (arith, asked.room, asked.own, cells, (fold-holds op own).0, here.some, is),
-        omega (arith, asked.few, cells),
+        omega (arith, requested.room, requested.own, cells, (fold-holds op own).0, here.some, is),
+        omega (arith, requested.few, cells),
         (fold-holds op own).1,
       )
 
@@ -210,7 +210,7 @@ module _ (m : ModuleFacts) where
       let own : l ≤ 65536 = omega (arith, is_own, here.bounded) in
       (own, omega (arith, is_t, taken-most (ranges_in m) 65536 l xs w (each-most xs each) (omega arith) own top))
 
--- the cells of the operator that a loop is at, and of those behind it
+-- the cells of the operator that a loop is at, and of those after it
 pub cells-here : {X : Type 0} (ranges : Ranges) (f : X → WordOp × Expression) (rest : List X) (i : ℕ) (x : X) (w l right result context first second : ℕ) → i < length rest → x ≡ get_or rest i x
     → right ≡ own_width ranges (f x).1 → result ≡ operator_width (f x).0 l right → context ≡ taken ranges result (map f (drop (i + 1) rest)) w → first ≡ first_at (f x).0 l right context → second ≡ second_at (f x).0 l right context
     → words_cells ranges l (map f (drop i rest)) w ≡ (cell_count ranges (f x).1 second + word_cells (f x).0 first second) + words_cells ranges result (map f (drop (i + 1) rest)) w
@@ -234,16 +234,16 @@ are-widths op b s l r one left right is_left is_right =
     subst (λ k. AreWidths op k r) (sym is_left) (subst (AreWidths op b) (sym is_right) (record { some_left = left; some_right = right; one = one }))
 
 -- a level as far as it has come
-pub record IsWorded (nets : List NetInfo) (ranges : Ranges) (w l : ℕ) (rest : List (WordOp × Expression)) (whole : Made) (old now : List BitStep) (bits : List ℕ) : Type 0 where
-  pub so_far : Made
+pub record IsWorded (nets : List NetInfo) (ranges : Ranges) (w l : ℕ) (rest : List (WordOp × Expression)) (whole : MadeTerms) (old now : List BitStep) (bits : List ℕ) : Type 0 where
+  pub so_far : MadeTerms
   pub adds : Adds nets so_far old now bits
   pub all : words_on ranges so_far l rest w ≡ whole
 
 -- one operator more
-pub words-more : (nets : List NetInfo) (ranges : Ranges) (x : WordOp × Expression) (xs : List (WordOp × Expression)) (w l b result context second : ℕ) (whole : Made) (old now mid new : List BitStep) (bits right out : List ℕ)
-    → ((p : Made) → words_on ranges p l (x ∷ xs) w ≡ words_on ranges (word_made x.0 b second p (made ranges x.1 second) context) result xs w)
+pub words-more : (nets : List NetInfo) (ranges : Ranges) (x : WordOp × Expression) (xs : List (WordOp × Expression)) (w l b result context second : ℕ) (whole : MadeTerms) (old now mid new : List BitStep) (bits right out : List ℕ)
+    → ((p : MadeTerms) → words_on ranges p l (x ∷ xs) w ≡ words_on ranges (word_made x.0 b second p (made ranges x.1 second) context) result xs w)
     → IsWorded nets ranges w l (x ∷ xs) whole old now bits → Adds nets (made ranges x.1 second) now mid right
-    → ((m n : Made) → Adds nets m old now bits → Adds nets n now mid right → Adds nets (widened context (word_joined x.0 m n)) old new out)
+    → ((m n : MadeTerms) → Adds nets m old now bits → Adds nets n now mid right → Adds nets (widened context (word_joined x.0 m n)) old new out)
     → IsWorded nets ranges w result xs whole old new out
 words-more nets ranges x xs w l b result context second whole old now mid new bits right out all h here step = record {
   so_far = word_made x.0 b second h.so_far (made ranges x.1 second) context;
@@ -251,7 +251,7 @@ words-more nets ranges x xs w l b result context second whole old now mid new bi
   all = sym (all h.so_far) ∙ h.all;
 }
 
-pub words-ended : {X : Type 0} (nets : List NetInfo) (ranges : Ranges) (f : X → WordOp × Expression) (w l : ℕ) (xs : List X) (i : ℕ) (whole : Made) (old now : List BitStep) (bits : List ℕ) → length xs ≤ i
+pub words-ended : {X : Type 0} (nets : List NetInfo) (ranges : Ranges) (f : X → WordOp × Expression) (w l : ℕ) (xs : List X) (i : ℕ) (whole : MadeTerms) (old now : List BitStep) (bits : List ℕ) → length xs ≤ i
     → IsWorded nets ranges w l (map f (drop i xs)) whole old now bits → Adds nets whole old now bits
 words-ended nets ranges f w l xs i whole old now bits past h =
     subst (λ m. Adds nets m old now bits) (sym (at_drop_all (λ ys. words_on ranges h.so_far l (map f ys) w) xs i past) ∙ h.all) h.adds

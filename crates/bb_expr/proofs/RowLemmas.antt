@@ -9,12 +9,12 @@ use Rattle.std.proofs.lemmas.List.Sorted.{IsPermutation-append_left, IsPermutati
 use Rattle.bb_names.specs.declared.net.NetInfo.{NetInfo}
 use Rattle.bb_expr.specs.declared.step.BitStep.{BitStep}
 use Rattle.bb_expr.specs.Terms.{Term}
-use Rattle.bb_expr.specs.Cells.{Made}
-use Rattle.bb_expr.specs.Lowered.{step_term, term_at, Reads, is_operator, operators}
+use Rattle.bb_expr.specs.Cells.{MadeTerms}
+use Rattle.bb_expr.specs.Lowered.{step_term, term_at, ReadsEarlier, is_operator, operators}
 use Rattle.bb_expr.specs.Inside.Growing.{step_at, AreOrdered, AreSteps, Adds}
 use Rattle.bb_expr.proofs.StepLemmas.{term-more, ordered-rows, row-term}
 
--- the cell that a step is, if it is an operator, where its operands stand among these steps
+-- the cell that a step is, if it is an operator, where its operands are among these steps
 abbrev pub row_cell : List NetInfo → List BitStep → BitStep → Option Term
 row_cell nets all s = if is_operator s then Some (step_term nets s (term_at nets all)) else None
 
@@ -63,7 +63,7 @@ module _ (nets : List NetInfo) where
   abbrev operator : List BitStep → ℕ × BitStep → Option Term
   operator all x = if is_operator x.1 then Some (term_at nets all x.0) else None
 
-  pub operators-rows : (old rows : List BitStep) → AreOrdered nets old → All (Reads nets (length old)) rows → operators nets (old ++ rows) ≡ operators nets old ++ filter_map (row_cell nets old) rows
+  pub operators-rows : (old rows : List BitStep) → AreOrdered nets old → All (ReadsEarlier nets (length old)) rows → operators nets (old ++ rows) ≡ operators nets old ++ filter_map (row_cell nets old) rows
   operators-rows old rows ordered reads =
       ap (filter_map (operator (old ++ rows))) (enumerate-append 0 old rows)
       ∙ filter_map-append (operator (old ++ rows)) (enumerate_from 0 old) (enumerate_from (0 + length old) rows)
@@ -75,7 +75,7 @@ module _ (nets : List NetInfo) where
       same : (n i : ℕ) → (0 + n) + i ≡ n + i
       same n i = omega arith
 
-  pub terms-of-rows : (old rows : List BitStep) → AreOrdered nets old → All (Reads nets (length old)) rows
+  pub terms-of-rows : (old rows : List BitStep) → AreOrdered nets old → All (ReadsEarlier nets (length old)) rows
       → map (term_at nets (old ++ rows)) (range_with_len (length old) (length rows)) ≡ map (λ s. step_term nets s (term_at nets old)) rows
   terms-of-rows old rows ordered reads = map-rows (term_at nets (old ++ rows)) (λ s. step_term nets s (term_at nets old)) (length old) rows (row-term nets old rows ordered reads)
 
@@ -88,7 +88,7 @@ module _ (nets : List NetInfo) where
   steps-permuted all terms terms' moves h = record { earlier = h.earlier; made = IsPermutation-trans terms' terms (operators nets all) moves h.made }
 
   -- a row that reads earlier steps alone
-  pub steps-rows : (old rows : List BitStep) (terms : List Term) → AreSteps nets old terms → All (Reads nets (length old)) rows → AreSteps nets (old ++ rows) (terms ++ filter_map (row_cell nets old) rows)
+  pub steps-rows : (old rows : List BitStep) (terms : List Term) → AreSteps nets old terms → All (ReadsEarlier nets (length old)) rows → AreSteps nets (old ++ rows) (terms ++ filter_map (row_cell nets old) rows)
   steps-rows old rows terms h reads = record {
     earlier = ordered-rows nets old rows h.earlier reads;
     made = subst (IsPermutation (terms ++ filter_map (row_cell nets old) rows)) (sym (operators-rows old rows h.earlier reads)) (IsPermutation-append_left (filter_map (row_cell nets old) rows) terms (operators nets old) h.made);
@@ -105,8 +105,8 @@ module _ (nets : List NetInfo) where
     makes = λ terms h. (subst (AreSteps nets old) (sym (append-nil terms)) h, refl);
   }
 
-  -- a row of steps behind others
-  pub adds-rows : (m : Made) (old mid new rows : List BitStep) (bits out : List ℕ) (made cells : List Term) → Adds nets m old mid bits → new ≡ mid ++ rows → All (Reads nets (length mid)) rows
+  -- a row of steps after others
+  pub adds-rows : (m : MadeTerms) (old mid new rows : List BitStep) (bits out : List ℕ) (made cells : List Term) → Adds nets m old mid bits → new ≡ mid ++ rows → All (ReadsEarlier nets (length mid)) rows
       → All (λ k. k < length mid + length rows) out
       → length out ≡ length made → length bits + length rows ≤ length out + 3 * length cells
       → (AreOrdered nets mid → map (term_at nets mid) bits ≡ m.bits → (map (term_at nets (mid ++ rows)) out ≡ made) × (filter_map (row_cell nets mid) rows ≡ cells))
@@ -126,8 +126,8 @@ module _ (nets : List NetInfo) where
         );
   }
 
-  -- one expression's steps behind another's
-  pub adds-beside : (m n : Made) (old mid new : List BitStep) (a b : List ℕ) → Adds nets m old mid a → Adds nets n mid new b
+  -- one expression's steps after another's
+  pub adds-beside : (m n : MadeTerms) (old mid new : List BitStep) (a b : List ℕ) → Adds nets m old mid a → Adds nets n mid new b
       → Adds nets (record { bits = m.bits ++ n.bits; cells = m.cells ++ n.cells }) old new (a ++ b)
   adds-beside m n old mid new a b x y = record {
     more = x.more ++ y.more;
@@ -146,7 +146,7 @@ module _ (nets : List NetInfo) where
   }
 
   -- the same cells in another order, and the same bits in other words
-  pub adds-same : (m n : Made) (old new : List BitStep) (bits : List ℕ) → m.bits ≡ n.bits → IsPermutation n.cells m.cells → Adds nets m old new bits → Adds nets n old new bits
+  pub adds-same : (m n : MadeTerms) (old new : List BitStep) (bits : List ℕ) → m.bits ≡ n.bits → IsPermutation n.cells m.cells → Adds nets m old new bits → Adds nets n old new bits
   adds-same m n old new bits same moves x = record {
     more = x.more;
     grows = x.grows;

@@ -3,14 +3,14 @@ use Rattle.std.proofs.Common.{◌≡◌, ℕ, zero, suc, ◌<◌, List, [], ◌�
 use Rattle.std.specs.Prelude.{IsSomeAnd, slice_get}
 use Rattle.std.specs.Option.{option_and_then, option_map_or}
 use Rattle.std.proofs.lemmas.List.{length-map}
-use Rattle.bb_lists.proofs.Places.{got-map}
+use Rattle.bb_lemmas.proofs.Places.{got-map}
 use Rattle.bb_ast.specs.Syntax.{Expression}
 use Rattle.bb_names.specs.declared.checked.CheckedModule.{CheckedModule}
 use Rattle.bb_names.specs.Declarations.{range_of}
 use Rattle.bb_names.specs.Inside.Checked.{ModuleFacts, module_facts, syntax, IsChecked}
-use Rattle.bb_expr.specs.Inside.Standing.{StandsAt, nets_at, ranges_at}
+use Rattle.bb_expr.specs.Inside.Occurrences.{OccursAt, nets_at, ranges_at}
 use Rattle.bb_expr.specs.Inside.Fit.{AreFit, ranges_in}
-use Rattle.bb_expr.specs.Laws.FitLaws.{StandingIsFit}
+use Rattle.bb_expr.specs.Laws.FitLaws.{OccurrencesAreFit}
 
 some-within : {X : Type 0} (P : X → Type 0) (xs : List X) (k : ℕ) → IsSomeAnd (slice_get xs k) P → k < length xs
 some-within P [] k h = absurd h
@@ -26,16 +26,16 @@ some-of : {X : Type 0} (P : X → Type 0) (o : Option X) (x : X) → o ≡ Some 
 some-of P o x is h = subst (λ q. IsSomeAnd q P) is h
 
 module _ (checked : List ModuleFacts) (modules : List CheckedModule) (same : map module_facts modules ≡ checked) (k : ℕ) where
-  -- what stands at a place stands in a module
-  pub stands-within : (e : Expression) → StandsAt checked k e → k < length modules
-  stands-within e stands = omega (arith, some-within _ checked k stands, ap length same, length-map modules module_facts)
+  -- what is at a place is in a module
+  pub occurs-within : (e : Expression) → OccursAt checked k e → k < length modules
+  occurs-within e occurs = omega (arith, some-within _ checked k occurs, ap length same, length-map modules module_facts)
 
   module _ (item : CheckedModule) (at : item ≡ get_or modules k item) (lt : k < length modules) where
     pub module-is : slice_get checked k ≡ Some (module_facts item)
     module-is = ap (λ l. slice_get l k) (sym same) ∙ got-map module_facts modules k item (got modules k item lt at)
 
-    pub module-fit : StandingIsFit → IsChecked checked → (e : Expression) → StandsAt checked k e → AreFit (module_facts item) e
-    module-fit law ok e stands = some-of (λ m. AreFit m e) (slice_get checked k) (module_facts item) module-is (law checked k e ok stands)
+    pub module-fit : OccurrencesAreFit → IsChecked checked → (e : Expression) → OccursAt checked k e → AreFit (module_facts item) e
+    module-fit law ok e occurs = some-of (λ m. AreFit m e) (slice_get checked k) (module_facts item) module-is (law checked k e ok occurs)
 
     pub ranges-are : ranges_at checked k ≡ ranges_in (module_facts item)
     ranges-are = ap (λ o. λ (n : List ℕ). option_and_then (λ (m : ModuleFacts). range_of (syntax m) n) o) module-is

@@ -1,9 +1,9 @@
--- Each expression that is fit in a module can be lowered: operand by operand, behind the steps of those before it.
+-- Each expression that is fit in a module can be lowered: operand by operand, after the steps of those before it.
 use Rattle.std.proofs.Common.{◌≡◌, ℕ, ◌+◌, ◌≤◌, List, [], ◌∷◌, ◌++◌, length, map, refl, sym, subst, inl, inr, arith}
 use Rattle.std.specs.Prelude.{fold, Contains}
 use Rattle.std.specs.List.{AllByRecursion, flat_map}
 use Rattle.std.proofs.lemmas.List.Elements.{recursion_from_All}
-use Rattle.bb_lists.proofs.Members.{either}
+use Rattle.bb_lemmas.proofs.Members.{either}
 use Rattle.bb_ast.specs.Syntax.{Expression, Net, Bit, Part, Sized, Plain, Not, Fold, Chain, Words, Cond, Concat, Repeat, Operands, no_operand, operand, WordOperands, no_word, word, Arms, no_arm, arm, Parts, no_part, part, PlainModule}
 use Rattle.bb_ast.specs.Folds.{of_operands, of_words, of_arms, of_parts}
 use Rattle.bb_bits.specs.Numbers.{bits_of}
@@ -16,16 +16,16 @@ use Rattle.bb_word.specs.Words.{HaveOneWidth}
 use Rattle.bb_names.specs.Declarations.{range_of}
 use Rattle.bb_names.specs.Nets.{net_names, net_of, nets_of}
 use Rattle.bb_expr.specs.declared.step.BitStep.{BitStep}
-use Rattle.bb_expr.specs.Inside.Standing.{gathering, expressions_in}
+use Rattle.bb_expr.specs.Inside.Occurrences.{gathering, expressions_in}
 use Rattle.bb_expr.specs.Inside.Fit.{IsFitIn}
 use Rattle.bb_expr.specs.Laws.FitLaws.{LoweringsExist}
 use Rattle.bb_expr.specs.Terms.{Const}
-use Rattle.bb_expr.specs.Cells.{Made, without_cells, net_terms, made, makes, chained, operated, arms_made, part_bits, part_cells, word_made}
+use Rattle.bb_expr.specs.Cells.{MadeTerms, without_cells, net_terms, made, makes, chained, operated, arms_made, part_bits, part_cells, word_made}
 use Rattle.bb_word.specs.Folds.{is_odd}
 use Rattle.bb_expr.specs.Inside.Growing.{Adds, widened, word_joined, fold_joined}
 use Rattle.bb_expr.proofs.CellCounts.{length-made, length-operated, IsLong, word-makes}
 use Rattle.bb_expr.proofs.KnownNames.{net-at}
-use Rattle.bb_expr.proofs.ListLemmas.{all-front, all-back}
+use Rattle.bb_expr.proofs.ListLemmas.{all-prefix, all-back}
 use Rattle.bb_expr.proofs.LoweredLemmas.{is-lowered}
 use Rattle.bb_expr.proofs.MadeValue.{made_seen}
 use Rattle.bb_expr.proofs.NetBitLemmas.{part-fits}
@@ -43,13 +43,13 @@ module _ (m : PlainModule) where
   ranges = range_of m
 
   -- the bits of parts side by side, and their cells
-  abbrev beside : Parts → Made
+  abbrev beside : Parts → MadeTerms
   beside all = record { bits = part_bits (of_parts (made_seen ranges) (makes ranges) all); cells = part_cells (of_parts (made_seen ranges) (makes ranges) all) }
 
-  abbrev arms_at : Arms → Expression → ℕ → Made
+  abbrev arms_at : Arms → Expression → ℕ → MadeTerms
   arms_at all last w = arms_made (of_arms (made_seen ranges) (makes ranges) all) (made_seen ranges last (made ranges last)) w
 
-  abbrev folded : ℕ → Made → Operands → Made
+  abbrev folded : ℕ → MadeTerms → Operands → MadeTerms
   folded w p rest = fold (λ a x. let b = x.1.at w in chained a b (operated x.0 a.bits b.bits)) p (of_operands (made_seen ranges) (makes ranges) rest)
 
   net-part : (n : List ℕ) (w from count : ℕ) (old : List BitStep) → Contains (net_names m) n → from + count ≤ range_width (ranges n) → Lowers nets (widened w (without_cells (net_terms n from count))) old
@@ -67,12 +67,12 @@ module _ (m : PlainModule) where
   arms-long all last w fits own = length-made ranges (Cond all last) w (omega (arith, fits, own))
 
   -- an operand that can be lowered at each width that is at least its own
-  record CanLower (l : ℕ) (f : ℕ → Made) : Type 0 where
+  record CanLower (l : ℕ) (f : ℕ → MadeTerms) : Type 0 where
     pub some : 1 ≤ l
     pub long : IsLong l f
     pub lowers : (w : ℕ) (old : List BitStep) → l ≤ w → Lowers nets (f w) old
 
-  word-lower : (op : WordOp) (l r : ℕ) (f h : ℕ → Made) → CanLower l f → CanLower r h
+  word-lower : (op : WordOp) (l r : ℕ) (f h : ℕ → MadeTerms) → CanLower l f → CanLower r h
       → CanLower (operator_width op l r) (word_step word_made (record { width = l; at = f }) (op, record { width = r; at = h })).at
   word-lower op l r f h first second = record {
     some = some_width op l r first.some second.some;
@@ -117,18 +117,18 @@ module _ (m : PlainModule) where
     lowers (Not k e) w old fit own = not-made k e w old (lowers e w old fit.1 own)
     lowers (Chain e rest) w old fit own =
         let first : own_width ranges e ≤ w = omega (arith, own) in
-        let h = lowers e w old (all-front (IsFitIn m) (expressions_in e) _ fit.1) first in
+        let h = lowers e w old (all-prefix (IsFitIn m) (expressions_in e) _ fit.1) first in
         operands-lower rest w (made ranges e w) old h.0 h.1 h.2 (length-made ranges e w first) (all-back (IsFitIn m) (expressions_in e) _ fit.1) (omega (arith, own))
     lowers (Fold op e) w old fit own =
         let n : ℕ = own_width ranges e in
         let a = made ranges e n in
         widen nets w (fold_joined op a) old (fold-lowers nets op a old (lowers e n old fit.1 (omega arith)) (omega (arith, length-made ranges e n (omega arith), fit.1.0.some)))
     lowers (Words e rest) w old fit own =
-        let first = all-front (IsFitIn m) (expressions_in e) _ fit.1 in
+        let first = all-prefix (IsFitIn m) (expressions_in e) _ fit.1 in
         let can : CanLower (own_width ranges e) (made ranges e) = record { some = first.0.some; long = λ v h. length-made ranges e v h; lowers = λ v before h. lowers e v before first h } in
         (words-lower rest (own_width ranges e) (made ranges e) can (all-back (IsFitIn m) (expressions_in e) _ fit.1)).lowers w old own
     lowers (Cond all last) w old fit own =
-        arms-lower all last w old (all-front (IsFitIn m) (flat_map (λ x. x.0 ++ x.1) (of_arms (λ x all. x ∷ all) gathering all)) (expressions_in last) fit.1)
+        arms-lower all last w old (all-prefix (IsFitIn m) (flat_map (λ x. x.0 ++ x.1) (of_arms (λ x all. x ∷ all) gathering all)) (expressions_in last) fit.1)
         (omega (arith, fit.0.some, own)) (omega (arith, own)) (omega (arith, own))
         (lowers last w old (all-back (IsFitIn m) (flat_map (λ x. x.0 ++ x.1) (of_arms (λ x all. x ∷ all) gathering all)) (expressions_in last) fit.1) (omega (arith, own)))
     lowers (Concat all) w old fit own = widen nets w (beside all) old (parts-lower all old fit.1)
@@ -136,23 +136,23 @@ module _ (m : PlainModule) where
         let h = copy nets k fit.0.right (beside all) old (parts-lower all old fit.1) in
         widen nets w _ old h
 
-    operands-lower : (rest : Operands) (w : ℕ) (p : Made) (old now : List BitStep) (bits : List ℕ) → Adds nets p old now bits → length p.bits ≡ w
+    operands-lower : (rest : Operands) (w : ℕ) (p : MadeTerms) (old now : List BitStep) (bits : List ℕ) → Adds nets p old now bits → length p.bits ≡ w
         → AllByRecursion (IsFitIn m) (flat_map (λ x. x.1) (of_operands (λ x all. x ∷ all) gathering rest)) → greatest (map (λ x. x.1) (of_operands (λ x a. a) (widths ranges) rest)) ≤ w → Lowers nets (folded w p rest) old
     operands-lower no_operand w p old now bits adds long fit own = (now, bits, adds)
     operands-lower (operand op e rest) w p old now bits adds long fit own =
         let width : own_width ranges e ≤ w = omega (arith, own) in
-        let h = lowers e w now (all-front (IsFitIn m) (expressions_in e) _ fit) width in
+        let h = lowers e w now (all-prefix (IsFitIn m) (expressions_in e) _ fit) width in
         let here : length (made ranges e w).bits ≡ w = length-made ranges e w width in
         let g = operate nets op p (made ranges e w) old now h.0 bits h.1 adds h.2 (omega (arith, adds.long, long, here, h.2.long)) in
         operands-lower rest w (chained p (made ranges e w) (operated op p.bits (made ranges e w).bits)) old g.0 g.1 g.2 (length-operated op w p.bits (made ranges e w).bits long here)
         (all-back (IsFitIn m) (expressions_in e) _ fit) (omega (arith, own))
 
-    words-lower : (rest : WordOperands) (l : ℕ) (f : ℕ → Made) → CanLower l f → AllByRecursion (IsFitIn m) (flat_map (λ x. x.1) (of_words (λ x all. x ∷ all) gathering rest))
+    words-lower : (rest : WordOperands) (l : ℕ) (f : ℕ → MadeTerms) → CanLower l f → AllByRecursion (IsFitIn m) (flat_map (λ x. x.1) (of_words (λ x all. x ∷ all) gathering rest))
         → CanLower (fold (λ n x. operator_width x.0 n x.1) l (of_words (λ x a. a) (widths ranges) rest)) (fold (word_step word_made) (record { width = l; at = f }) (of_words (made_seen ranges) (makes ranges) rest)).at
     words-lower no_word l f can fit = can
     words-lower (word op e rest) l f can fit =
         let r = own_width ranges e in
-        let first = all-front (IsFitIn m) (expressions_in e) _ fit in
+        let first = all-prefix (IsFitIn m) (expressions_in e) _ fit in
         let right : CanLower r (made ranges e) = record { some = first.0.some; long = λ v h. length-made ranges e v h; lowers = λ v before h. lowers e v before first h } in
         words-lower rest (operator_width op l r) (word_step word_made (record { width = l; at = f }) (op, made_seen ranges e (made ranges e))).at
         (word-lower op l r f (made ranges e) can right) (all-back (IsFitIn m) (expressions_in e) _ fit)
@@ -161,8 +161,8 @@ module _ (m : PlainModule) where
         → 1 ≤ w → greatest (map (λ x. x.1) (of_arms (λ x a. a) (widths ranges) all)) ≤ w → own_width ranges last ≤ w → Lowers nets (made ranges last w) old → Lowers nets (arms_at all last w) old
     arms-lower no_arm last w old fit some own final end = end
     arms-lower (arm c v rest) last w old fit some own final end =
-        let both = all-front (IsFitIn m) (expressions_in c ++ expressions_in v) _ fit in
-        let tested = all-front (IsFitIn m) (expressions_in c) (expressions_in v) both in
+        let both = all-prefix (IsFitIn m) (expressions_in c ++ expressions_in v) _ fit in
+        let tested = all-prefix (IsFitIn m) (expressions_in c) (expressions_in v) both in
         let width : own_width ranges v ≤ w = omega (arith, own) in
         let less : greatest (map (λ x. x.1) (of_arms (λ x a. a) (widths ranges) rest)) ≤ w = omega (arith, own) in
         let others = arms-lower rest last w old (all-back (IsFitIn m) (expressions_in c ++ expressions_in v) _ fit) some less final end in
@@ -178,7 +178,7 @@ module _ (m : PlainModule) where
     parts-lower no_part old fit = (old, [], adds-nothing nets old)
     parts-lower (part e rest) old fit =
         let n : ℕ = own_width ranges e in
-        let h = lowers e n old (all-front (IsFitIn m) (expressions_in e) _ fit) (omega arith) in
+        let h = lowers e n old (all-prefix (IsFitIn m) (expressions_in e) _ fit) (omega arith) in
         let g = parts-lower rest h.0 (all-back (IsFitIn m) (expressions_in e) _ fit) in
         (g.0, h.1 ++ g.1, adds-beside nets (made ranges e n) (beside rest) old h.0 g.0 h.1 g.1 h.2 g.2)
 

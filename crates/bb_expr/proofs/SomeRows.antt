@@ -1,4 +1,4 @@
--- Steps exist that make what some bits and cells ask for, behind any steps that stand already.
+-- Steps exist that make what some bits and cells ask for, after any steps that are already.
 use Rattle.std.proofs.Common.{◌≡◌, ◌≢◌, ℕ, zero, suc, ◌+◌, ◌-◌, ◌<◌, ◌≤◌, Bool, false, List, [], ◌∷◌, ◌++◌, length, map, drop, get_or, replicate, refl, inl, inr, arith}
 use Rattle.std.specs.Prelude.{◌⊎◌, slice_get, Some}
 use Rattle.std.specs.List.{range_with_len}
@@ -10,7 +10,7 @@ use Rattle.bb_expr.specs.declared.step.BitStep.{BitStep}
 use Rattle.bb_expr.specs.declared.step.BitStep.TheVariants as steps
 use Rattle.bb_expr.specs.Lists.{copies}
 use Rattle.bb_expr.specs.Terms.{Const}
-use Rattle.bb_expr.specs.Cells.{Made, without_cells, net_terms, chained, operated, arm_made}
+use Rattle.bb_expr.specs.Cells.{MadeTerms, without_cells, net_terms, chained, operated, arm_made}
 use Rattle.bb_expr.specs.Inside.Growing.{Adds, AddsRow, paired, gate_step, gated, complemented, reduced, widened}
 use Rattle.bb_expr.proofs.AddLemmas.{adds-inverted}
 use Rattle.bb_expr.proofs.ChoiceLemmas.{adds-arm, adds-copied}
@@ -28,8 +28,8 @@ xnor-or-not ops.Xor = inr (λ e. cc e)
 xnor-or-not ops.Xnor = inl refl
 
 module _ (nets : List NetInfo) where
-  -- there are steps behind these, and bits among them
-  abbrev pub Lowers : Made → List BitStep → Type 0
+  -- there are steps after these, and bits among them
+  abbrev pub Lowers : MadeTerms → List BitStep → Type 0
   Lowers m old = (new : List BitStep) × (bits : List ℕ) × Adds nets m old new bits
 
   pub constants : (bits : List Bool) (old : List BitStep) → Lowers (without_cells (map Const bits)) old
@@ -41,26 +41,26 @@ module _ (nets : List NetInfo) where
       (old ++ rows, range_with_len (length old) (length rows), adds-net-at nets n net k from count old (old ++ rows) (range_with_len (length old) (length rows)) there name fits (row rows old))
 
   -- with zeros on the left
-  pub widen : (w : ℕ) (m : Made) (old : List BitStep) → Lowers m old → Lowers (widened w m) old
+  pub widen : (w : ℕ) (m : MadeTerms) (old : List BitStep) → Lowers m old → Lowers (widened w m) old
   widen w m old h =
       let missing : ℕ = w - length h.1 in
       let rows : List BitStep = replicate missing (steps.Const false) in
       let places = range_with_len (length h.0) (length rows) in
       (h.0 ++ rows, places ++ h.1, extended-made nets m old h.0 (h.0 ++ rows) h.1 places (places ++ h.1) w missing h.2 (row rows h.0) refl refl)
 
-  pub complement : (m : Made) (old : List BitStep) → Lowers m old → Lowers (complemented m) old
+  pub complement : (m : MadeTerms) (old : List BitStep) → Lowers m old → Lowers (complemented m) old
   complement m old h =
       let rows = map steps.Not h.1 in
       let places = range_with_len (length h.0) (length rows) in
       (h.0 ++ rows, places, adds-inverted nets m old h.0 (h.0 ++ rows) h.1 places h.2 (row rows h.0))
 
-  gate : (op : Op) (m n : Made) (old mid before : List BitStep) (a b : List ℕ) → Adds nets m old mid a → Adds nets n mid before b → length a ≡ length b → Lowers (gated op m n) old
+  gate : (op : Op) (m n : MadeTerms) (old mid before : List BitStep) (a b : List ℕ) → Adds nets m old mid a → Adds nets n mid before b → length a ≡ length b → Lowers (gated op m n) old
   gate op m n old mid before a b x y long =
       let rows = paired (gate_step op) a b in
       let places = range_with_len (length before) (length rows) in
       (before ++ rows, places, adds-gated nets op m n old mid before (before ++ rows) a b places x y long (row rows before))
 
-  pub operate : (op : Op) (m n : Made) (old mid before : List BitStep) (a b : List ℕ) → Adds nets m old mid a → Adds nets n mid before b → length a ≡ length b → Lowers (chained m n (operated op m.bits n.bits)) old
+  pub operate : (op : Op) (m n : MadeTerms) (old mid before : List BitStep) (a b : List ℕ) → Adds nets m old mid a → Adds nets n mid before b → length a ≡ length b → Lowers (chained m n (operated op m.bits n.bits)) old
   operate op m n old mid before a b x y long =
       let h = gate op m n old mid before a b x y long in
       elim (xnor-or-not op) [
@@ -69,7 +69,7 @@ module _ (nets : List NetInfo) where
       ]
 
   -- whether some bit is 1, on the way to the last bit
-  any-on : (m : Made) (old : List BitStep) (bits : List ℕ) (left i : ℕ) (now : List BitStep) (a : ℕ) → left + i ≡ length bits → IsOnTheWay nets m old now (a ∷ drop i bits) → (new : List BitStep) × (place : ℕ) × Adds nets (reduced m) old new (place ∷ [])
+  any-on : (m : MadeTerms) (old : List BitStep) (bits : List ℕ) (left i : ℕ) (now : List BitStep) (a : ℕ) → left + i ≡ length bits → IsOnTheWay nets m old now (a ∷ drop i bits) → (new : List BitStep) × (place : ℕ) × Adds nets (reduced m) old new (place ∷ [])
   any-on m old bits zero i now a e way = (now, a, way-ended nets m old now bits i a (omega (arith, e)) way)
   any-on m old bits (suc left) i now a e way =
       let b : ℕ = get_or bits i 0 in
@@ -77,14 +77,14 @@ module _ (nets : List NetInfo) where
       let within : i < length bits = omega (arith, e) in
       any-on m old bits left (i + 1) new (length now) (omega (arith, e)) (way-further nets m old now new bits i a b (length now) within (read-at bits i within) way refl refl)
 
-  pub any : (m : Made) (old : List BitStep) (h : Lowers m old) → 1 ≤ length h.1 → (new : List BitStep) × (place : ℕ) × Adds nets (reduced m) old new (place ∷ [])
+  pub any : (m : MadeTerms) (old : List BitStep) (h : Lowers m old) → 1 ≤ length h.1 → (new : List BitStep) × (place : ℕ) × Adds nets (reduced m) old new (place ∷ [])
   any m old h some = any-on m old h.1 (length h.1 - 1) 1 h.0 (get_or h.1 0 0) (omega (arith, some)) (way-first nets m old h.0 h.1 some h.2)
 
-  pub choose : (me mc mt : Made) (old s1 s2 s3 : List BitStep) (e t : List ℕ) (c : ℕ) → Adds nets me old s1 e → Adds nets (reduced mc) s1 s2 (c ∷ []) → Adds nets mt s2 s3 t → length t ≡ length e → 1 ≤ length t → Lowers (arm_made mc mt me) old
+  pub choose : (me mc mt : MadeTerms) (old s1 s2 s3 : List BitStep) (e t : List ℕ) (c : ℕ) → Adds nets me old s1 e → Adds nets (reduced mc) s1 s2 (c ∷ []) → Adds nets mt s2 s3 t → length t ≡ length e → 1 ≤ length t → Lowers (arm_made mc mt me) old
   choose me mc mt old s1 s2 s3 e t c x y z long some =
       let rows = paired (steps.Mux c) t e in
       let places = range_with_len (length s3) (length rows) in
       (s3 ++ rows, places, adds-arm nets me mc mt old s1 s2 s3 (s3 ++ rows) e t places c x y z long some (row rows s3))
 
-  pub copy : (k : ℕ) → 1 ≤ k → (m : Made) (old : List BitStep) → Lowers m old → Lowers (record { bits = copies k m.bits; cells = m.cells }) old
+  pub copy : (k : ℕ) → 1 ≤ k → (m : MadeTerms) (old : List BitStep) → Lowers m old → Lowers (record { bits = copies k m.bits; cells = m.cells }) old
   copy k some m old h = (h.0, copies k h.1, adds-copied nets k some m old h.0 h.1 h.2)

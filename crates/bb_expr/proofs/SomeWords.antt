@@ -1,11 +1,11 @@
--- Steps exist that make the cells of an operator on words, or of a reduction, behind those of its operands: one for each cell, since
+-- Steps exist that make the cells of an operator on words, or of a reduction, after those of its operands: one for each cell, since
 -- each is a gate of what is known before it.
 use Rattle.std.proofs.Common.{◌≡◌, ℕ, zero, suc, ◌+◌, ◌*◌, ◌<◌, ◌≤◌, Bool, true, false, List, [], ◌∷◌, ◌++◌, length, map, reverse, get_or, Some, None, refl, sym, ap, ap₂, ◌∙◌, subst, inl, inr, arith, length-append, append_assoc, append-nil}
 use Rattle.std.specs.Prelude.{All, Contains, if◌then◌else◌}
 use Rattle.std.specs.List.{cons_option}
 use Rattle.std.proofs.lemmas.List.{length-map, length-reverse}
 use Rattle.std.proofs.lemmas.List.Elements.{Contains-append_left, Contains-append_right, All-nil, All-cons, All-weaker}
-use Rattle.bb_lists.proofs.Members.{contains_here, contains_there, contains_cases, none_in_nil}
+use Rattle.bb_lemmas.proofs.Members.{contains_here, contains_there, contains_cases, none_in_nil}
 use Rattle.bb_ast.specs.declared.operators.WordOp.{WordOp}
 use Rattle.bb_ast.specs.declared.operators.WordOp.TheVariants as ops
 use Rattle.bb_ast.specs.declared.operators.FoldOp.{FoldOp}
@@ -14,14 +14,14 @@ use Rattle.bb_names.specs.declared.net.NetInfo.{NetInfo}
 use Rattle.bb_word.specs.Words.{word_circuit, word_cells, AreWidths}
 use Rattle.bb_word.specs.Folds.{fold_circuit, fold_cells}
 use Rattle.bb_word.specs.Meanings.{word_width}
-use Rattle.bb_lists.proofs.Each.{Each, each_head, each_tail, each_reverse}
+use Rattle.bb_lemmas.proofs.Each.{Each, each_head, each_tail, each_reverse}
 use Rattle.bb_word.specs.Laws.GateLaws.{With, IsGate, inverse, both, either, differ, choice, AreGates, Reads as ReadsKnown, word_built, fold_built}
 use Rattle.bb_word.specs.Laws.CountLaws.{word_count, fold_count, word_long, fold_long}
 use Rattle.bb_expr.specs.declared.step.BitStep.{BitStep}
 use Rattle.bb_expr.specs.declared.step.BitStep.TheVariants as steps
 use Rattle.bb_expr.specs.Terms.{Term, Const, terms}
-use Rattle.bb_expr.specs.Cells.{Made, without_cells}
-use Rattle.bb_expr.specs.Lowered.{step_term, term_at, Reads, is_operator}
+use Rattle.bb_expr.specs.Cells.{MadeTerms, without_cells}
+use Rattle.bb_expr.specs.Lowered.{step_term, term_at, ReadsEarlier, is_operator}
 use Rattle.bb_expr.specs.Inside.Growing.{Adds, word_joined, fold_joined}
 use Rattle.bb_expr.proofs.RowLemmas.{terms-of-rows, terms-kept, adds-rows, adds-beside}
 use Rattle.bb_expr.proofs.SomeRows.{Lowers, constants}
@@ -38,12 +38,12 @@ within n places i all lt = all i 0 lt
 
 module _ (nets : List NetInfo) where
   -- one more step, which is an operator on known bits
-  one-more : (K : Made) (old now : List BitStep) (places : List ℕ) (c : Term) (s : BitStep) → Adds nets K old now places → Reads nets (length now) s → is_operator s ≡ true
+  one-more : (K : MadeTerms) (old now : List BitStep) (places : List ℕ) (c : Term) (s : BitStep) → Adds nets K old now places → ReadsEarlier nets (length now) s → is_operator s ≡ true
       → (map (term_at nets now) places ≡ K.bits → step_term nets s (term_at nets now) ≡ c)
       → Adds nets (record { bits = c ∷ K.bits; cells = K.cells ++ c ∷ [] }) old (now ++ s ∷ []) (length now ∷ places)
   one-more K old now places c s x reads op means =
       let rows = s ∷ [] in
-      let reading = All-cons (Reads nets (length now)) s [] reads (All-nil (Reads nets (length now))) in
+      let reading = All-cons (ReadsEarlier nets (length now)) s [] reads (All-nil (ReadsEarlier nets (length now))) in
       adds-rows nets K old now (now ++ rows) rows places (length now ∷ places) (c ∷ K.bits) (c ∷ []) x refl reading
       (All-cons (λ k. k < length now + 1) (length now) places (omega arith) (All-weaker (λ k. k < length now) (λ k. k < length now + 1) (λ k lt. omega (arith, lt)) places x.within))
       (ap suc x.long) (omega arith)
@@ -55,7 +55,7 @@ module _ (nets : List NetInfo) where
       first : {a b : Term} → a ∷ [] ≡ b ∷ [] → a ≡ b
       first e = cc
 
-  gate-more : (K : Made) (old now : List BitStep) (places : List ℕ) (c : Term) → Adds nets K old now places → IsGate terms (Contains K.bits) c
+  gate-more : (K : MadeTerms) (old now : List BitStep) (places : List ℕ) (c : Term) → Adds nets K old now places → IsGate terms (Contains K.bits) c
       → (s : BitStep) × Adds nets (record { bits = c ∷ K.bits; cells = K.cells ++ c ∷ [] }) old (now ++ s ∷ []) (length now ∷ places)
   gate-more K old now places c x h = by h
     where
@@ -83,7 +83,7 @@ module _ (nets : List NetInfo) where
       )
 
   -- steps for all of some cells, and a place for each of them
-  record AreMade (K : Made) (cells : List Term) (P : Term → Type 0) (old now : List BitStep) : Type 0 where
+  record AreMade (K : MadeTerms) (cells : List Term) (P : Term → Type 0) (old now : List BitStep) : Type 0 where
     pub new : List BitStep
     pub places : List ℕ
     pub known : List Term
@@ -91,7 +91,7 @@ module _ (nets : List NetInfo) where
     pub long : length new ≡ length now + length cells
     pub has : (t : Term) → With P cells t → Contains known t
 
-  gates-more : (cells : List Term) (K : Made) (P : Term → Type 0) (old now : List BitStep) (places : List ℕ) → Adds nets K old now places → ((t : Term) → P t → Contains K.bits t) → AreGates terms P cells → AreMade K cells P old now
+  gates-more : (cells : List Term) (K : MadeTerms) (P : Term → Type 0) (old now : List BitStep) (places : List ℕ) → Adds nets K old now places → ((t : Term) → P t → Contains K.bits t) → AreGates terms P cells → AreMade K cells P old now
   gates-more [] K P old now places x knows h = record {
     new = now;
     places = places;
@@ -175,12 +175,12 @@ module _ (nets : List NetInfo) where
   )
 
   -- a circuit over known bits and these constants
-  circuit-lowers : (K : Made) (consts : List Bool) (old now : List BitStep) (places : List ℕ) (cells bits : List Term) → Adds nets K old now places
+  circuit-lowers : (K : MadeTerms) (consts : List Bool) (old now : List BitStep) (places : List ℕ) (cells bits : List Term) → Adds nets K old now places
       → AreGates terms (Contains (K.bits ++ map Const consts)) cells → Each bits (With (Contains (K.bits ++ map Const consts)) cells)
       → length K.bits + length consts + length cells ≤ length bits + 3 * length cells → Lowers nets (record { bits = bits; cells = K.cells ++ cells }) old
   circuit-lowers K consts old now places cells bits x gates has few =
       let c = constants nets consts now in
-      let L : Made = record { bits = K.bits ++ map Const consts; cells = K.cells } in
+      let L : MadeTerms = record { bits = K.bits ++ map Const consts; cells = K.cells } in
       let y : Adds nets L old c.0 (places ++ c.1) = subst (λ cs. Adds nets (record { bits = K.bits ++ map Const consts; cells = cs }) old c.0 (places ++ c.1)) (append-nil K.cells) (adds-beside nets K (without_cells (map Const consts)) old now c.0 places c.1 x c.2) in
       let made = gates-more cells L (Contains L.bits) old c.0 (places ++ c.1) y (λ t h. h) gates in
       select made.known bits (K.cells ++ cells) old made.new made.places made.adds (λ t h. made.has t (has t h))
@@ -245,13 +245,13 @@ fold-few folds.Odd l some = omega (arith, some)
 fold-few folds.NotOdd l some = omega (arith, some)
 
 module _ (nets : List NetInfo) where
-  -- what stands in a list that is turned around
+  -- what is in a list that is turned around
   turned : (xs ys zs : List Term) → ((t : Term) → Contains xs t → Contains ys t) → Each (reverse xs) (Contains (ys ++ zs))
   turned xs ys zs among = each_reverse (Contains (ys ++ zs)) xs (λ t has. Contains-append_left ys zs t (among t has))
 
-  pub word-lowers : (op : WordOp) (m n : Made) (old mid now : List BitStep) (a b : List ℕ) → Adds nets m old mid a → Adds nets n mid now b → AreWidths op (length m.bits) (length n.bits) → Lowers nets (word_joined op m n) old
+  pub word-lowers : (op : WordOp) (m n : MadeTerms) (old mid now : List BitStep) (a b : List ℕ) → Adds nets m old mid a → Adds nets n mid now b → AreWidths op (length m.bits) (length n.bits) → Lowers nets (word_joined op m n) old
   word-lowers op m n old mid now a b x y w =
-      let K : Made = record { bits = m.bits ++ n.bits; cells = m.cells ++ n.cells } in
+      let K : MadeTerms = record { bits = m.bits ++ n.bits; cells = m.cells ++ n.cells } in
       let consts = constants_of op in
       let known = Contains (K.bits ++ map Const consts) in
       let xs = reverse m.bits in
@@ -265,7 +265,7 @@ module _ (nets : List NetInfo) where
       circuit-lowers nets K consts old now (a ++ b) c.cells (reverse c.bits) (adds-beside nets m n old mid now a b x y) built.cells (each_reverse (With known c.cells) c.bits built.bits)
       (omega (arith, bits, cells, length-append m.bits n.bits, word-few op (length m.bits) (length n.bits) w))
 
-  pub fold-lowers : (op : FoldOp) (m : Made) (old : List BitStep) → Lowers nets m old → 1 ≤ length m.bits → Lowers nets (fold_joined op m) old
+  pub fold-lowers : (op : FoldOp) (m : MadeTerms) (old : List BitStep) → Lowers nets m old → 1 ≤ length m.bits → Lowers nets (fold_joined op m) old
   fold-lowers op m old h some =
       let known = Contains (m.bits ++ []) in
       let xs = reverse m.bits in

@@ -1,4 +1,4 @@
--- What a step is made of stays the same while steps are added behind it, and what rows of steps add that read earlier ones alone.
+-- What a step is made of stays the same while steps are added after it, and what rows of steps add that read earlier ones alone.
 use Rattle.std.proofs.Common.{◌≡◌, ℕ, zero, suc, ◌+◌, ◌<◌, ◌≤◌, false, List, ◌++◌, length, refl, sym, ap, ap₂, ◌∙◌, subst, arith, inl, inr, add-one, length-append}
 use Rattle.std.specs.Prelude.{◌⊎◌, All}
 use Rattle.std.proofs.lemmas.List.{get_or_append_left, get_or-append-add}
@@ -7,10 +7,10 @@ use Rattle.bb_names.specs.declared.net.NetInfo.{NetInfo}
 use Rattle.bb_expr.specs.declared.step.BitStep.{BitStep}
 use Rattle.bb_expr.specs.declared.step.BitStep.TheVariants as steps
 use Rattle.bb_expr.specs.Terms.{Term, Not, And, Or, Xor}
-use Rattle.bb_expr.specs.Lowered.{step_term, term_within, term_at, Reads}
+use Rattle.bb_expr.specs.Lowered.{step_term, term_within, term_at, ReadsEarlier}
 use Rattle.bb_expr.specs.Inside.Growing.{step_at, AreOrdered}
 
--- a place stands before another, or so far behind it
+-- a place precedes another, or so far after it
 pub either-side : (k n : ℕ) → (k < n) ⊎ ((i : ℕ) × (k ≡ n + i))
 either-side k zero = inr (k, omega arith)
 either-side zero (suc n) = inl (omega arith)
@@ -21,7 +21,7 @@ either-side (suc k) (suc n) = elim (either-side k n) [
 
 module _ (nets : List NetInfo) where
   -- what a step is made of depends on what it reads alone
-  pub step_term-same : (v w : ℕ → Term) (place : ℕ) (s : BitStep) → Reads nets place s → ((k : ℕ) → k < place → v k ≡ w k) → step_term nets s v ≡ step_term nets s w
+  pub step_term-same : (v w : ℕ → Term) (place : ℕ) (s : BitStep) → ReadsEarlier nets place s → ((k : ℕ) → k < place → v k ≡ w k) → step_term nets s v ≡ step_term nets s w
   step_term-same v w place (steps.Const b) h same = refl
   step_term-same v w place (steps.Net k i) h same = refl
   step_term-same v w place (steps.Not a) h same = ap Not (same a h)
@@ -30,7 +30,7 @@ module _ (nets : List NetInfo) where
   step_term-same v w place (steps.Xor a b) h same = ap₂ Xor (same a h.0) (same b h.1)
   step_term-same v w place (steps.Mux c t e) h same = let p = same c h.0 in let q = same t h.1 in let r = same e h.2 in cc
 
-  pub reads-later : (place later : ℕ) (s : BitStep) → place ≤ later → Reads nets place s → Reads nets later s
+  pub reads-later : (place later : ℕ) (s : BitStep) → place ≤ later → ReadsEarlier nets place s → ReadsEarlier nets later s
   reads-later place later (steps.Const b) le h = h
   reads-later place later (steps.Net k i) le h = h
   reads-later place later (steps.Not a) le h = omega (arith, h)
@@ -68,22 +68,22 @@ module _ (nets : List NetInfo) where
       ∙ step_term-same (term_within nets all k) (term_at nets all) k (step_at all k) (ordered k lt) (λ j below. within-steady all ordered k (j + 1) j below (omega arith) (omega (arith, below, lt)))
 
   -- a row of steps that read those before the row alone
-  module _ (old rows : List BitStep) (ordered : AreOrdered nets old) (reads : All (Reads nets (length old)) rows) where
+  module _ (old rows : List BitStep) (ordered : AreOrdered nets old) (reads : All (ReadsEarlier nets (length old)) rows) where
     pub row-at : (i : ℕ) → step_at (old ++ rows) (length old + i) ≡ step_at rows i
     row-at i = get_or-append-add old rows i (steps.Const false)
 
     pub ordered-rows : AreOrdered nets (old ++ rows)
     ordered-rows k lt = elim (either-side k (length old)) [
-      | inl below ↦ subst (Reads nets k) (sym (get_or_append_left old rows (steps.Const false) k below)) (ordered k below)
-      | inr above ↦ subst (λ j. Reads nets j (step_at (old ++ rows) j)) (sym above.1)
-          (subst (Reads nets (length old + above.0)) (sym (row-at above.0))
+      | inl below ↦ subst (ReadsEarlier nets k) (sym (get_or_append_left old rows (steps.Const false) k below)) (ordered k below)
+      | inr above ↦ subst (λ j. ReadsEarlier nets j (step_at (old ++ rows) j)) (sym above.1)
+          (subst (ReadsEarlier nets (length old + above.0)) (sym (row-at above.0))
           (reads-later (length old) (length old + above.0) (step_at rows above.0) (omega arith)
-          (All-get_or (Reads nets (length old)) rows above.0 (steps.Const false) (omega (arith, lt, above.1, length-append old rows)) reads)))
+          (All-get_or (ReadsEarlier nets (length old)) rows above.0 (steps.Const false) (omega (arith, lt, above.1, length-append old rows)) reads)))
     ]
 
     pub row-term : (i : ℕ) → i < length rows → term_at nets (old ++ rows) (length old + i) ≡ step_term nets (step_at rows i) (term_at nets old)
     row-term i lt =
         term-step (old ++ rows) ordered-rows (length old + i) (omega (arith, lt, length-append old rows))
         ∙ ap (λ s. step_term nets s (term_at nets (old ++ rows))) (row-at i)
-        ∙ step_term-same (term_at nets (old ++ rows)) (term_at nets old) (length old) (step_at rows i) (All-get_or (Reads nets (length old)) rows i (steps.Const false) lt reads)
+        ∙ step_term-same (term_at nets (old ++ rows)) (term_at nets old) (length old) (step_at rows i) (All-get_or (ReadsEarlier nets (length old)) rows i (steps.Const false) lt reads)
         (λ j below. term-more old rows ordered j below)

@@ -4,7 +4,7 @@ use Rattle.std.proofs.lemmas.Grind.{common_steps}
 use Rattle.std.proofs.lemmas.List.{length-map, length-replicate}
 use Rattle.std.specs.Prelude.{sum, fold, if◌then◌else◌}
 use Rattle.std.specs.List.{flat_map, list_any}
-use Rattle.bb_lists.proofs.Ranges.{length-range}
+use Rattle.bb_lemmas.proofs.Ranges.{length-range}
 use Rattle.bb_ast.specs.Syntax.{Expression, Net, Bit, Part, Sized, Plain, Not, Fold, Chain, Words, Cond, Concat, Repeat, Operands, no_operand, operand, WordOperands, no_word, word, Arms, no_arm, arm, Parts, no_part, part}
 use Rattle.bb_ast.specs.Folds.{fold_by, of_operands, of_words, of_arms, of_parts}
 use Rattle.bb_bits.specs.Numbers.{bits_of}
@@ -17,7 +17,7 @@ use Rattle.bb_word.specs.Folds.{fold_bit}
 use Rattle.bb_word.specs.Meanings.{word_bits, word_number, word_width}
 use Rattle.bb_word.specs.Words.{HaveOneWidth}
 use Rattle.bb_expr.specs.Lists.{extended, copies, bitwise}
-use Rattle.bb_expr.specs.Values.{Bits, value, values, net_bits, op_bit, chosen, complemented, word_value}
+use Rattle.bb_expr.specs.Values.{Bits, value, values, net_bits, op_bit, chosen_arm, complemented, word_value}
 use Rattle.bb_expr.specs.Laws.{ValuesHaveWidth}
 
 pub length-extended : {A : Type 0} (null : A) (w : ℕ) (bits : List A) (n : ℕ) → length bits ≡ n → n ≤ w → length (extended null w bits) ≡ w
@@ -165,10 +165,10 @@ mutual
 
   pub arms-length : (ranges : Ranges) (env : Bits) (all : Arms) (w : ℕ) (last : Expression)
       → greatest (map (λ x. x.1) (of_arms (λ x a. a) (widths ranges) all)) ≤ w → Wide ranges env w last
-      → length (chosen (of_arms (seen ranges) (values ranges env) all) (seen ranges last (value ranges env last)) w) ≡ w
+      → length (chosen_arm (of_arms (seen ranges) (values ranges env) all) (seen ranges last (value ranges env last)) w) ≡ w
   arms-length ranges env no_arm w last fits wide = wide
   arms-length ranges env (arm c e rest) w last fits wide =
-      if-length w (list_any (λ b. b) (value ranges env c (own_width ranges c))) (value ranges env e w) (chosen (of_arms (seen ranges) (values ranges env) rest) (seen ranges last (value ranges env last)) w) (value-length ranges env e w (omega (arith, fits))) (arms-length ranges env rest w last (omega (arith, fits)) wide)
+      if-length w (list_any (λ b. b) (value ranges env c (own_width ranges c))) (value ranges env e w) (chosen_arm (of_arms (seen ranges) (values ranges env) rest) (seen ranges last (value ranges env last)) w) (value-length ranges env e w (omega (arith, fits))) (arms-length ranges env rest w last (omega (arith, fits)) wide)
 
   pub parts-length : (ranges : Ranges) (env : Bits) (all : Parts)
       → length (flat_map alone (of_parts (seen ranges) (values ranges env) all)) ≡ sum (of_parts (λ x a. a) (widths ranges) all)

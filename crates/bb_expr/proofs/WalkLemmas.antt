@@ -13,7 +13,7 @@ use Rattle.bb_names.specs.Widths.{Ranges, own_width}
 use Rattle.bb_expr.specs.declared.step.BitStep.{BitStep}
 use Rattle.bb_expr.specs.Lists.{copies, extended}
 use Rattle.bb_expr.specs.Terms.{Const}
-use Rattle.bb_expr.specs.Cells.{Made, made, makes, chained, operated, arm_made, part_bits, part_cells, cell_count}
+use Rattle.bb_expr.specs.Cells.{MadeTerms, made, makes, chained, operated, arm_made, part_bits, part_cells, cell_count}
 use Rattle.bb_word.specs.Folds.{is_odd}
 use Rattle.bb_expr.specs.Inside.Growing.{Adds, beside, chained_on, arms_on, widened, complemented}
 use Rattle.bb_expr.specs.Inside.Shares.{own_cells}
@@ -23,12 +23,12 @@ use Rattle.bb_expr.proofs.RowLemmas.{adds-beside}
 use Rattle.bb_expr.proofs.Loops.{rest-here}
 
 -- a chain as far as it has come
-pub record IsChained (nets : List NetInfo) (ranges : Ranges) (w : ℕ) (rest : List (Op × Expression)) (whole : Made) (old now : List BitStep) (bits : List ℕ) : Type 0 where
-  pub so_far : Made
+pub record IsChained (nets : List NetInfo) (ranges : Ranges) (w : ℕ) (rest : List (Op × Expression)) (whole : MadeTerms) (old now : List BitStep) (bits : List ℕ) : Type 0 where
+  pub so_far : MadeTerms
   pub adds : Adds nets so_far old now bits
   pub all : chained_on ranges w so_far rest ≡ whole
 
-chain-folded : (ranges : Ranges) (w : ℕ) (m : Made) (xs : List (Op × Expression))
+chain-folded : (ranges : Ranges) (w : ℕ) (m : MadeTerms) (xs : List (Op × Expression))
     → fold (λ a x. let b = x.1.at w in chained a b (operated x.0 a.bits b.bits)) m (of_operands (made_seen ranges) (makes ranges) (operands xs)) ≡ chained_on ranges w m xs
 chain-folded ranges w m [] = refl
 chain-folded ranges w m (x ∷ xs) = chain-folded ranges w (chained m (made ranges x.1 w) (operated x.0 m.bits (made ranges x.1 w).bits)) xs
@@ -95,9 +95,9 @@ module _ (nets : List NetInfo) (ranges : Ranges) where
       ∙ ap₂ (λ a b. a + b) (cells-counted ranges x (own_width ranges x) (omega arith)) (beside-cells xs) ∙ sym (sum_by-cons (own_cells ranges) x xs)
 
   -- one operand more
-  pub chain-more : {X : Type 0} (f : X → Op × Expression) (w : ℕ) (xs : List X) (i : ℕ) (x : X) (whole : Made) (old now mid new : List BitStep) (bits right out : List ℕ) → i < length xs → x ≡ get_or xs i x
+  pub chain-more : {X : Type 0} (f : X → Op × Expression) (w : ℕ) (xs : List X) (i : ℕ) (x : X) (whole : MadeTerms) (old now mid new : List BitStep) (bits right out : List ℕ) → i < length xs → x ≡ get_or xs i x
       → IsChained nets ranges w (map f (drop i xs)) whole old now bits → Adds nets (made ranges (f x).1 w) now mid right
-      → ((m n : Made) → Adds nets m old now bits → Adds nets n now mid right → Adds nets (chained m n (operated (f x).0 m.bits n.bits)) old new out)
+      → ((m n : MadeTerms) → Adds nets m old now bits → Adds nets n now mid right → Adds nets (chained m n (operated (f x).0 m.bits n.bits)) old new out)
       → IsChained nets ranges w (map f (drop (i + 1) xs)) whole old new out
   chain-more f w xs i x whole old now mid new bits right out within at h here step = record {
     so_far = chained h.so_far (made ranges (f x).1 w) (operated (f x).0 h.so_far.bits (made ranges (f x).1 w).bits);
@@ -105,7 +105,7 @@ module _ (nets : List NetInfo) (ranges : Ranges) where
     all = sym (rest-here (chained_on ranges w h.so_far) f xs i x within at) ∙ h.all;
   }
 
-  pub chain-ended : {X : Type 0} (f : X → Op × Expression) (w : ℕ) (xs : List X) (i : ℕ) (whole : Made) (old now : List BitStep) (bits : List ℕ) → length xs ≤ i
+  pub chain-ended : {X : Type 0} (f : X → Op × Expression) (w : ℕ) (xs : List X) (i : ℕ) (whole : MadeTerms) (old now : List BitStep) (bits : List ℕ) → length xs ≤ i
       → IsChained nets ranges w (map f (drop i xs)) whole old now bits → Adds nets whole old now bits
   chain-ended f w xs i whole old now bits past h =
       subst (λ m. Adds nets m old now bits) (sym (at_drop_all (λ ys. chained_on ranges w h.so_far (map f ys)) xs i past) ∙ h.all) h.adds
@@ -129,7 +129,7 @@ module _ (nets : List NetInfo) (ranges : Ranges) where
   not-even k e w old new bits even h = subst (λ b. Adds nets (if b then complemented (made ranges e w) else made ranges e w) old new bits) (sym even) h
 
   -- one arm more, before the others
-  pub arm-more : {X : Type 0} (f : X → Expression × Expression) (w : ℕ) (last : Made) (xs : List X) (turn : ℕ) (x : X) (old new : List BitStep) (bits : List ℕ) → turn < length xs → x ≡ get_or xs (length xs - 1 - turn) x
+  pub arm-more : {X : Type 0} (f : X → Expression × Expression) (w : ℕ) (last : MadeTerms) (xs : List X) (turn : ℕ) (x : X) (old new : List BitStep) (bits : List ℕ) → turn < length xs → x ≡ get_or xs (length xs - 1 - turn) x
       → Adds nets (arm_made (made ranges (f x).0 (own_width ranges (f x).0)) (made ranges (f x).1 w) (arms_on ranges w last (map f (drop (length xs - turn) xs)))) old new bits
       → Adds nets (arms_on ranges w last (map f (drop (length xs - (turn + 1)) xs))) old new bits
   arm-more f w last xs turn x old new bits within at h =

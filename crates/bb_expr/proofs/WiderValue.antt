@@ -2,7 +2,7 @@
 use Rattle.std.proofs.Common.{◌≡◌, ℕ, zero, suc, ◌+◌, ◌-◌, ◌*◌, ◌≤◌, Bool, true, false, List, [], ◌∷◌, ◌++◌, length, map, refl, ap, ap₂, ◌∙◌, arith}
 use Rattle.std.specs.Prelude.{max, replicate, fold, ◌&&◌, if◌then◌else◌}
 use Rattle.std.specs.List.{flat_map, list_any, list_all}
-use Rattle.bb_lists.proofs.Bits.{and_left, and_right}
+use Rattle.bb_lemmas.proofs.Bits.{and_left, and_right}
 use Rattle.bb_ast.specs.declared.expr.Op.{Op}
 use Rattle.bb_ast.specs.declared.expr.Op.TheVariants as ops
 use Rattle.bb_ast.specs.Syntax.{Expression, Net, Bit, Part, Sized, Plain, Not, Fold, Chain, Words, Cond, Concat, Repeat, Operands, no_operand, operand, WordOperands, no_word, word, Arms, no_arm, arm}
@@ -15,7 +15,7 @@ use Rattle.bb_word.specs.Folds.{fold_bit}
 use Rattle.bb_word.specs.Meanings.{word_bits}
 use Rattle.bb_names.specs.Widths.{Ranges, Operand, greatest, own_width, widths, alone, word_step}
 use Rattle.bb_expr.specs.Lists.{extended, copies, bitwise}
-use Rattle.bb_expr.specs.Values.{Bits, value, values, net_bits, op_bit, chosen, word_value}
+use Rattle.bb_expr.specs.Values.{Bits, value, values, net_bits, op_bit, chosen_arm, word_value}
 use Rattle.bb_expr.specs.Laws.Steady.{keeps_zero, gives_one_bit, steadying, is_steady}
 use Rattle.bb_expr.specs.Laws.{WiderAddsZeros}
 use Rattle.bb_expr.proofs.ValueLemmas.{length-net_bits, length-bits_of, length-copies, parts-length, seen, words-width}
@@ -113,8 +113,8 @@ mutual
       → greatest (map (λ x. x.1) (of_arms (λ x a. a) (widths ranges) all)) ≤ w
       → list_all (λ x. x.1) (of_arms (λ x a. a) steadying all) ≡ true
       → value ranges env last (k + w) ≡ replicate k false ++ value ranges env last w
-      → chosen (of_arms (seen ranges) (values ranges env) all) (seen ranges last (value ranges env last)) (k + w)
-      ≡ replicate k false ++ chosen (of_arms (seen ranges) (values ranges env) all) (seen ranges last (value ranges env last)) w
+      → chosen_arm (of_arms (seen ranges) (values ranges env) all) (seen ranges last (value ranges env last)) (k + w)
+      ≡ replicate k false ++ chosen_arm (of_arms (seen ranges) (values ranges env) all) (seen ranges last (value ranges env last)) w
   wider-arms ranges env no_arm w k last fits steady same = same
   wider-arms ranges env (arm c e rest) w k last fits steady same =
       if-wider (list_any (λ b. b) (value ranges env c (own_width ranges c))) k _ _ _ _

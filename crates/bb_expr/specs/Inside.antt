@@ -2,6 +2,6 @@
 pub mod Fit
 pub mod Growing
 pub mod Levels
-pub mod Pasting
+pub mod Instantiation
 pub mod Shares
-pub mod Standing
+pub mod Occurrences

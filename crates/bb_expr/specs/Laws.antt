@@ -21,7 +21,7 @@ MadeHasValue = (ranges : Ranges) (env : Bits) (e : Expression) (w : ℕ) → own
 abbrev pub CellsAreCounted : Type 0
 CellsAreCounted = (ranges : Ranges) (e : Expression) (w : ℕ) → own_width ranges e ≤ w → length (made ranges e w).cells ≡ cell_count ranges e w
 
--- where no ~, no ~^, no sum or difference and no shift stands above, a wider context adds zeros on the left and nothing else
+-- without ~, ~^, a sum, a difference or a shift above, a wider context adds zeros on the left and nothing else
 abbrev pub WiderAddsZeros : Type 0
 WiderAddsZeros = (ranges : Ranges) (env : Bits) (e : Expression) (w k : ℕ) → own_width ranges e ≤ w → is_steady e ≡ true
     → value ranges env e (k + w) ≡ replicate k false ++ value ranges env e w

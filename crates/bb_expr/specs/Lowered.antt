@@ -26,24 +26,24 @@ step_term nets (steps.Or a b) term = Or (term a) (term b)
 step_term nets (steps.Xor a b) term = Xor (term a) (term b)
 step_term nets (steps.Mux c t e) term = Mux (term c) (term t) (term e)
 
--- the same by at most so many steps from operand to operand
+-- the same, going from operand to operand at most n times
 unfoldable pub term_within : List NetInfo → List BitStep → ℕ → ℕ → Term
 term_within nets all zero place = Const false
 term_within nets all (suc n) place = step_term nets (slice_index_or all place (steps.Const false)) (term_within nets all n)
 
--- operands stand earlier, so place + 1 steps suffice
+-- operands are earlier, so place + 1 steps suffice
 abbrev pub term_at : List NetInfo → List BitStep → ℕ → Term
 term_at nets all place = term_within nets all (place + 1) place
 
 -- it reads steps before this place alone, or a bit that a net has
-abbrev pub Reads : List NetInfo → ℕ → BitStep → Type 0
-Reads nets place (steps.Const b) = Unit {0}
-Reads nets place (steps.Net k i) = (k < length nets) × IfSome (slice_get nets k) (λ net. i < range_width net.range)
-Reads nets place (steps.Not a) = a < place
-Reads nets place (steps.And a b) = (a < place) × (b < place)
-Reads nets place (steps.Or a b) = (a < place) × (b < place)
-Reads nets place (steps.Xor a b) = (a < place) × (b < place)
-Reads nets place (steps.Mux c t e) = (c < place) × (t < place) × (e < place)
+abbrev pub ReadsEarlier : List NetInfo → ℕ → BitStep → Type 0
+ReadsEarlier nets place (steps.Const b) = Unit {0}
+ReadsEarlier nets place (steps.Net k i) = (k < length nets) × IfSome (slice_get nets k) (λ net. i < range_width net.range)
+ReadsEarlier nets place (steps.Not a) = a < place
+ReadsEarlier nets place (steps.And a b) = (a < place) × (b < place)
+ReadsEarlier nets place (steps.Or a b) = (a < place) × (b < place)
+ReadsEarlier nets place (steps.Xor a b) = (a < place) × (b < place)
+ReadsEarlier nets place (steps.Mux c t e) = (c < place) × (t < place) × (e < place)
 
 abbrev pub is_operator : BitStep → Bool
 is_operator (steps.Const b) = false
@@ -54,11 +54,11 @@ is_operator step = true
 abbrev pub operators : List NetInfo → List BitStep → List Term
 operators nets all = filter_map (λ x. if is_operator x.1 then Some (term_at nets all x.0) else None) (enumerate_from 0 all)
 
--- steps and bits are the expression at that width: its bits are made as they should be, and the operators among the steps are
--- its cells, one for one. The last carry of a sum is a cell that nothing reads, and which of several equal cells a step reads is not
--- said.
+-- steps and bits are the expression at that width: its bits are made as they should be, and the operators among the
+-- steps are its cells, one for one. The last carry of a sum is a cell that nothing reads, and which of several equal
+-- cells a step reads is left open.
 pub record IsLowered (nets : List NetInfo) (ranges : Ranges) (e : Expression) (w : ℕ) (all : List BitStep) (bits : List ℕ) : Type 0 where
-  pub earlier : All (λ x. Reads nets x.0 x.1) (enumerate_from 0 all)
+  pub earlier : All (λ x. ReadsEarlier nets x.0 x.1) (enumerate_from 0 all)
   pub places : All (λ k. k < length all) bits
   pub width : length bits ≡ w
   pub terms : map (term_at nets all) bits ≡ (made ranges e w).bits

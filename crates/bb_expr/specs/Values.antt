@@ -1,8 +1,8 @@
--- The value of an expression at the width of its context (IEEE 1364-2005, 5.1.5 to 5.1.14 and 5.4, in a profile): a list of that many
--- bits, the most significant first, where the width is at least the expression's own. What stands alone in a context, as
--- a condition, a part, the amount of a shift or an operand of a truth of words or of a reduction, is taken at its own width. An
--- operator on words gives the bits of the number that it means, with zeros on their left; a reduction gives one bit, with zeros on
--- its left.
+-- The value of an expression at the width of its context (IEEE 1364-2005, 5.1.5 to 5.1.14 and 5.4, in a profile): a
+-- list of that many bits, the most significant first, where the width is at least the expression's own. A condition, a
+-- part, the amount of a shift, and an operand of a truth of words or of a reduction are taken at their own width. An
+-- operator on words gives the bits of the number that it means, with zeros on their left; a reduction gives one bit,
+-- with zeros on its left.
 use Rattle.std.specs.Prelude.{ℕ, zero, suc, ◌+◌, Bool, false, not, ◌&&◌, ◌||◌, if◌then◌else◌, List, [], ◌∷◌, map, fold}
 use Rattle.std.specs.List.{list_any, flat_map, range_with_len}
 use Rattle.bb_ast.specs.declared.expr.Op.{Op}
@@ -21,11 +21,11 @@ use Rattle.bb_expr.specs.Lists.{extended, copies, bitwise}
 abbrev pub Bits : Type 0
 Bits = List ℕ → ℕ → Bool
 
--- so many bits of a net, from a place on
+-- count bits of a net, from a place on
 abbrev pub net_bits : Bits → List ℕ → ℕ → ℕ → List Bool
 net_bits env n place count = map (env n) (range_with_len place count)
 
--- complemented so many times
+-- complemented k times
 abbrev pub complemented : ℕ → Bool → Bool
 complemented zero b = b
 complemented (suc k) b = not (complemented k b)
@@ -37,9 +37,9 @@ op_bit ops.Xor a b = if a then not b else b
 op_bit ops.Xnor a b = if a then b else not b
 
 -- the value of the first arm whose condition has a bit 1, else the last branch
-abbrev pub chosen : List (Operand (List Bool) × Operand (List Bool)) → Operand (List Bool) → ℕ → List Bool
-chosen [] last w = last.at w
-chosen (x ∷ xs) last w = if list_any (λ b. b) (alone x.0) then x.1.at w else chosen xs last w
+abbrev pub chosen_arm : List (Operand (List Bool) × Operand (List Bool)) → Operand (List Bool) → ℕ → List Bool
+chosen_arm [] last w = last.at w
+chosen_arm (x ∷ xs) last w = if list_any (λ b. b) (alone x.0) then x.1.at w else chosen_arm xs last w
 
 -- an operator on words of the values of its operands, at the widths at which it takes them
 abbrev pub word_value : WordOp → ℕ → ℕ → List Bool → List Bool → ℕ → List Bool
@@ -56,7 +56,7 @@ values ranges env = record {
   reduce = λ op e w. extended false w (fold_bit op (alone e) ∷ []);
   chain = λ e rest w. fold (λ bits x. bitwise (op_bit x.0) bits (x.1.at w)) (e.at w) rest;
   words = λ e rest w. words_at word_value e rest w;
-  cond = λ all last w. chosen all last w;
+  cond = λ all last w. chosen_arm all last w;
   concat = λ all w. extended false w (flat_map alone all);
   repeat = λ k all w. extended false w (copies k (flat_map alone all));
 }

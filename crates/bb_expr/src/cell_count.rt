@@ -1,4 +1,6 @@
-//! How many cells expressions make: they are counted before any is made, so that what is too large is refused first.
+//! How many cells expressions make. They are counted before any is made, so that what is too large is refused before
+//! memory is taken, and a refusal does not depend on the memory that is there. Counts saturate at 2^64 - 1, far above
+//! every bound.
 
 ghost use Rattle.std.specs.Prelude.{◌≡◌, ◌≤◌, ◌+◌, ◌*◌, ◌-◌, ◌^◌, min, map, sum_by, All};
 ghost use Rattle.bb_ast.specs.Inside.Views.{expression, operand_view, arm_view};
@@ -12,7 +14,7 @@ ghost use Rattle.bb_ast.specs.Syntax.{word_operands};
 ghost use Rattle.bb_expr.specs.Inside.Levels.{words_cells};
 ghost use Rattle.bb_expr.specs.Inside.Fit.{AreFit, ranges_in};
 ghost use Rattle.bb_expr.specs.Inside.Shares.{capped, own_cells, operand_cells, arm_cells};
-ghost use Rattle.bb_expr.specs.Inside.Standing.{StandsAt, ranges_at};
+ghost use Rattle.bb_expr.specs.Inside.Occurrences.{OccursAt, ranges_at};
 
 use crate::laws;
 use crate::operands::{taken_at, widths_at};
@@ -20,25 +22,25 @@ use crate::width::width_of;
 use bb_ast::{Expr, FoldOp, Op, WordOp};
 use bb_names::{Checked, CheckedModule};
 
-/// The number of cells that an expression of a module makes at a width that is at least its own, or 2^64 - 1 where it is greater.
+/// At a width that is at least the expression's own; 2^64 - 1 where the number is greater.
 pub fn cells(checked: &Checked, module: u32, expr: &Expr, width: u32) -> u64
-    requires stands { StandsAt checked.now «module» (expression expr.now) }
+    requires occurs { OccursAt checked.now «module» (expression expr.now) }
     requires own { own_width (ranges_at checked.now «module») (expression expr.now) ≤ width }
     requires width { width ≤ 65536 }
     ensures { result ≡ min (2 ^ 64 - 1) (cell_count (ranges_at checked.now «module») (expression expr.now) width) }
 {
-    laws::standing_is_fit();
+    laws::occurrences_are_fit();
     cells_at(&checked.modules()[module as usize], expr, width)
 }
 
-/// Whether so many complements are one.
+/// An even run of `~` makes no cell at all.
 pub(crate) fn is_odd(count: u32) -> bool
     ensures { result ≡ is_odd count }
 {
     count % 2 == 1
 }
 
-/// The cells of an operator for each bit.
+/// `~^` is an exclusive or and a complement.
 fn op_cells(op: Op) -> u32
     ensures { result ≡ op_cells op }
 {
@@ -48,7 +50,6 @@ fn op_cells(op: Op) -> u32
     }
 }
 
-/// The cells of a reduction of a word with this width.
 fn fold_cells(op: FoldOp, width: u32) -> u64
     ensures { result ≡ fold_cells op width }
 {
@@ -59,7 +60,8 @@ fn fold_cells(op: FoldOp, width: u32) -> u64
     }
 }
 
-/// The cells of an operator on words with these widths.
+/// The numbers are those of the circuits of bb_word: five for each bit of a sum, one more of a difference, and for a
+/// shift one choice for each bit and each bit of the amount.
 fn word_cells(op: WordOp, left: u32, right: u32) -> u64
     requires left { left ≤ 65536 }
     requires right { right ≤ 65536 }
@@ -79,7 +81,7 @@ fn word_cells(op: WordOp, left: u32, right: u32) -> u64
     }
 }
 
-/// The cells of an expression at a width. Recursion goes as deep as the expression nests.
+/// Recursion goes as deep as the expression nests.
 #[cycle(cells)]
 fn cells_at(scope: &CheckedModule, expr: &Expr, width: u32) -> u64
     requires fit { AreFit (module_facts scope.now) (expression expr.now) }
@@ -116,7 +118,6 @@ fn cells_at(scope: &CheckedModule, expr: &Expr, width: u32) -> u64
     }
 }
 
-/// The cells of the operators of a chain and of their right operands.
 #[cycle(cells)]
 fn operand_cells(scope: &CheckedModule, rest: &[(Op, Expr)], width: u32) -> u64
     requires fit { All (λ x. AreFit (module_facts scope.now) x.1) (map operand_view rest.now) }
@@ -131,7 +132,7 @@ fn operand_cells(scope: &CheckedModule, rest: &[(Op, Expr)], width: u32) -> u64
     total
 }
 
-/// The cells of operators on words of one level and of their right operands, where what stands left of them has the width `left`.
+/// `left` is the own width of the operands before the first operator.
 #[cycle(cells)]
 fn level_cells(scope: &CheckedModule, left: u32, rest: &[(WordOp, Expr)], width: u32) -> u64
     requires fit { All (λ x. AreFit (module_facts scope.now) x.1) (map operand_view rest.now) }
@@ -153,7 +154,7 @@ fn level_cells(scope: &CheckedModule, left: u32, rest: &[(WordOp, Expr)], width:
     total
 }
 
-/// The cells of conditions and their values, and what chooses between these and the rest.
+/// For each arm the ors of its condition, one less than it has bits, and a choice for each bit of the result.
 #[cycle(cells)]
 fn arm_cells(scope: &CheckedModule, all: &[(Expr, Expr)], width: u32) -> u64
     requires fit { All (λ x. AreFit (module_facts scope.now) x.0 × AreFit (module_facts scope.now) x.1) (map arm_view all.now) }
@@ -169,7 +170,6 @@ fn arm_cells(scope: &CheckedModule, all: &[(Expr, Expr)], width: u32) -> u64
     total
 }
 
-/// The cells of parts, each at its own width.
 #[cycle(cells)]
 fn part_cells(scope: &CheckedModule, all: &[Expr]) -> u64
     requires fit { All (AreFit (module_facts scope.now)) (map expression all.now) }

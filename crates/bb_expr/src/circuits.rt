@@ -1,4 +1,7 @@
-//! Operators on words behind other steps: the cells of their netlists, each at its new place.
+//! Operators on words, instantiated among the steps of an expression. No operator is written twice: bb_word makes its
+//! netlist, and the cells of this netlist are appended with their operands moved to new places. A constant is added
+//! only where something reads it, so that the bound of three steps for each cell holds also for operators with few
+//! cells.
 
 ghost use Rattle.std.specs.Prelude.{◌≡◌, ◌≤◌, ◌<◌, ◌+◌, ◌-◌, ◌^◌, ◌++◌, [], ℕ, true, ◌||◌, List, All, map, length, IfOk, OnOk};
 ghost use Rattle.bb_names.specs.declared.net.NetInfo.{NetInfo};
@@ -7,9 +10,9 @@ ghost use Rattle.bb_word.specs.Folds.{fold_cells};
 ghost use Rattle.bb_word.specs.Meanings.{word_width};
 ghost use Rattle.bb_word.specs.Words.{word_cells, AreWidths};
 ghost use Rattle.bb_expr.specs.declared.step.BitStep.{BitStep};
-ghost use Rattle.bb_expr.specs.Cells.{Made};
+ghost use Rattle.bb_expr.specs.Cells.{MadeTerms};
 ghost use Rattle.bb_expr.specs.Inside.Growing.{Adds, word_joined, fold_joined};
-ghost use Rattle.bb_expr.specs.Inside.Pasting.{is_read, read_by, is_out, behind_inputs, constant_steps, moved, pasted, IsPasted};
+ghost use Rattle.bb_expr.specs.Inside.Instantiation.{is_read, read_by, is_out, after_inputs, constant_steps, moved, instantiated, IsInstantiated};
 
 use crate::rows::push;
 use crate::step::BitStep;
@@ -18,15 +21,14 @@ use bb_bits::NoMemory;
 use bb_net::{Cell, Net};
 use std::alloc::Global;
 
-/// Where the cells of a netlist stand among steps: the constants, and the first cell behind the inputs.
+/// Where a netlist is instantiated: the places of its constants, and of its first cell after the inputs.
 #[derive(Clone, Copy, Debug)]
-struct Pasting {
+struct Instantiation {
     zero: u32,
     one: u32,
     first: usize,
 }
 
-/// Whether a cell reads a place.
 fn reads(cell: Cell, place: u32) -> bool
     ensures { result ≡ is_read place cell }
 {
@@ -38,7 +40,6 @@ fn reads(cell: Cell, place: u32) -> bool
     }
 }
 
-/// Whether some cell reads a place.
 fn some_reads(cells: &[Cell], place: u32) -> bool
     ensures { result ≡ read_by place cells.now }
 {
@@ -50,7 +51,6 @@ fn some_reads(cells: &[Cell], place: u32) -> bool
     false
 }
 
-/// Whether some output is at a place.
 fn some_out(outs: &[u32], place: u32) -> bool
     ensures { result ≡ is_out place outs.now }
 {
@@ -62,14 +62,13 @@ fn some_out(outs: &[u32], place: u32) -> bool
     false
 }
 
-/// Whether something reads the cell at a place.
 fn needs(cells: &[Cell], outs: &[u32], place: u32) -> bool
     ensures { result ≡ (read_by place cells.now || is_out place outs.now) }
 {
     some_reads(cells, place) || some_out(outs, place)
 }
 
-/// A constant where something reads it, and its place then.
+/// Where nothing reads it, the place is 0 and means nothing.
 fn constant(steps: &mut Vec<BitStep>, bit: bool, needed: bool) -> Result<u32, NoMemory>
     requires { length steps.old.items < 2 ^ 32 }
     ensures place { IfOk result (λ place. needed ≡ true → place ≡ length steps.old.items) }
@@ -82,33 +81,32 @@ fn constant(steps: &mut Vec<BitStep>, bit: bool, needed: bool) -> Result<u32, No
     }
 }
 
-/// The place among the steps of a cell of the netlist: its cells 0 and 1 are the constants, and the inputs follow.
-fn place_of(at: Pasting, inputs: &[u32], place: u32) -> u32
+/// Cells 0 and 1 of the netlist are its constants, and its inputs follow; neither is appended.
+fn place_of(at: Instantiation, inputs: &[u32], place: u32) -> u32
     requires few { length inputs.now ≤ 131072 }
     requires room { 2 + length inputs.now ≤ place → at.first + (place - (2 + length inputs.now)) < 2 ^ 32 }
     ensures { result ≡ moved at inputs.now place }
 {
-    let behind = 2 + inputs.len() as u32;
+    let after = 2 + inputs.len() as u32;
     if place == 0 {
         at.zero
     } else if place == 1 {
         at.one
-    } else if place < behind {
+    } else if place < after {
         inputs[place as usize - 2]
     } else {
-        (at.first + (place - behind) as usize) as u32
+        (at.first + (place - after) as usize) as u32
     }
 }
 
-/// A cell of the netlist as a step, which reads the same cells at their new places.
-fn step_of(at: Pasting, inputs: &[u32], cell: Cell) -> BitStep
+fn step_of(at: Instantiation, inputs: &[u32], cell: Cell) -> BitStep
     requires few { length inputs.now ≤ 131072 }
     requires reads { (place : ℕ) × (at.first + (place - (2 + length inputs.now)) ≤ 2 ^ 32) × ReadsBefore (length inputs.now) [] place cell }
-    ensures { result ≡ pasted (moved at inputs.now) cell }
+    ensures { result ≡ instantiated (moved at inputs.now) cell }
 {
     match cell {
         Cell::Const(bit) => BitStep::Const(bit),
-        // Behind the inputs there is none, and there are no boxes.
+        // Never reached: no input comes after the inputs, and there are no boxes.
         Cell::Input(_) | Cell::BoxOut(_, _) => BitStep::Const(false),
         Cell::Not(a) => BitStep::Not(place_of(at, inputs, a)),
         Cell::And(a, b) => BitStep::And(place_of(at, inputs, a), place_of(at, inputs, b)),
@@ -122,10 +120,9 @@ fn step_of(at: Pasting, inputs: &[u32], cell: Cell) -> BitStep
     }
 }
 
-/// The cells behind the inputs, each at its new place.
-fn paste_cells(
+fn instantiate_cells(
     steps: &mut Vec<BitStep>,
-    at: Pasting,
+    at: Instantiation,
     inputs: &[u32],
     cells: &[Cell],
 ) -> Result<(), NoMemory>
@@ -133,7 +130,7 @@ fn paste_cells(
     requires first { at.first + length cells.now ≤ 2 ^ 32 }
     requires room { length steps.old.items + length cells.now ≤ 2 ^ 32 }
     requires earlier { (k : ℕ) → k < length cells.now → ReadsBefore (length inputs.now) [] (2 + length inputs.now + k) (cell_at cells.now k) }
-    ensures { OnOk result (steps.new.items ≡ steps.old.items ++ map (pasted (moved at inputs.now)) cells.now) }
+    ensures { OnOk result (steps.new.items ≡ steps.old.items ++ map (instantiated (moved at inputs.now)) cells.now) }
 {
     for cell in cells {
         push(steps, step_of(at, inputs, *cell))?;
@@ -141,10 +138,9 @@ fn paste_cells(
     Ok(())
 }
 
-/// The outputs at their new places.
 fn moved_outs(
     alloc: Global,
-    at: Pasting,
+    at: Instantiation,
     inputs: &[u32],
     outs: &[u32],
 ) -> Result<Vec<u32>, NoMemory>
@@ -159,26 +155,23 @@ fn moved_outs(
     Ok(places)
 }
 
-/// The place of the first cell of a netlist behind the constants and the inputs.
-#[tactic(auto, using(crate::proofs::PastePlaces::front_there))]
-fn first_behind(net: &Net) -> usize
+#[tactic(auto, using(crate::proofs::InstantiatedPlaces::prefix_there))]
+fn first_after(net: &Net) -> usize
     ensures first { result ≡ net.now.inputs + 2 }
     ensures there { result ≤ length net.now.cells }
 {
     net.inputs() as usize + 2
 }
 
-/// The cells of a netlist behind the constants and the inputs.
-fn behind(net: &Net) -> &[Cell]
-    ensures { result.now ≡ behind_inputs net.now }
+fn after(net: &Net) -> &[Cell]
+    ensures { result.now ≡ after_inputs net.now }
 {
-    let first = first_behind(net);
+    let first = first_after(net);
     &net.cells()[first..]
 }
 
-/// A netlist without boxes behind other steps, its inputs at these places, and the places of its outputs. A constant stands there
-/// only where something reads it.
-fn paste(
+/// Appends a netlist without boxes, with its inputs at these places, and gives the places of its outputs.
+fn instantiate(
     alloc: Global,
     steps: &mut Vec<BitStep>,
     net: &Net,
@@ -188,18 +181,18 @@ fn paste(
     requires boxes { net.now.boxes ≡ [] }
     requires few { length inputs.now ≤ 131072 }
     requires room { length steps.old.items + 2 + (length net.now.cells - (length inputs.now + 2)) ≤ 2 ^ 32 }
-    ensures { IfOk result (λ places. IsPasted net.now inputs.now steps.old.items steps.new.items places.items) }
+    ensures { IfOk result (λ places. IsInstantiated net.now inputs.now steps.old.items steps.new.items places.items) }
 {
-    let cells = behind(net);
+    let cells = after(net);
     let zero = constant(steps, false, needs(cells, net.outs(), 0))?;
     let one = constant(steps, true, needs(cells, net.outs(), 1))?;
     let first = steps.len();
-    let at = Pasting { zero, one, first };
-    paste_cells(steps, at, inputs, cells)?;
+    let at = Instantiation { zero, one, first };
+    instantiate_cells(steps, at, inputs, cells)?;
     moved_outs(alloc, at, inputs, net.outs())
 }
 
-/// The cells of an operator on two words behind other steps.
+/// The inputs are the left word and then the right one, each from its most significant bit on.
 pub(crate) fn word(
     alloc: Global,
     steps: &mut Vec<BitStep>,
@@ -212,7 +205,7 @@ pub(crate) fn word(
     requires few_right { length right.now ≤ 65536 }
     requires few_cells { word_cells op (length left.now) (length right.now) ≤ 2000000 }
     requires room { length steps.old.items + 2 + word_cells op (length left.now) (length right.now) ≤ 2 ^ 32 }
-    ensures made { (nets : List NetInfo) (m n : Made) (old mid : List BitStep) → Adds nets m old mid left.now → Adds nets n mid steps.old.items right.now
+    ensures made { (nets : List NetInfo) (m n : MadeTerms) (old mid : List BitStep) → Adds nets m old mid left.now → Adds nets n mid steps.old.items right.now
         → IfOk result (λ places. Adds nets (word_joined op m n) old steps.new.items places.items) }
     ensures count { IfOk result (λ places. length places.items ≡ word_width op (length left.now)) }
     ensures grown { OnOk result (length steps.new.items ≤ length steps.old.items + 2 + word_cells op (length left.now) (length right.now)) }
@@ -221,10 +214,9 @@ pub(crate) fn word(
     let mut inputs = Vec::with_capacity(alloc, left.len() + right.len())?;
     inputs.extend_from_slice(left)?;
     inputs.extend_from_slice(right)?;
-    paste(alloc, steps, &net, &inputs)
+    instantiate(alloc, steps, &net, &inputs)
 }
 
-/// The cells of a reduction behind other steps.
 pub(crate) fn fold(
     alloc: Global,
     steps: &mut Vec<BitStep>,
@@ -234,11 +226,11 @@ pub(crate) fn fold(
     requires some { 1 ≤ length bits.now }
     requires few { length bits.now ≤ 65536 }
     requires room { length steps.old.items + 2 + fold_cells op (length bits.now) ≤ 2 ^ 32 }
-    ensures made { (nets : List NetInfo) (m : Made) (old : List BitStep) → Adds nets m old steps.old.items bits.now
+    ensures made { (nets : List NetInfo) (m : MadeTerms) (old : List BitStep) → Adds nets m old steps.old.items bits.now
         → IfOk result (λ places. Adds nets (fold_joined op m) old steps.new.items places.items) }
     ensures count { IfOk result (λ places. length places.items ≡ 1) }
     ensures grown { OnOk result (length steps.new.items ≤ length steps.old.items + 2 + fold_cells op (length bits.now)) }
 {
     let net = bb_word::fold(alloc, op, bits.len() as u32)?;
-    paste(alloc, steps, &net, bits)
+    instantiate(alloc, steps, &net, bits)
 }

@@ -1,17 +1,18 @@
-//! Laws of widths, values and cells, and of what stands in a checked module. Each function has a law as its contract.
+//! Laws of widths, values and cells, and of the expressions of a checked module; each is the contract of an empty
+//! function.
 
 ghost use Rattle.bb_expr.specs.Laws.{ValuesHaveWidth, MadeHasValue, CellsAreCounted, WiderAddsZeros};
-ghost use Rattle.bb_expr.specs.Laws.FitLaws.{StandingIsFit, StandingIsFitIn, LoweringsExist, NamesAreNets, PartsStand, NetNamesDiffer, AssignableIsNets};
+ghost use Rattle.bb_expr.specs.Laws.FitLaws.{OccurrencesAreFit, OccurrencesAreFitIn, LoweringsExist, NamesAreNets, PartsOccur, NetNamesDiffer, AssignableIsNets};
 
 use bb_word::{folds_give_bits, words_spell_numbers};
 
-/// A value has as many bits as its context.
+/// At each width from the expression's own on, below which a value is longer than its context.
 #[tactic(auto, using(crate::proofs::ValueLemmas::values_have_width))]
 pub fn values_have_width()
     ensures { ValuesHaveWidth }
 {}
 
-/// The bits that the cells of an expression make have its value.
+/// Cells are defined by circuits and values by numbers; by this law the cells may be used for the value.
 pub fn made_has_value()
     ensures { MadeHasValue }
 {
@@ -19,49 +20,51 @@ pub fn made_has_value()
     folds_give_bits();
 }
 
-/// As many cells are made as are counted.
+/// Lets a caller bound a list of cells before it is made.
 #[tactic(auto, using(crate::proofs::CellCounts::cells_are_counted))]
 pub fn cells_are_counted()
     ensures { CellsAreCounted }
 {}
 
-/// Where no `~`, no `~^`, no sum or difference and no shift stands above, a wider context only adds zeros.
+/// For expressions without `~`, `~^`, a sum, a difference or a shift above, a wider context only adds zeros; each of
+/// these operators can carry bits into the added places.
 #[tactic(auto, using(crate::proofs::WiderValue::wider_adds_zeros))]
 pub fn wider_adds_zeros()
     ensures { WiderAddsZeros }
 {}
 
-/// What stands in a checked module is fit, with all that stands in it.
-pub fn standing_is_fit()
-    ensures { StandingIsFit }
+/// What the calls of this crate rely on, for an expression of a checked module and for its parts.
+pub fn occurrences_are_fit()
+    ensures { OccurrencesAreFit }
 {}
 
-/// The same of a module of a well-formed text without faults.
-pub fn standing_is_fit_in()
-    ensures { StandingIsFitIn }
+/// The same of a plain module: a law about a design has modules alone, and a checked module is a value in memory that
+/// it would have to make.
+pub fn occurrences_are_fit_in()
+    ensures { OccurrencesAreFitIn }
 {}
 
-/// What is fit has steps at each width that is at least its own.
+/// So a premise that an expression is lowered is never empty.
 pub fn lowerings_exist()
     ensures { LoweringsExist }
 {}
 
-/// The names in what stands in a checked module are names of nets, each with its place.
+/// So a look-up by such a name always finds a net.
 pub fn names_are_nets()
     ensures { NamesAreNets }
 {}
 
-/// What stands in an expression of a module stands in the module.
-pub fn parts_stand()
-    ensures { PartsStand }
+/// Keeps, in an induction over an expression, the premise that it is an expression of the module.
+pub fn parts_occur()
+    ensures { PartsOccur }
 {}
 
-/// No two nets of a module have one name.
+/// So a net can be said by its name or by its place, whichever suits.
 pub fn net_names_differ()
     ensures { NetNamesDiffer }
 {}
 
-/// What may be assigned has no cells, and at its own width bits of nets alone.
+/// So a left side is a list of bits of nets, without a cell between.
 pub fn assignable_is_nets()
     ensures { AssignableIsNets }
 {}

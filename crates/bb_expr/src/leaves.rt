@@ -1,4 +1,6 @@
-//! Nets, their parts and numbers as steps.
+//! Nets, their parts and numbers as steps. All operands are unsigned, so a wider context adds zeros. Plain numbers are
+//! unsigned too, with exactly 32 bits: the standard makes them signed (IEEE 1364-2005, 3.5.1), which shows only where
+//! all operands are, as in a comparison of two plain numbers.
 
 ghost use Rattle.std.specs.Prelude.{◌≡◌, ◌≤◌, ◌+◌, ◌^◌, true, false, List, length, map, IfOk};
 ghost use Rattle.bb_ast.specs.Syntax.{Net, Part};
@@ -21,7 +23,7 @@ use bb_bits::{Name, NoMemory};
 use bb_names::CheckedModule;
 use std::alloc::Global;
 
-/// The place of an index of a net among its bits, from the leftmost on.
+/// Counted from the leftmost bit, the most significant; by distance, so that rising and falling ranges are one case.
 fn first_place(range: Option<Range>, index: u32) -> u32
     ensures { result ≡ place_of range index }
 {
@@ -86,7 +88,6 @@ pub(crate) fn number(
     extended(alloc, steps, &places, width)
 }
 
-/// A plain number is one of 32 bits.
 pub(crate) fn plain_number(
     alloc: Global,
     steps: &mut Vec<BitStep>,

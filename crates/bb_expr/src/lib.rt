@@ -1,5 +1,7 @@
-//! Widths, values and cells of the expressions of a checked source: how wide each is, which value it has at the width of its
-//! context, how many cells it makes there, and these cells as steps on bits.
+//! Widths, values and cells of the expressions of a checked source (IEEE 1364-2005, 5.1 and 5.4). An expression has a
+//! value at the width of its context, makes a number of cells there, and is lowered to these cells as steps on bits.
+//! The three are folds over one syntax, so the widths at which an operator takes its operands are said once for all of
+//! them.
 #![tactic(auto)]
 
 mod cell_count;

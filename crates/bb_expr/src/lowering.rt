@@ -1,4 +1,7 @@
-//! Expressions as steps on bits.
+//! Expressions as steps on bits, one operator step for each cell, with nothing folded or shared. The cells are pinned
+//! as terms; left open are their order, how many steps are constants or bits of nets, and which of several equal cells
+//! an operator reads. That something reads each cell is not said: the last carry of a sum is a cell that nothing reads,
+//! and it counts.
 
 ghost use Rattle.std.specs.Prelude.{◌≡◌, ◌≤◌, ◌+◌, ◌-◌, ◌*◌, ◌^◌, Bool, true, false, List, length, map, sum, sum_by, All, IfOk};
 ghost use Rattle.bb_ast.specs.Syntax.{Net, Part};
@@ -8,14 +11,14 @@ ghost use Rattle.bb_names.specs.Inside.Checked.{module_facts};
 ghost use Rattle.bb_names.specs.Ranges.{has_bits, distance, range_width, place_of};
 ghost use Rattle.bb_names.specs.Widths.{own_width};
 ghost use Rattle.bb_expr.specs.declared.step.BitStep.{BitStep};
-ghost use Rattle.bb_expr.specs.Cells.{Made, without_cells, made, cell_count};
+ghost use Rattle.bb_expr.specs.Cells.{MadeTerms, without_cells, made, cell_count};
 ghost use Rattle.bb_expr.specs.Inside.Fit.{HasNet, AreFit, ranges_in};
 ghost use Rattle.bb_expr.specs.Inside.Growing.{Adds, beside, chained_on, arms_on, most_steps};
 ghost use Rattle.bb_expr.specs.Inside.Levels.{AreReady, words_on};
 ghost use Rattle.bb_expr.specs.Lists.{extended};
 ghost use Rattle.bb_expr.specs.Lowered.{IsLowered, HasValue};
 ghost use Rattle.bb_expr.specs.Inside.Shares.{own_cells, operand_cells, arm_cells};
-ghost use Rattle.bb_expr.specs.Inside.Standing.{StandsAt, nets_at, ranges_at};
+ghost use Rattle.bb_expr.specs.Inside.Occurrences.{OccursAt, nets_at, ranges_at};
 ghost use Rattle.bb_expr.specs.Terms.{Const};
 
 use crate::cell_count::{cells, is_odd};
@@ -32,9 +35,8 @@ use bb_bits::NoMemory;
 use bb_names::{Checked, CheckedModule};
 use std::alloc::Global;
 
-/// An expression of a module as steps on bits, at a width that is at least its own.
-///
-/// The operators among the steps are exactly the cells of the expression: nothing is folded or shared.
+/// At a width that is at least the expression's own. The operators among the steps are exactly the cells of the
+/// expression, so that the number of cells is known before they are made.
 pub fn lower(
     alloc: Global,
     checked: &Checked,
@@ -42,7 +44,7 @@ pub fn lower(
     expr: &Expr,
     width: u32,
 ) -> Result<Lowered, NoMemory>
-    requires stands { StandsAt checked.now «module» (expression expr.now) }
+    requires occurs { OccursAt checked.now «module» (expression expr.now) }
     requires own { own_width (ranges_at checked.now «module») (expression expr.now) ≤ width }
     requires width { width ≤ 65536 }
     requires cells { cell_count (ranges_at checked.now «module») (expression expr.now) width ≤ 2000000 }
@@ -52,22 +54,22 @@ pub fn lower(
     ensures value { IfOk result (λ l.
         HasValue (nets_at checked.now «module») (ranges_at checked.now «module») (expression expr.now) width l.steps.items l.bits.items) }
 
-    // Nets and numbers are steps wherever they stand, and the cells of an operator on words have each constant once; they are no more
-    // than this.
+    // A caller's list of cells has room for so many steps only. Each use of a net or a number adds steps, and the cells
+    // of an operator on words at most two constants.
     ensures few { IfOk result (λ l.
         length l.steps.items ≤ width + 3 * cell_count (ranges_at checked.now «module») (expression expr.now) width) }
 {
-    laws::standing_is_fit();
+    laws::occurrences_are_fit();
     laws::made_has_value();
     let count = cells(checked, module, expr, width);
     let scope = &checked.modules()[module as usize];
-    // The list is allocated once, since so many steps suffice.
+    // Enough for the whole, so the list never grows.
     let mut steps = Vec::with_capacity(alloc, width as usize + 3 * count as usize)?;
     let bits = lower_at(alloc, scope, &mut steps, expr, width)?;
     Ok(Lowered { steps, bits })
 }
 
-/// The steps of an expression at a width, and its bits. Recursion goes as deep as the expression nests.
+/// Recursion goes as deep as the expression nests.
 #[cycle(lowering)]
 fn lower_at(
     alloc: Global,
@@ -129,7 +131,7 @@ fn lower_at(
     }
 }
 
-/// The operands of a chain behind the first, each with the bits of those before it.
+/// A chain groups to the left, so each operand meets the bits of all those before it.
 #[cycle(lowering)]
 fn chain(
     alloc: Global,
@@ -145,7 +147,7 @@ fn chain(
     requires first { length first.items ≡ width }
     requires room { length steps.old.items + 4 * sum_by (operand_cells (ranges_in (module_facts scope.now)) width) (map operand_view rest.now) ≤ 2 ^ 31 }
     requires few { sum_by (operand_cells (ranges_in (module_facts scope.now)) width) (map operand_view rest.now) ≤ 2000000 }
-    ensures { (m : Made) (old : List BitStep) → Adds scope.now.nets.items m old steps.old.items first.items
+    ensures { (m : MadeTerms) (old : List BitStep) → Adds scope.now.nets.items m old steps.old.items first.items
         → IfOk result (λ bits. Adds scope.now.nets.items (chained_on (ranges_in (module_facts scope.now)) width m (map operand_view rest.now)) old steps.new.items bits.items) }
 {
     let mut bits = first;
@@ -156,9 +158,8 @@ fn chain(
     Ok(bits)
 }
 
-/// Operators on words of one level, from the first one on, where what stands left of them has the width `left` by itself.
-///
-/// What was made so far is as wide as the next operator takes it.
+/// `left` is the own width of the operands before the first operator. The bits so far are kept as wide as the next
+/// operator takes them.
 #[cycle(lowering)]
 fn words(
     alloc: Global,
@@ -170,7 +171,7 @@ fn words(
     width: u32,
 ) -> Result<Vec<u32>, NoMemory>
     requires { AreReady (module_facts scope.now) (map operand_view rest.now) width left (length steps.old.items) (length first.items) }
-    ensures { (m : Made) (old : List BitStep) → Adds scope.now.nets.items m old steps.old.items first.items
+    ensures { (m : MadeTerms) (old : List BitStep) → Adds scope.now.nets.items m old steps.old.items first.items
         → IfOk result (λ bits. Adds scope.now.nets.items (words_on (ranges_in (module_facts scope.now)) m left (map operand_view rest.now) width) old steps.new.items bits.items) }
 {
     let mut bits = first;
@@ -187,7 +188,8 @@ fn words(
     Ok(bits)
 }
 
-/// Conditions with their values, from the last one on, each before what is chosen where it does not hold.
+/// From the last arm on, since it is innermost: the choice of an arm reads the bits of all arms after it, and a long
+/// conditional needs no recursion.
 #[cycle(lowering)]
 fn conditional(
     alloc: Global,
@@ -204,7 +206,7 @@ fn conditional(
     requires last { length last.items ≡ width }
     requires room { length steps.old.items + 4 * sum_by (arm_cells (ranges_in (module_facts scope.now)) width) (map arm_view all.now) ≤ 2 ^ 31 }
     requires few { sum_by (arm_cells (ranges_in (module_facts scope.now)) width) (map arm_view all.now) ≤ 2000000 }
-    ensures { (m : Made) (old : List BitStep) → Adds scope.now.nets.items m old steps.old.items last.items
+    ensures { (m : MadeTerms) (old : List BitStep) → Adds scope.now.nets.items m old steps.old.items last.items
         → IfOk result (λ bits. Adds scope.now.nets.items (arms_on (ranges_in (module_facts scope.now)) width m (map arm_view all.now)) old steps.new.items bits.items) }
 {
     let mut bits = last;
@@ -219,7 +221,6 @@ fn conditional(
     Ok(bits)
 }
 
-/// Parts side by side, each at its own width.
 #[cycle(lowering)]
 fn side_by_side(
     alloc: Global,

@@ -1,4 +1,6 @@
-//! The widths of operators on words and of their operands.
+//! The widths at which operators on words take their operands (IEEE 1364-2005, 5.4.1 and table 5-22). A level of
+//! operators is a fold from the left over operands that each have an own width and a result at every width; one step
+//! serves widths, values, cells and counts.
 
 ghost use Rattle.std.specs.Prelude.{◌≡◌, All, drop, map};
 ghost use Rattle.bb_ast.specs.Inside.Views.{expression, operand_view};
@@ -13,7 +15,6 @@ use crate::width::width_of;
 use bb_ast::{Expr, WordOp};
 use bb_names::CheckedModule;
 
-/// The width of an operator by itself, whose operands have these widths.
 pub(crate) fn operator_width(op: WordOp, left: u32, right: u32) -> u32
     ensures { result ≡ operator_width op left right }
 {
@@ -24,7 +25,8 @@ pub(crate) fn operator_width(op: WordOp, left: u32, right: u32) -> u32
     }
 }
 
-/// The width at which an operator takes its left operand, in a context of this width.
+/// A sum, a difference and the left side of a shift take the context's width; a comparison takes both sides at the
+/// wider of the two; a truth takes each by itself.
 fn first_at(op: WordOp, left: u32, right: u32, width: u32) -> u32
     ensures { result ≡ first_at op left right width }
 {
@@ -35,7 +37,7 @@ fn first_at(op: WordOp, left: u32, right: u32, width: u32) -> u32
     }
 }
 
-/// The width at which it takes its right operand.
+/// As `first_at`, but for the amount of a shift, which is taken by itself.
 fn second_at(op: WordOp, left: u32, right: u32, width: u32) -> u32
     ensures { result ≡ second_at op left right width }
 {
@@ -46,9 +48,11 @@ fn second_at(op: WordOp, left: u32, right: u32, width: u32) -> u32
     }
 }
 
-/// The width at which what stands left of an operator of a level is taken, or of none, where the level is taken at a width.
+/// The width at which the operands before operator `next` are taken, where the level is taken at a width; `next` past
+/// the last means none follows.
 ///
-/// A look at that operator suffices: where those behind it count, they all take their left operand at the width of the level.
+/// That operator alone decides. Where later ones matter, all operators of the level take their left operand at the
+/// width of the level, since a level has one kind of operators.
 pub(crate) fn taken_at(
     scope: &CheckedModule,
     left: u32,
@@ -66,7 +70,7 @@ pub(crate) fn taken_at(
     }
 }
 
-/// The widths at an operator of a level: its own, that at which its result is taken, and those at which it takes its operands.
+/// At one operator of a level: its own width, the one at which its result is taken, and those of its operands.
 #[derive(Clone, Copy, Debug)]
 pub(crate) struct Widths {
     pub(crate) own: u32,
@@ -75,8 +79,7 @@ pub(crate) struct Widths {
     pub(crate) second: u32,
 }
 
-/// The widths at an operator with its right operand, where what stands left of it has the width `left`, and the place of the operator
-/// behind it is `next`.
+/// `left` is the own width of the operands before the operator, and `next` the place of the operator after it.
 pub(crate) fn widths_at(
     scope: &CheckedModule,
     op: WordOp,

@@ -1,11 +1,12 @@
-//! Operators on the bits of earlier steps: complements, operators of chains, whether some bit is 1, choices, and copies.
+//! Operators bit by bit on earlier steps: complements, operators of chains, tests for a bit that is 1, choices, and
+//! replications. Circuits on whole words are in bb_word; these need none, since no bit depends on its neighbour.
 
 ghost use Rattle.std.specs.Prelude.{◌≡◌, ◌≤◌, ◌+◌, ◌-◌, ◌*◌, ◌^◌, ◌∷◌, [], List, length, IfOk, OnOk, IsTrue, ◌↔◌};
 ghost use Rattle.bb_ast.specs.declared.expr.Op.TheVariants as ops;
 ghost use Rattle.bb_names.specs.declared.net.NetInfo.{NetInfo};
 ghost use Rattle.bb_expr.specs.declared.step.BitStep.{BitStep};
 ghost use Rattle.bb_expr.specs.Lists.{copies};
-ghost use Rattle.bb_expr.specs.Cells.{Made, operated, chained, op_cells, arm_made};
+ghost use Rattle.bb_expr.specs.Cells.{MadeTerms, operated, chained, op_cells, arm_made};
 ghost use Rattle.bb_expr.specs.Inside.Growing.{Adds, complemented, gated, gate_step, reduced};
 
 use crate::rows::{add, push};
@@ -14,14 +15,13 @@ use bb_ast::Op;
 use bb_bits::NoMemory;
 use std::alloc::Global;
 
-/// A complement of each bit.
 pub(crate) fn inverted(
     alloc: Global,
     steps: &mut Vec<BitStep>,
     bits: &[u32],
 ) -> Result<Vec<u32>, NoMemory>
     requires { length steps.old.items + length bits.now ≤ 2 ^ 32 }
-    ensures made { (nets : List NetInfo) (m : Made) (old : List BitStep) → Adds nets m old steps.old.items bits.now
+    ensures made { (nets : List NetInfo) (m : MadeTerms) (old : List BitStep) → Adds nets m old steps.old.items bits.now
         → IfOk result (λ places. Adds nets (complemented m) old steps.new.items places.items) }
     ensures grown { OnOk result (length steps.new.items ≡ length steps.old.items + length bits.now) }
     ensures count { IfOk result (λ places. length places.items ≡ length bits.now) }
@@ -33,7 +33,6 @@ pub(crate) fn inverted(
     Ok(places)
 }
 
-/// The operator between two bits, before an inversion.
 fn gate(op: Op, left: u32, right: u32) -> BitStep
     ensures { result ≡ gate_step op left right }
 {
@@ -44,7 +43,6 @@ fn gate(op: Op, left: u32, right: u32) -> BitStep
     }
 }
 
-/// An operator between each two bits, before an inversion.
 fn gates(
     alloc: Global,
     steps: &mut Vec<BitStep>,
@@ -54,7 +52,7 @@ fn gates(
 ) -> Result<Vec<u32>, NoMemory>
     requires same { length left.now ≡ length right.now }
     requires room { length steps.old.items + length left.now ≤ 2 ^ 32 }
-    ensures made { (nets : List NetInfo) (m n : Made) (old mid : List BitStep) → Adds nets m old mid left.now → Adds nets n mid steps.old.items right.now
+    ensures made { (nets : List NetInfo) (m n : MadeTerms) (old mid : List BitStep) → Adds nets m old mid left.now → Adds nets n mid steps.old.items right.now
         → IfOk result (λ places. Adds nets (gated op m n) old steps.new.items places.items) }
     ensures grown { OnOk result (length steps.new.items ≡ length steps.old.items + length left.now) }
     ensures count { IfOk result (λ places. length places.items ≡ length left.now) }
@@ -66,7 +64,6 @@ fn gates(
     Ok(places)
 }
 
-/// Whether an inversion stands behind the operator.
 fn is_inverted(op: Op) -> bool
     ensures { IsTrue result ↔ (op ≡ ops.Xnor) }
 {
@@ -76,7 +73,6 @@ fn is_inverted(op: Op) -> bool
     }
 }
 
-/// An operator of a chain between each two bits.
 pub(crate) fn operate(
     alloc: Global,
     steps: &mut Vec<BitStep>,
@@ -86,7 +82,7 @@ pub(crate) fn operate(
 ) -> Result<Vec<u32>, NoMemory>
     requires same { length left.now ≡ length right.now }
     requires room { length steps.old.items + op_cells op * length left.now ≤ 2 ^ 32 }
-    ensures made { (nets : List NetInfo) (m n : Made) (old mid : List BitStep) → Adds nets m old mid left.now → Adds nets n mid steps.old.items right.now
+    ensures made { (nets : List NetInfo) (m n : MadeTerms) (old mid : List BitStep) → Adds nets m old mid left.now → Adds nets n mid steps.old.items right.now
         → IfOk result (λ places. Adds nets (chained m n (operated op m.bits n.bits)) old steps.new.items places.items) }
     ensures grown { OnOk result (length steps.new.items ≡ length steps.old.items + op_cells op * length left.now) }
     ensures count { IfOk result (λ places. length places.items ≡ length left.now) }
@@ -99,11 +95,11 @@ pub(crate) fn operate(
     }
 }
 
-/// Whether some bit is 1, looked at from the most significant on.
+/// From the most significant bit on, as the definition has it: the terms of cells have an order.
 pub(crate) fn any_bit(steps: &mut Vec<BitStep>, bits: &[u32]) -> Result<u32, NoMemory>
     requires some { 1 ≤ length bits.now }
     requires room { length steps.old.items + (length bits.now - 1) ≤ 2 ^ 32 }
-    ensures made { (nets : List NetInfo) (m : Made) (old : List BitStep) → Adds nets m old steps.old.items bits.now
+    ensures made { (nets : List NetInfo) (m : MadeTerms) (old : List BitStep) → Adds nets m old steps.old.items bits.now
         → IfOk result (λ place. Adds nets (reduced m) old steps.new.items (place ∷ [])) }
     ensures grown { OnOk result (length steps.new.items ≡ length steps.old.items + (length bits.now - 1)) }
 {
@@ -114,7 +110,6 @@ pub(crate) fn any_bit(steps: &mut Vec<BitStep>, bits: &[u32]) -> Result<u32, NoM
     Ok(any)
 }
 
-/// The chosen bits where the condition is 1, else the others.
 pub(crate) fn select(
     alloc: Global,
     steps: &mut Vec<BitStep>,
@@ -125,7 +120,7 @@ pub(crate) fn select(
     requires same { length chosen.now ≡ length others.now }
     requires some { 1 ≤ length chosen.now }
     requires room { length steps.old.items + length chosen.now ≤ 2 ^ 32 }
-    ensures made { (nets : List NetInfo) (e c t : Made) (old first second : List BitStep)
+    ensures made { (nets : List NetInfo) (e c t : MadeTerms) (old first second : List BitStep)
         → Adds nets e old first others.now → Adds nets (reduced c) first second (condition ∷ []) → Adds nets t second steps.old.items chosen.now
         → IfOk result (λ places. Adds nets (arm_made c t e) old steps.new.items places.items) }
     ensures grown { OnOk result (length steps.new.items ≡ length steps.old.items + length chosen.now) }
@@ -142,7 +137,7 @@ pub(crate) fn select(
     Ok(places)
 }
 
-/// So many copies side by side.
+/// The same places again and no new steps: the parts of a replication make their cells once.
 pub(crate) fn copied(alloc: Global, bits: &[u32], count: u32) -> Result<Vec<u32>, NoMemory>
     requires { count * length bits.now ≤ 65536 }
     ensures { IfOk result (λ places. places.items ≡ copies count bits.now) }

@@ -1,4 +1,5 @@
-//! Rows of steps behind others: constants, bits of nets, and zeros on the left.
+//! Rows of steps: constants, bits of nets, and zeros on the left. Places of bits go from the most significant on, as in
+//! all lists of bits here.
 
 ghost use Rattle.std.specs.Prelude.{◌≡◌, ◌<◌, ◌≤◌, ◌+◌, ◌-◌, ◌^◌, ◌++◌, ◌∷◌, [], List, length, map, IfOk, OnOk, nat_le, if◌then◌else◌};
 ghost use Rattle.std.specs.List.{range_with_len};
@@ -6,14 +7,14 @@ ghost use Rattle.bb_bits.specs.Numbers.{bits_of};
 ghost use Rattle.bb_names.specs.declared.net.NetInfo.{NetInfo};
 ghost use Rattle.bb_expr.specs.declared.step.BitStep.{BitStep};
 ghost use Rattle.bb_expr.specs.declared.step.BitStep.TheVariants as of;
-ghost use Rattle.bb_expr.specs.Cells.{Made};
+ghost use Rattle.bb_expr.specs.Cells.{MadeTerms};
 ghost use Rattle.bb_expr.specs.Inside.Growing.{Adds, AddsRow, widened};
 
 use crate::step::BitStep;
 use bb_bits::NoMemory;
 use std::alloc::Global;
 
-/// Puts a step behind the others, and answers its place.
+/// Appends a step; the result is its place.
 pub(crate) fn push(steps: &mut Vec<BitStep>, step: BitStep) -> Result<u32, NoMemory>
     requires { length steps.old.items < 2 ^ 32 }
     ensures place { IfOk result (λ place. place ≡ length steps.old.items) }
@@ -24,7 +25,7 @@ pub(crate) fn push(steps: &mut Vec<BitStep>, step: BitStep) -> Result<u32, NoMem
     Ok(place)
 }
 
-/// Puts a step behind the others of a row, and its place behind their places.
+/// Appends a step to a row of steps, and its place to the row's places.
 pub(crate) fn add(
     steps: &mut Vec<BitStep>,
     places: &mut Vec<u32>,
@@ -39,7 +40,6 @@ pub(crate) fn add(
     Ok(())
 }
 
-/// A constant for each bit.
 pub(crate) fn constants(
     alloc: Global,
     steps: &mut Vec<BitStep>,
@@ -55,7 +55,7 @@ pub(crate) fn constants(
     Ok(places)
 }
 
-/// So many bits of a net, from a place on.
+/// `from` is counted from the leftmost bit of the net.
 pub(crate) fn net_bits(
     alloc: Global,
     steps: &mut Vec<BitStep>,
@@ -74,7 +74,8 @@ pub(crate) fn net_bits(
     Ok(places)
 }
 
-/// The bits with zeros on the left, so that there are as many as `width`.
+/// Operands are unsigned, so a wider context adds zeros and never a sign. Bits that are wide enough are left as they
+/// are.
 pub(crate) fn extended(
     alloc: Global,
     steps: &mut Vec<BitStep>,
@@ -82,7 +83,7 @@ pub(crate) fn extended(
     width: u32,
 ) -> Result<Vec<u32>, NoMemory>
     requires { length steps.old.items + (width - length bits.now) ≤ 2 ^ 32 }
-    ensures made { (nets : List NetInfo) (m : Made) (old : List BitStep) → Adds nets m old steps.old.items bits.now
+    ensures made { (nets : List NetInfo) (m : MadeTerms) (old : List BitStep) → Adds nets m old steps.old.items bits.now
         → IfOk result (λ places. Adds nets (widened width m) old steps.new.items places.items) }
     ensures grown { OnOk result (length steps.new.items ≡ length steps.old.items + (width - length bits.now)) }
     ensures count { IfOk result (λ places. length places.items ≡ length bits.now + (width - length bits.now)) }
@@ -96,14 +97,12 @@ pub(crate) fn extended(
     Ok(places)
 }
 
-/// What is left of a number when a power of two is taken away that it holds.
 fn without(rest: u32, power: u32) -> u32
     ensures { result ≡ (if nat_le power rest then rest - power else rest) }
 {
     if power <= rest { rest - power } else { rest }
 }
 
-/// The 32 bits of a number, the most significant first.
 pub(crate) fn number_bits(alloc: Global, number: u32) -> Result<Vec<bool>, NoMemory>
     ensures { IfOk result (λ bits. bits.items ≡ bits_of 32 number) }
 {

@@ -1,4 +1,5 @@
-//! The nets of a checked module by their names.
+//! The nets of a checked module by their names. Both look-ups succeed, since an expression that is fit names nets of
+//! its module alone.
 
 ghost use Rattle.std.specs.Prelude.{◌≡◌, Some};
 ghost use Rattle.std.specs.Map.{lookup};

@@ -1,20 +1,24 @@
-//! Steps on bits: what an expression comes to.
+//! Steps on bits. A step reads earlier steps alone, so a list of steps is acyclic by its order. Nets are steps too, by
+//! number, so that lowering needs to know nothing of where a net's bits come from.
 
-/// One step of an expression: a constant, a bit of a net, or an operator on the bits of earlier steps.
+/// Constants and bits of nets are steps beside the operators, so that every operand is the number of a step; only
+/// operators are cells.
 #[derive(Clone, Copy, Debug, PartialEq, Eq)]
 pub enum BitStep {
     Const(bool),
-    /// A bit of a net: the place of the net among the nets of the module, and the place of the bit from the leftmost on.
+    /// The place of the net among the nets of its module, and the place of the bit, counted from the leftmost, the most
+    /// significant.
     Net(u32, u32),
     Not(u32),
     And(u32, u32),
     Or(u32, u32),
     Xor(u32, u32),
-    /// The second operand where the first is 1, else the third.
+    /// The second operand if the first is 1, else the third.
     Mux(u32, u32, u32),
 }
 
-/// An expression as steps, and for each of its bits, the most significant first, the step that gives it.
+/// `bits` has for each bit of the value, the most significant first, the step that gives it; several bits may share one
+/// step.
 #[derive(Debug, Drop)]
 pub struct Lowered {
     pub steps: Vec<BitStep>,

@@ -1,4 +1,5 @@
-//! Own widths of expressions.
+//! Own widths of expressions (IEEE 1364-2005, 5.4.1, table 5-22), for expressions without faults: each width is at most
+//! 65,536, so 32 bits suffice where bb_names needs 64 and saturates.
 
 ghost use Rattle.std.specs.Prelude.{◌≡◌, ◌≤◌, map, sum, All};
 ghost use Rattle.bb_ast.specs.Inside.Views.{expression, operand_view, arm_view};
@@ -6,7 +7,7 @@ ghost use Rattle.bb_names.specs.Inside.Checked.{module_facts};
 ghost use Rattle.bb_names.specs.Ranges.{distance, range_width};
 ghost use Rattle.bb_names.specs.Widths.{own_width, greatest};
 ghost use Rattle.bb_expr.specs.Inside.Fit.{AreFit, ranges_in};
-ghost use Rattle.bb_expr.specs.Inside.Standing.{StandsAt, ranges_at};
+ghost use Rattle.bb_expr.specs.Inside.Occurrences.{OccursAt, ranges_at};
 ghost use Rattle.bb_expr.specs.Inside.Levels.{width_on};
 
 use crate::laws;
@@ -15,16 +16,15 @@ use crate::scope::range_of;
 use bb_ast::{Expr, Op, Range, WordOp};
 use bb_names::{Checked, CheckedModule};
 
-/// The width of an expression of a module by itself.
+/// In bits, from 1 to 65,536; a context may take the expression at a greater width.
 pub fn own_width(checked: &Checked, module: u32, expr: &Expr) -> u32
-    requires { StandsAt checked.now «module» (expression expr.now) }
+    requires { OccursAt checked.now «module» (expression expr.now) }
     ensures { result ≡ own_width (ranges_at checked.now «module») (expression expr.now) }
 {
-    laws::standing_is_fit();
+    laws::occurrences_are_fit();
     width_of(&checked.modules()[module as usize], expr)
 }
 
-/// How many bits a net with this range has, or one without a range.
 pub(crate) fn range_width(range: Option<Range>) -> u32
     requires { range_width range ≤ 65536 }
     ensures { result ≡ range_width range }
@@ -35,7 +35,7 @@ pub(crate) fn range_width(range: Option<Range>) -> u32
     }
 }
 
-/// The width of an expression by itself. Recursion goes as deep as the expression nests.
+/// Recursion goes as deep as the expression nests.
 #[cycle(width)]
 pub(crate) fn width_of(scope: &CheckedModule, expr: &Expr) -> u32
     requires fit { AreFit (module_facts scope.now) (expression expr.now) }
@@ -69,7 +69,7 @@ fn widest_operand(scope: &CheckedModule, rest: &[(Op, Expr)]) -> u32
     widest
 }
 
-/// The width of operators on words of one level, where what stands left of them has this width.
+/// `left` is the own width of the operands before the first operator.
 #[cycle(width)]
 fn level_width(scope: &CheckedModule, left: u32, rest: &[(WordOp, Expr)]) -> u32
     requires fit { All (λ x. AreFit (module_facts scope.now) x.1) (map operand_view rest.now) }
@@ -94,7 +94,6 @@ fn widest_value(scope: &CheckedModule, all: &[(Expr, Expr)]) -> u32
     widest
 }
 
-/// How wide parts are side by side.
 #[cycle(width)]
 pub(crate) fn total_width(scope: &CheckedModule, all: &[Expr]) -> u32
     requires fit { All (AreFit (module_facts scope.now)) (map expression all.now) }

@@ -4,19 +4,19 @@ use Rattle.std.specs.List.{range_with_len}
 use Rattle.std.proofs.lemmas.List.Elements.{All-contains}
 use Rattle.bb_bits.specs.Closures.{IsFirst}
 use Rattle.bb_bits.specs.Tables.{TableBits}
-use Rattle.bb_lists.proofs.Deciding.{Decides, Decision, decide_both, decide_contains, decide_either, decide_list, decide_number, first_or_none}
-use Rattle.bb_lists.proofs.Firsts.{first_one, first_there}
-use Rattle.bb_lists.proofs.Members.{all_from}
-use Rattle.bb_lists.proofs.Orders.{less_or_not}
-use Rattle.bb_lists.proofs.Ranges.{from_range, range_there}
+use Rattle.bb_lemmas.proofs.Deciding.{Decides, Decision, decide_both, decide_contains, decide_either, decide_list, decide_number, first_or_none}
+use Rattle.bb_lemmas.proofs.Firsts.{first_one, first_there}
+use Rattle.bb_lemmas.proofs.Members.{all_from}
+use Rattle.bb_lemmas.proofs.Orders.{less_or_not}
+use Rattle.bb_lemmas.proofs.Ranges.{from_range, range_there}
 use Rattle.bb_net.specs.declared.cell.Cell.{Cell}
 use Rattle.bb_net.specs.declared.cell.Cell.TheVariants.{Const, Input, Not, And, Or, Xor, Mux, BoxOut}
 use Rattle.bb_net.specs.Flats.{FlatNet}
 use Rattle.bb_net.specs.CutPoints.{register_texts}
 use Rattle.bb_fill.specs.Clashes.{AreInputsApart, AreNamesApart, InputClashes, IsClash, IsInputClash, IsItsRegister, IsOutputClash, OutputClashes, output_cell, output_numbers, register_text, state_cell}
-use Rattle.bb_fill.specs.Sizes.{IsSmall, IsTooLarge, cell_count, most_bytes, most_cells, most_nets, net_count}
+use Rattle.bb_fill.specs.Sizes.{IsSmallText, IsTooLargeText, filled_cell_count, most_bytes, most_filled_cells, most_nets, net_count}
 use Rattle.bb_fill.specs.Filled.{filled_text, output_text}
-use Rattle.bb_fill.specs.Answers.{Answer, Clash, Clashes, IsFilled, IsLarge, MayFill, Text, TooLarge}
+use Rattle.bb_fill.specs.Answers.{Answer, Clash, Clashes, IsFilled, IsLarge, IsFillAnswer, Text, TooLarge}
 use Rattle.bb_fill.specs.Laws.{AnswersAreOne, AnswersExist}
 use Rattle.bb_fill.proofs.ClashLemmas.{input_or_not, output_or_not}
 
@@ -36,12 +36,12 @@ module _ (f : FlatNet) where
   one_clash one other (OutputClashes o inputs a is) (InputClashes b) = absurd (apart_no_input other b inputs)
   one_clash one other (OutputClashes o inputs a is) (OutputClashes p more b at) = is ∙ ap (output_text f) (first_one (IsOutputClash f) (output_numbers f) o p a b) ∙ sym at
 
-  small_not_large : (tables : List TableBits) → IsTooLarge f tables → IsSmall f tables → ⊥
+  small_not_large : (tables : List TableBits) → IsTooLargeText f tables → IsSmallText f tables → ⊥
   small_not_large tables (inl h) small = omega (arith, h, small.bytes)
   small_not_large tables (inr (inl h)) small = omega (arith, h, small.nets)
   small_not_large tables (inr (inr h)) small = omega (arith, h, small.cells)
 
-  pub one_answer : (tables : List TableBits) (one other : Answer) → MayFill f tables one → MayFill f tables other → one ≡ other
+  pub one_answer : (tables : List TableBits) (one other : Answer) → IsFillAnswer f tables one → IsFillAnswer f tables other → one ≡ other
   one_answer tables one other (Clashes a x e) (Clashes b y h) = e ∙ ap Clash (one_clash a b x y) ∙ sym h
   one_answer tables one other (Clashes a x e) (IsLarge apart large h) = absurd (apart_no_clash a x apart)
   one_answer tables one other (Clashes a x e) (IsFilled apart small h) = absurd (apart_no_clash a x apart)
@@ -118,20 +118,20 @@ module _ (f : FlatNet) where
       from (inl none) (inr found) = inl (output_text f found.0, OutputClashes found.0 (inputs_apart none) found.1 refl)
       from (inl none) (inl no_output) = inr (record { inputs = inputs_apart none; outputs = all_from (IsItsRegister f) (output_numbers f) (λ o has. not_clash o (no_output o has)) })
 
-  sizes : (tables : List TableBits) → IsTooLarge f tables ⊎ IsSmall f tables
-  sizes tables = from (less_or_not most_bytes (length (filled_text f tables))) (less_or_not most_nets (net_count f tables)) (less_or_not most_cells (cell_count f tables))
+  sizes : (tables : List TableBits) → IsTooLargeText f tables ⊎ IsSmallText f tables
+  sizes tables = from (less_or_not most_bytes (length (filled_text f tables))) (less_or_not most_nets (net_count f tables)) (less_or_not most_filled_cells (filled_cell_count f tables))
     where
-      from : (most_bytes < length (filled_text f tables)) ⊎ (length (filled_text f tables) ≤ most_bytes) → (most_nets < net_count f tables) ⊎ (net_count f tables ≤ most_nets) → (most_cells < cell_count f tables) ⊎ (cell_count f tables ≤ most_cells)
-          → IsTooLarge f tables ⊎ IsSmall f tables
+      from : (most_bytes < length (filled_text f tables)) ⊎ (length (filled_text f tables) ≤ most_bytes) → (most_nets < net_count f tables) ⊎ (net_count f tables ≤ most_nets) → (most_filled_cells < filled_cell_count f tables) ⊎ (filled_cell_count f tables ≤ most_filled_cells)
+          → IsTooLargeText f tables ⊎ IsSmallText f tables
       from (inl h) b d = inl (inl h)
       from (inr a) (inl h) d = inl (inr (inl h))
       from (inr a) (inr b) (inl h) = inl (inr (inr h))
       from (inr a) (inr b) (inr d) = inr (record { bytes = a; nets = b; cells = d })
 
-  pub some_answer : (tables : List TableBits) → (answer : Answer) × MayFill f tables answer
+  pub some_answer : (tables : List TableBits) → (answer : Answer) × IsFillAnswer f tables answer
   some_answer tables = from names (sizes tables)
     where
-      from : ((name : List ℕ) × IsClash f name) ⊎ AreNamesApart f → IsTooLarge f tables ⊎ IsSmall f tables → (answer : Answer) × MayFill f tables answer
+      from : ((name : List ℕ) × IsClash f name) ⊎ AreNamesApart f → IsTooLargeText f tables ⊎ IsSmallText f tables → (answer : Answer) × IsFillAnswer f tables answer
       from (inl clash) size = (Clash clash.0, Clashes clash.0 clash.1 refl)
       from (inr apart) (inl large) = (TooLarge, IsLarge apart large refl)
       from (inr apart) (inr small) = (Text (filled_text f tables), IsFilled apart small refl)

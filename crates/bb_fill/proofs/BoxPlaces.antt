@@ -1,4 +1,4 @@
--- What stands in a flat netlist by numbers.
+-- What is in a flat netlist by numbers.
 use Rattle.std.proofs.Common.{ℕ, zero, suc, ◌<◌, List, [], ◌∷◌, length, arith}
 use Rattle.bb_net.specs.Netlists.{Pins, box_at}
 

@@ -4,9 +4,9 @@ use Rattle.std.specs.List.{range_with_len}
 use Rattle.std.proofs.lemmas.List.{get_or-append-add, get_or_append_left, length-map}
 use Rattle.std.proofs.lemmas.List.Elements.{All-append, All-cons, All-nil}
 use Rattle.std.proofs.lemmas.List.FromFn.{fill_by_all}
-use Rattle.bb_lists.proofs.Maps.{map-twice}
+use Rattle.bb_lemmas.proofs.Maps.{map-twice}
 use Rattle.bb_net.specs.Values.{bit_of}
-use Rattle.bb_fill.specs.Words.{Word, ChoiceNet}
+use Rattle.bb_fill.specs.Words.{NetWord, ChoiceNet}
 use Rattle.bb_fill.specs.Lines.{Assign}
 use Rattle.bb_fill.specs.Trees.{choice_nets, halved, tree_lines}
 use Rattle.bb_fill.specs.Laws.{AreMet, IsMet}
@@ -32,12 +32,12 @@ choice_bits-length (pin ∷ pins) values long =
     let rest = choice_bits-length pins (picked pin values) first in
     omega (arith, twice, first, rest, length-append (picked pin values) (choice_bits pins (picked pin values)))
 
-module _ (bit : Word → Bool) where
+module _ (bit : NetWord → Bool) where
   -- the nets of so many choices have these bits
   abbrev HaveChoices : ℕ → List Bool → Type 0
   HaveChoices k bits = (j : ℕ) → j < length bits → bit (ChoiceNet (k + j)) ≡ bit_of bits j
 
-  level_met : (pin : Word) (k n : ℕ) (values : List Word) → length values ≡ 2 * n → HaveChoices k (picked (bit pin) (map bit values)) → AreMet bit (halved pin k values)
+  level_met : (pin : NetWord) (k n : ℕ) (values : List NetWord) → length values ≡ 2 * n → HaveChoices k (picked (bit pin) (map bit values)) → AreMet bit (halved pin k values)
   level_met pin k n [] long have = All-nil (IsMet bit)
   level_met pin k n (v ∷ []) long have = absurd (omega (arith, long))
   level_met pin k zero (low ∷ high ∷ values) long have = absurd (omega (arith, long))
@@ -51,7 +51,7 @@ module _ (bit : Word → Bool) where
       map-twice (λ i. ChoiceNet (k + i)) bit (range_with_len 0 n)
       ∙ sym (fill_by_all (λ i. bit (ChoiceNet (k + i))) bits n false long (λ i lt. sym (have i (omega (arith, lt, long)))))
 
-  pub tree_met : (pins : List Word) (k : ℕ) (values : List Word) → length values ≡ 2 ^ length pins → HaveChoices k (choice_bits (map bit pins) (map bit values)) → AreMet bit (tree_lines pins k values)
+  pub tree_met : (pins : List NetWord) (k : ℕ) (values : List NetWord) → length values ≡ 2 ^ length pins → HaveChoices k (choice_bits (map bit pins) (map bit values)) → AreMet bit (tree_lines pins k values)
   tree_met [] k values long have = All-nil (IsMet bit)
   tree_met (pin ∷ pins) k values long have =
       let n = length values / 2 in
@@ -59,13 +59,13 @@ module _ (bit : Word → Bool) where
       let half : n ≡ 2 ^ length pins = omega (arith, long, twice) in
       let even : length values ≡ 2 * n = omega (arith, long, twice, half) in
       let level = picked (bit pin) (map bit values) in
-      let behind = choice_bits (map bit pins) level in
-      let whole = length-append level behind in
+      let after = choice_bits (map bit pins) level in
+      let whole = length-append level after in
       let many : length level ≡ n = picked-length (bit pin) n (map bit values) (length-map values bit ∙ even) in
-      let here : HaveChoices k level = λ j lt. have j (omega (arith, lt, whole)) ∙ get_or_append_left level behind false j lt in
-      let rest : HaveChoices (k + n) behind = λ j lt.
+      let here : HaveChoices k level = λ j lt. have j (omega (arith, lt, whole)) ∙ get_or_append_left level after false j lt in
+      let rest : HaveChoices (k + n) after = λ j lt.
       let at : k + n + j ≡ k + (length level + j) = omega (arith, many) in
-      ap (λ m. bit (ChoiceNet m)) at ∙ have (length level + j) (omega (arith, lt, whole)) ∙ get_or-append-add level behind j false
+      ap (λ m. bit (ChoiceNet m)) at ∙ have (length level + j) (omega (arith, lt, whole)) ∙ get_or-append-add level after j false
       in
       let same = sym (level_bits k n level many here) in
       All-append (IsMet bit) (halved pin k values) (tree_lines pins (k + n) (choice_nets k n)) (level_met pin k n values even here)

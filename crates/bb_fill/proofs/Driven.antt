@@ -11,8 +11,8 @@ use Rattle.std.proofs.lemmas.List.Folds.{flat_map-map}
 use Rattle.std.proofs.lemmas.List.FromFn.{fill_by_all}
 use Rattle.bb_bits.specs.Earlier.{has_name}
 use Rattle.bb_bits.specs.Tables.{TableBits}
-use Rattle.bb_lists.proofs.Members.{contains_cases, from_map, none_in_nil}
-use Rattle.bb_lists.proofs.Ranges.{from_range}
+use Rattle.bb_lemmas.proofs.Members.{contains_cases, from_map, none_in_nil}
+use Rattle.bb_lemmas.proofs.Ranges.{from_range}
 use Rattle.bb_net.specs.declared.cell.Cell.{Cell}
 use Rattle.bb_net.specs.declared.cell.Cell.TheVariants as cells
 use Rattle.bb_net.specs.declared.flat.Reg.{Reg as Register}
@@ -20,10 +20,10 @@ use Rattle.bb_net.specs.CutPoints.{register_texts}
 use Rattle.bb_net.specs.Flats.{FlatNet}
 use Rattle.bb_net.specs.Netlists.{box_at, cell_at}
 use Rattle.bb_net.specs.Values.{table_at}
-use Rattle.bb_fill.specs.Words.{Word, Named, CellNet, ChoiceNet, word_at}
+use Rattle.bb_fill.specs.Words.{NetWord, Named, CellNet, ChoiceNet, word_at}
 use Rattle.bb_fill.specs.Lines.{Line, Input, Output, Reg, Gate, Buf, End}
 use Rattle.bb_fill.specs.Trees.{choice_nets, halved, tree_lines}
-use Rattle.bb_fill.specs.Filled.{cell_lines, choice_count, filled_lines, first_choice, lines_of_cells, output_lines, output_text, pin_bits, pin_words, register_lines}
+use Rattle.bb_fill.specs.Filled.{cell_lines, choice_count, filled_lines, first_choice, lines_of_cells, output_lines, output_text, output_pin_words, pin_words, register_lines}
 use Rattle.bb_fill.specs.Sizes.{plain_outputs}
 use Rattle.bb_fill.specs.Laws.{driven}
 use Rattle.bb_fill.proofs.Choices.{flat_twice}
@@ -45,14 +45,14 @@ nets-append k (suc n) m =
     let all : suc (n + m) ≡ suc n + m = omega arith in
     ap₂ ◌++◌ (nets_next k n) (ap (λ j. choice_nets j m) at) ∙ ap (λ l. ChoiceNet k ∷ l) (nets-append (k + 1) n m) ∙ sym (nets_next k (n + m)) ∙ ap (choice_nets k) all
 
-pub halved-driven : (pin : Word) (k n : ℕ) (values : List Word) → length values ≡ 2 * n → flat_map driven (halved pin k values) ≡ choice_nets k n
+pub halved-driven : (pin : NetWord) (k n : ℕ) (values : List NetWord) → length values ≡ 2 * n → flat_map driven (halved pin k values) ≡ choice_nets k n
 halved-driven pin k zero [] long = refl
 halved-driven pin k (suc n) [] long = absurd (omega (arith, long))
 halved-driven pin k n (v ∷ []) long = absurd (omega (arith, long))
 halved-driven pin k zero (low ∷ high ∷ values) long = absurd (omega (arith, long))
 halved-driven pin k (suc n) (low ∷ high ∷ values) long = ap (λ l. ChoiceNet k ∷ l) (halved-driven pin (k + 1) n values (omega (arith, long))) ∙ sym (nets_next k n)
 
-pub tree-driven : (pins : List Word) (k : ℕ) (values : List Word) → length values ≡ 2 ^ length pins → flat_map driven (tree_lines pins k values) ≡ choice_nets k (2 ^ length pins - 1)
+pub tree-driven : (pins : List NetWord) (k : ℕ) (values : List NetWord) → length values ≡ 2 ^ length pins → flat_map driven (tree_lines pins k values) ≡ choice_nets k (2 ^ length pins - 1)
 tree-driven [] k values long = refl
 tree-driven (pin ∷ pins) k values long =
     let n = length values / 2 in
@@ -66,13 +66,13 @@ tree-driven (pin ∷ pins) k values long =
     ∙ nets-append k n (2 ^ length pins - 1) ∙ ap (choice_nets k) count
 
 -- the nets of a cell
-abbrev pub nets_of : FlatNet → ℕ → Cell → List Word
+abbrev pub nets_of : FlatNet → ℕ → Cell → List NetWord
 nets_of f k (cells.Const b) = []
 nets_of f k (cells.Input i) = []
 nets_of f k cell = choice_nets (first_choice f k) (choice_count f.net.boxes cell) ++ CellNet k ∷ []
 
 -- those of all cells
-abbrev pub cell_nets : FlatNet → List Word
+abbrev pub cell_nets : FlatNet → List NetWord
 cell_nets f = flat_map (λ k. nets_of f k (cell_at f.net.cells k)) (range_with_len 0 (length f.net.cells))
 
 -- the texts that are driven: those of outputs that are no registers, and those of registers
@@ -80,10 +80,10 @@ abbrev pub driven_texts : FlatNet → List (List ℕ)
 driven_texts f = plain_outputs f ++ register_texts f
 
 -- a net of a cell is its own, or one of its choices
-abbrev pub IsNetOf : FlatNet → ℕ → Cell → Word → Type 0
+abbrev pub IsNetOf : FlatNet → ℕ → Cell → NetWord → Type 0
 IsNetOf f k c word = (word ≡ CellNet k) ⊎ ((m : ℕ) × (word ≡ ChoiceNet m) × (first_choice f k ≤ m) × (m < first_choice f k + choice_count f.net.boxes c))
 
-pub from_nets : (f : FlatNet) (k : ℕ) (c : Cell) (word : Word) → Contains (nets_of f k c) word → IsNetOf f k c word
+pub from_nets : (f : FlatNet) (k : ℕ) (c : Cell) (word : NetWord) → Contains (nets_of f k c) word → IsNetOf f k c word
 from_nets f k c word has = by c has
   where
     some : (d : Cell) → Contains (choice_nets (first_choice f k) (choice_count f.net.boxes d)) word ⊎ Contains (CellNet k ∷ []) word → IsNetOf f k d word
@@ -111,7 +111,7 @@ from_nets f k c word has = by c has
     by (cells.BoxOut b p) h = both (cells.BoxOut b p) h
 
 module _ (f : FlatNet) (tables : List TableBits) (fits : TablesFit tables f.net.boxes) where
-  pins_rows : (b p : ℕ) → length (pin_bits tables b p) ≡ 2 ^ length (pin_words f b)
+  pins_rows : (b p : ℕ) → length (output_pin_words tables b p) ≡ 2 ^ length (pin_words f b)
   pins_rows b p = column-length (table_at tables b) p ∙ ap (λ n. 2 ^ n) (fits b ∙ sym (pins-length f b))
 
   pub cell-driven : (k : ℕ) (c : Cell) → flat_map driven (cell_lines f tables k c) ≡ nets_of f k c
@@ -124,7 +124,7 @@ module _ (f : FlatNet) (tables : List TableBits) (fits : TablesFit tables f.net.
   cell-driven k (cells.Mux c t e) = refl
   cell-driven k (cells.BoxOut b p) =
       flat_map-append driven (pin_tree f tables k b p) (pin_copy f tables k b p ∷ [])
-      ∙ ap (λ l. l ++ CellNet k ∷ []) (tree-driven (pin_words f b) (first_choice f k) (pin_bits tables b p) (pins_rows b p) ∙ ap (λ n. choice_nets (first_choice f k) (2 ^ n - 1)) (pins-length f b))
+      ∙ ap (λ l. l ++ CellNet k ∷ []) (tree-driven (pin_words f b) (first_choice f k) (output_pin_words tables b p) (pins_rows b p) ∙ ap (λ n. choice_nets (first_choice f k) (2 ^ n - 1)) (pins-length f b))
 
   -- there is a net for each line
   nets_of-length : (k : ℕ) (c : Cell) → length (nets_of f k c) ≡ length (cell_lines f tables k c)
@@ -155,7 +155,7 @@ module _ (f : FlatNet) (tables : List TableBits) (fits : TablesFit tables f.net.
 
   -- an output is driven where it is no register
 
-  abbrev plain_net : List ℕ → List Word
+  abbrev plain_net : List ℕ → List NetWord
   plain_net text = if has_name text (register_texts f) then [] else Named text ∷ []
 
   output-driven : (o : ℕ) → flat_map driven (output_lines f o) ≡ plain_net (output_text f o)

@@ -8,14 +8,14 @@ use Rattle.std.proofs.lemmas.List.FromFn.{get_or-range_with_len, length-range_wi
 use Rattle.std.proofs.lemmas.List.Kept.{AllPairs-filter}
 use Rattle.bb_bits.specs.Earlier.{has_name}
 use Rattle.bb_bits.specs.Tables.{TableBits}
-use Rattle.bb_lists.proofs.Members.{contains_cases, from_flat, from_map, kept_from, none_in_nil}
-use Rattle.bb_lists.proofs.Orders.{less_or_not}
+use Rattle.bb_lemmas.proofs.Members.{contains_cases, from_flat, from_map, kept_from, none_in_nil}
+use Rattle.bb_lemmas.proofs.Orders.{less_or_not}
 use Rattle.bb_net.specs.declared.cell.Cell.{Cell}
 use Rattle.bb_net.specs.declared.cell.Cell.TheVariants as cells
 use Rattle.bb_net.specs.CutPoints.{register_texts}
 use Rattle.bb_net.specs.Flats.{FlatNet}
 use Rattle.bb_net.specs.Netlists.{cell_at}
-use Rattle.bb_fill.specs.Words.{Word, Named, CellNet, ChoiceNet}
+use Rattle.bb_fill.specs.Words.{NetWord, Named, CellNet, ChoiceNet}
 use Rattle.bb_fill.specs.Trees.{choice_nets}
 use Rattle.bb_fill.specs.Filled.{choice_count, first_choice}
 use Rattle.bb_fill.specs.Sizes.{net_count, plain_outputs}
@@ -40,13 +40,13 @@ module _ (f : FlatNet) where
   nets_apart : (k : ℕ) (c : Cell) → AllPairs ◌≢◌ (nets_of f k c)
   nets_apart k c = by c
     where
-      none : AllPairs {X = Word} ◌≢◌ []
+      none : AllPairs {X = NetWord} ◌≢◌ []
       none = λ i j d less within. absurd (omega (arith, within))
 
       one : AllPairs ◌≢◌ (CellNet k ∷ [])
       one = λ i j d less within. absurd (omega (arith, less, within))
 
-      never : (d : Cell) (z : Word) → Contains (choice_nets (first_choice f k) (choice_count f.net.boxes d)) z → (CellNet k ≡ z) ⊎ Contains [] z → ⊥
+      never : (d : Cell) (z : NetWord) → Contains (choice_nets (first_choice f k) (choice_count f.net.boxes d)) z → (CellNet k ≡ z) ⊎ Contains [] z → ⊥
       never d z choice (inl is) = let at = from_map (λ i. ChoiceNet (first_choice f k + i)) (range_with_len 0 (choice_count f.net.boxes d)) z choice in let both = at.2 ∙ sym is in cc both
       never d z choice (inr has) = none_in_nil z has
 
@@ -79,7 +79,7 @@ module _ (f : FlatNet) where
           omega (arith, next, rest more)
 
   -- the nets of two cells
-  cells_apart : (i j : ℕ) (z : Word) → i < j → j < length f.net.cells → IsNetOf f i (cell_at f.net.cells i) z → IsNetOf f j (cell_at f.net.cells j) z → ⊥
+  cells_apart : (i j : ℕ) (z : NetWord) → i < j → j < length f.net.cells → IsNetOf f i (cell_at f.net.cells i) z → IsNetOf f j (cell_at f.net.cells j) z → ⊥
   cells_apart i j z less within (inl a) (inl b) = let e = sym a ∙ b in let same : i ≡ j = cc e in omega (arith, less, same)
   cells_apart i j z less within (inl a) (inr b) = let e = sym a ∙ b.1 in cc e
   cells_apart i j z less within (inr a) (inl b) = let e = sym a.1 ∙ b in cc e
@@ -95,7 +95,7 @@ module _ (f : FlatNet) where
       (λ i j z less within a b. cells_apart i j z less (omega (arith, within)) (from_nets f i (cell_at f.net.cells i) z a) (from_nets f j (cell_at f.net.cells j) z b))
 
   -- the net of a cell is no port and no register
-  not_named : (texts : List (List ℕ)) (z : Word) → Contains (map Named texts) z → Contains (cell_nets f) z → ⊥
+  not_named : (texts : List (List ℕ)) (z : NetWord) → Contains (map Named texts) z → Contains (cell_nets f) z → ⊥
   not_named texts z named net =
       let text = from_map Named texts z named in
       let at = from_flat (λ k. nets_of f k (cell_at f.net.cells k)) (range_with_len 0 (length f.net.cells)) z net in
@@ -135,9 +135,9 @@ module _ (f : FlatNet) (tables : List TableBits) (ready : IsReady f tables) wher
   input_is_apart text input (inl plain) = plain_is_apart text plain (Contains-append_left f.ins (register_texts f) text input)
   input_is_apart text input (inr register) = (input_apart f ready.names text input).0 register
 
-  behind_inputs : (z : Word) → Contains (map Named f.ins) z → Contains (cell_nets f) z ⊎ Contains (map Named (driven_texts f)) z → ⊥
-  behind_inputs z input (inl net) = not_named f f.ins z input net
-  behind_inputs z input (inr named) =
+  after_inputs : (z : NetWord) → Contains (map Named f.ins) z → Contains (cell_nets f) z ⊎ Contains (map Named (driven_texts f)) z → ⊥
+  after_inputs z input (inl net) = not_named f f.ins z input net
+  after_inputs z input (inr named) =
       let one = from_map Named f.ins z input in
       let other = from_map Named (driven_texts f) z named in
       let e = other.2 ∙ sym one.2 in
@@ -148,14 +148,14 @@ module _ (f : FlatNet) (tables : List TableBits) (ready : IsReady f tables) wher
   parts_apart =
       apart_both (map Named f.ins) (cell_nets f ++ map Named (driven_texts f)) (apart_names f.ins ready.flat.apart.ins)
       (apart_both (cell_nets f) (map Named (driven_texts f)) (cell_nets_apart f) (apart_names (driven_texts f) texts_apart) (λ z net named. not_named f (driven_texts f) z named net))
-      (λ z input behind. behind_inputs z input (Contains-append_cases (cell_nets f) (map Named (driven_texts f)) z behind))
+      (λ z input after. after_inputs z input (Contains-append_cases (cell_nets f) (map Named (driven_texts f)) z after))
 
   parts-length : length (map Named f.ins ++ (cell_nets f ++ map Named (driven_texts f))) ≡ net_count f tables
   parts-length =
       let nets = cell_nets-length f tables (tables_fit tables f.net.boxes ready.fit) in
-      let behind = length-append (cell_nets f) (map Named (driven_texts f)) in
+      let after = length-append (cell_nets f) (map Named (driven_texts f)) in
       let texts = length-append (plain_outputs f) (register_texts f) in
-      omega (arith, nets, behind, texts, length-append (map Named f.ins) (cell_nets f ++ map Named (driven_texts f)), length-map f.ins Named, length-map (driven_texts f) Named, length-map f.regs (λ q. q.text))
+      omega (arith, nets, after, texts, length-append (map Named f.ins) (cell_nets f ++ map Named (driven_texts f)), length-map f.ins Named, length-map (driven_texts f) Named, length-map f.regs (λ q. q.text))
 
 pub nets_are_driven_once : NetsAreDrivenOnce
 nets_are_driven_once f tables ready = let are = nets_are f tables ready in (subst (AllPairs ◌≢◌) (sym are) (parts_apart f tables ready), ap length are ∙ parts-length f tables ready)

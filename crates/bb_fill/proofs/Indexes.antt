@@ -7,10 +7,10 @@ use Rattle.std.proofs.lemmas.List.{get_or_default, length-map}
 use Rattle.std.proofs.lemmas.List.Folds.{list_any_at}
 use Rattle.bb_bits.specs.Earlier.{has_name}
 use Rattle.bb_bits.specs.Names.{same_name}
-use Rattle.bb_lists.proofs.Members.{any_there}
-use Rattle.bb_lists.proofs.Names.{same_equal, same_self}
-use Rattle.bb_lists.proofs.Orders.{less_or_not}
-use Rattle.bb_net.specs.Flats.{FlatNet, AreApart}
+use Rattle.bb_lemmas.proofs.Members.{any_there}
+use Rattle.bb_lemmas.proofs.Names.{same_equal, same_self}
+use Rattle.bb_lemmas.proofs.Orders.{less_or_not}
+use Rattle.bb_net.specs.Flats.{FlatNet, HasDistinctNames}
 use Rattle.bb_net.specs.CutPoints.{register_texts}
 use Rattle.bb_fill.specs.Clashes.{register_text}
 use Rattle.bb_fill.specs.Filled.{output_text}
@@ -66,7 +66,7 @@ all_outputs f o entries all has = record {
 }
 
 -- one register more
-pub register_more : (f : FlatNet) (old new : List (List ℕ × ℕ)) (r : ℕ) → AreApart f → r < length f.regs → Puts old new (register_text f r) r → IsIndexUpTo f r old → IsIndexUpTo f (r + 1) new
+pub register_more : (f : FlatNet) (old new : List (List ℕ × ℕ)) (r : ℕ) → HasDistinctNames f → r < length f.regs → Puts old new (register_text f r) r → IsIndexUpTo f r old → IsIndexUpTo f (r + 1) new
 register_more f old new r apart within put index = record { registers = registers; outputs = λ text has. found_more old new (register_text f r) r put text (index.outputs text has); right = right }
   where
     registers : (k : ℕ) → k < r + 1 → lookup (same_name (register_text f k)) new ≡ Some k

@@ -6,25 +6,25 @@ use Rattle.std.proofs.lemmas.List.{flat_map_more, length-map, map-append, revers
 use Rattle.std.proofs.lemmas.List.Folds.{flat_map-map}
 use Rattle.std.proofs.lemmas.Simd.{map-map}
 use Rattle.bb_bits.specs.Tables.{TableBits, table_bit}
-use Rattle.bb_lists.proofs.Ranges.{length-range}
+use Rattle.bb_lemmas.proofs.Ranges.{length-range}
 use Rattle.bb_fill.specs.declared.trees.Values.{Values}
 use Rattle.bb_fill.specs.declared.trees.Values.TheVariants.{Rows, Nets}
-use Rattle.bb_fill.specs.Words.{Word, Bit, CellNet, ChoiceNet}
+use Rattle.bb_fill.specs.Words.{NetWord, Bit, CellNet, ChoiceNet}
 use Rattle.bb_fill.specs.Lines.{Line, Assign, Gate, Buf, line_text}
 use Rattle.bb_fill.specs.Trees.{column, halved, choice_nets, tree_lines, tree_values}
 use Rattle.bb_fill.specs.Inside.Levels.{level_words, value_word}
 
 -- a choice between the values at two neighbouring numbers
-abbrev pub choice_of : (ℕ → Word) → Word → ℕ → ℕ → Line
+abbrev pub choice_of : (ℕ → NetWord) → NetWord → ℕ → ℕ → Line
 choice_of value pin first i = Assign (ChoiceNet (first + i)) pin (value (2 * i + 1)) (value (2 * i))
 
-two_more : (f : ℕ → Word) (a n : ℕ) → map f (range_with_len (2 * a) (2 * suc n)) ≡ f (2 * a) ∷ f (2 * a + 1) ∷ map f (range_with_len (2 * (a + 1)) (2 * n))
+two_more : (f : ℕ → NetWord) (a n : ℕ) → map f (range_with_len (2 * a) (2 * suc n)) ≡ f (2 * a) ∷ f (2 * a + 1) ∷ map f (range_with_len (2 * (a + 1)) (2 * n))
 two_more f a n =
     let more : 2 * suc n ≡ suc (suc (2 * n)) = omega arith in
     let next : 2 * a + 1 + 1 ≡ 2 * (a + 1) = omega arith in
     ap (λ m. map f (range_with_len (2 * a) m)) more ∙ ap (λ b. f (2 * a) ∷ f (2 * a + 1) ∷ map f (range_with_len b (2 * n))) next
 
-halved_from : (value : ℕ → Word) (pin : Word) (first a n : ℕ)
+halved_from : (value : ℕ → NetWord) (pin : NetWord) (first a n : ℕ)
     → halved pin (first + a) (map value (range_with_len (2 * a) (2 * n))) ≡ map (choice_of value pin first) (range_with_len a n)
 halved_from value pin first a zero = refl
 halved_from value pin first a (suc n) =
@@ -34,7 +34,7 @@ halved_from value pin first a (suc n) =
     ∙ ap (λ l. choice_of value pin first a ∷ l) (halved_from value pin first (a + 1) n)
 
 -- the text of a level is that of its choices in order
-pub level_text : (value : ℕ → Word) (pin : Word) (first n : ℕ) (stem : List ℕ)
+pub level_text : (value : ℕ → NetWord) (pin : NetWord) (first n : ℕ) (stem : List ℕ)
     → flat_map (λ i. line_text stem (choice_of value pin first i)) (range_with_len 0 n) ≡ flat_map (line_text stem) (halved pin first (map value (range_with_len 0 (2 * n))))
 level_text value pin first n stem =
     let at : first ≡ first + 0 = omega arith in
@@ -42,7 +42,7 @@ level_text value pin first n stem =
     ∙ flat_map-map (line_text stem) (choice_of value pin first) (range_with_len 0 n))
 
 -- the last pin comes first
-pub last_pin : (w : ℕ → Word) (pins rest : List ℕ) (last : ℕ) → pins ≡ rest ++ last ∷ [] → reverse (map w pins) ≡ w last ∷ reverse (map w rest)
+pub last_pin : (w : ℕ → NetWord) (pins rest : List ℕ) (last : ℕ) → pins ≡ rest ++ last ∷ [] → reverse (map w pins) ≡ w last ∷ reverse (map w rest)
 last_pin w pins rest last is = ap (λ l. reverse (map w l)) is ∙ ap reverse (map-append w rest (last ∷ [])) ∙ reverse-append (map w rest) (w last ∷ [])
 
 -- 2 ^ n values are two halves where there is a pin
@@ -52,7 +52,7 @@ two_halves count (suc n) half is some at =
     let twice : 2 ^ suc n ≡ 2 * 2 ^ n = omega arith in
     omega (arith, is, at, twice)
 
-module _ (t : TableBits) (p : ℕ) (values : Values) (w : ℕ → Word) (pins rest : List ℕ) (last first count half : ℕ) (is : pins ≡ rest ++ last ∷ []) (even : count ≡ 2 * half) where
+module _ (t : TableBits) (p : ℕ) (values : Values) (w : ℕ → NetWord) (pins rest : List ℕ) (last first count half : ℕ) (is : pins ≡ rest ++ last ∷ []) (even : count ≡ 2 * half) where
   half_long : length (level_words t p values (2 * half)) / 2 ≡ half
   half_long =
       let long = length-map (range_with_len 0 (2 * half)) (value_word t p values) ∙ length-range 0 (2 * half) in
@@ -83,7 +83,7 @@ pub row_bits : (t : TableBits) (p n : ℕ) → t.inputs ≡ n → level_words t 
 row_bits t p n is = ap (λ m. level_words t p Rows (2 ^ m)) (sym is) ∙ sym (map-map Bit (λ row. table_bit t row p) (range_with_len 0 (2 ^ t.inputs)))
 
 -- a tree and the copy of its value
-pub rooted : (stem : List ℕ) (pins : List Word) (first number : ℕ) (bits words left : List Word) → words ≡ bits → tree_values pins first words ≡ left
+pub rooted : (stem : List ℕ) (pins : List NetWord) (first number : ℕ) (bits words left : List NetWord) → words ≡ bits → tree_values pins first words ≡ left
     → flat_map (line_text stem) (tree_lines pins first words) ++ line_text stem (Gate Buf (CellNet number) left)
     ≡ flat_map (line_text stem) (tree_lines pins first bits ++ Gate Buf (CellNet number) (tree_values pins first bits) ∷ [])
 rooted stem pins first number bits words left is at =

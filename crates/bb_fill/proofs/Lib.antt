@@ -9,11 +9,11 @@ pub mod NetNames
 pub mod SomeBits
 pub mod Driven
 pub mod DrivenOnce
-pub mod Stands
-pub mod TreeStands
-pub mod CellStands
+pub mod Occurs
+pub mod TreeOccurs
+pub mod CellOccurs
 pub mod DeclaredNames
-pub mod LinesStand
+pub mod LinesOccur
 pub mod LineWords
 pub mod RegisterBits
 pub mod NetlistWords
@@ -29,4 +29,4 @@ pub mod Indexes
 pub mod Choices
 pub mod BoxPlaces
 pub mod Levels
-pub mod Sheets
+pub mod TextBuffers

@@ -8,20 +8,20 @@ use Rattle.std.proofs.lemmas.List.FromFn.{get_or-map-range_with_len, length-map-
 use Rattle.bb_bits.specs.Earlier.{has_name}
 use Rattle.bb_bits.specs.Names.{same_name}
 use Rattle.bb_bits.specs.Tables.{TableBits}
-use Rattle.bb_lists.proofs.Members.{any_there}
-use Rattle.bb_lists.proofs.Names.{same_equal}
-use Rattle.bb_lists.proofs.Orders.{less_or_not}
-use Rattle.bb_lists.proofs.Ranges.{range_there}
+use Rattle.bb_lemmas.proofs.Members.{any_there}
+use Rattle.bb_lemmas.proofs.Names.{same_equal}
+use Rattle.bb_lemmas.proofs.Orders.{less_or_not}
+use Rattle.bb_lemmas.proofs.Ranges.{range_there}
 use Rattle.bb_net.specs.declared.cell.Cell.TheVariants.{Const}
 use Rattle.bb_net.specs.CutPoints.{register_texts}
 use Rattle.bb_net.specs.Flats.{FlatNet}
 use Rattle.bb_net.specs.Netlists.{IsOrdered, Netlist, cell_at}
 use Rattle.bb_net.specs.Values.{IsValue, bit_of, flat_with, gate, tabled_bit, value_of}
-use Rattle.bb_fill.specs.Words.{Word, Bit, Named, cell_word, word_at}
+use Rattle.bb_fill.specs.Words.{NetWord, Bit, Named, cell_word, word_at}
 use Rattle.bb_fill.specs.Lines.{Gate, Buf}
 use Rattle.bb_fill.specs.Filled.{filled_lines, output_text}
 use Rattle.bb_fill.specs.Clashes.{AreNamesApart, IsItsRegister, output_numbers, register_text}
-use Rattle.bb_fill.specs.Laws.{AreMet, Gives, IsMet, IsReady, LinesHaveBits, TreesChoose}
+use Rattle.bb_fill.specs.Laws.{AreMet, GivesBitsOf, IsMet, IsReady, LinesHaveBits, TreesChoose}
 use Rattle.bb_fill.proofs.LineParts.{part_of_cell, part_of_output}
 use Rattle.bb_fill.proofs.MetCells.{tables_fit, word_bit, word_from_lines}
 
@@ -29,7 +29,7 @@ use Rattle.bb_fill.proofs.MetCells.{tables_fit, word_bit, word_from_lines}
 abbrev pub ValuesAreOne : Type 0
 ValuesAreOne = (net : Netlist) (x : List Bool) (box : ℕ → ℕ → List Bool → Bool) (bits : List Bool) → IsOrdered net → IsValue net x box bits → bits ≡ value_of net x box
 
--- behind the last cell stands the number 0
+-- after the last cell is the number 0
 pub word_past : (f : FlatNet) (k : ℕ) → length f.net.cells ≤ k → word_at f k ≡ Bit false
 word_past f k past = ap (cell_word f k) (get_or_past f.net.cells k (Const false) past)
 
@@ -44,7 +44,7 @@ register_word f o apart within named =
     let its : IsItsRegister f o = All-contains (IsItsRegister f) (output_numbers f) o apart.outputs (range_there 0 (length f.outs) o (omega arith) (omega (arith, within))) in
     ap (cell_word f (slice_index f.net.outs o)) (its r number same) ∙ ap Named (get_or-append-add f.ins (register_texts f) r [] ∙ sym same)
 
-module _ (f : FlatNet) (tables : List TableBits) (ready : IsReady f tables) (x : List Bool) (bit : Word → Bool) (gives : Gives f x bit) (met : AreMet bit (filled_lines f tables)) where
+module _ (f : FlatNet) (tables : List TableBits) (ready : IsReady f tables) (x : List Bool) (bit : NetWord → Bool) (gives : GivesBitsOf f x bit) (met : AreMet bit (filled_lines f tables)) where
   -- the bits of the words, cell by cell
   abbrev bits : List Bool
   bits = map (word_bit f bit) (range_with_len 0 (length f.net.cells))

@@ -4,9 +4,9 @@ use Rattle.std.specs.Prelude.{All}
 use Rattle.std.specs.List.{flat_map, range_with_len}
 use Rattle.std.proofs.lemmas.List.Elements.{All-append, All-contains, All-push}
 use Rattle.bb_bits.specs.Tables.{TableBits}
-use Rattle.bb_lists.proofs.Members.{all_from, from_flat}
-use Rattle.bb_lists.proofs.Ranges.{from_range, range_there}
-use Rattle.bb_lists.proofs.Turns.{all_flat}
+use Rattle.bb_lemmas.proofs.Members.{all_from, from_flat}
+use Rattle.bb_lemmas.proofs.Ranges.{from_range, range_there}
+use Rattle.bb_lemmas.proofs.Turns.{all_flat}
 use Rattle.bb_net.specs.CutPoints.{register_texts}
 use Rattle.bb_net.specs.Flats.{FlatNet}
 use Rattle.bb_net.specs.Netlists.{cell_at}
@@ -34,21 +34,21 @@ all_of_numbers P g n each = all_from P (flat_map g (range_with_len 0 n)) (λ y h
 module _ (P : Line → Type 0) (f : FlatNet) (tables : List TableBits) where
   pub part_of_cell : All P (filled_lines f tables) → (k : ℕ) → k < length f.net.cells → All P (cell_lines f tables k (cell_at f.net.cells k))
   part_of_cell all k within =
-      let behind = all_left P (declarations f ++ lines_of_cells f tables ++ lines_of_outputs f ++ register_lines f 0 f.regs) (End ∷ []) all in
-      let outputs = all_left P (declarations f ++ lines_of_cells f tables ++ lines_of_outputs f) (register_lines f 0 f.regs) behind in
+      let after = all_left P (declarations f ++ lines_of_cells f tables ++ lines_of_outputs f ++ register_lines f 0 f.regs) (End ∷ []) all in
+      let outputs = all_left P (declarations f ++ lines_of_cells f tables ++ lines_of_outputs f) (register_lines f 0 f.regs) after in
       let cells = all_right P (declarations f) (lines_of_cells f tables) (all_left P (declarations f ++ lines_of_cells f tables) (lines_of_outputs f) outputs) in
       all_of_number P (λ j. cell_lines f tables j (cell_at f.net.cells j)) (length f.net.cells) k within cells
 
   pub part_of_output : All P (filled_lines f tables) → (o : ℕ) → o < length f.outs → All P (output_lines f o)
   part_of_output all o within =
-      let behind = all_left P (declarations f ++ lines_of_cells f tables ++ lines_of_outputs f ++ register_lines f 0 f.regs) (End ∷ []) all in
-      let outputs = all_left P (declarations f ++ lines_of_cells f tables ++ lines_of_outputs f) (register_lines f 0 f.regs) behind in
+      let after = all_left P (declarations f ++ lines_of_cells f tables ++ lines_of_outputs f ++ register_lines f 0 f.regs) (End ∷ []) all in
+      let outputs = all_left P (declarations f ++ lines_of_cells f tables ++ lines_of_outputs f) (register_lines f 0 f.regs) after in
       all_of_number P (output_lines f) (length f.outs) o within (all_right P (declarations f ++ lines_of_cells f tables) (lines_of_outputs f) outputs)
 
   pub all_parts : All P (declarations f) → ((k : ℕ) → k < length f.net.cells → All P (cell_lines f tables k (cell_at f.net.cells k))) → ((o : ℕ) → o < length f.outs → All P (output_lines f o))
       → All P (register_lines f 0 f.regs) → P End → All P (filled_lines f tables)
-  all_parts front cells outputs registers last =
-      let some = All-append P (declarations f) (lines_of_cells f tables) front (all_of_numbers P (λ j. cell_lines f tables j (cell_at f.net.cells j)) (length f.net.cells) cells) in
+  all_parts prefix cells outputs registers last =
+      let some = All-append P (declarations f) (lines_of_cells f tables) prefix (all_of_numbers P (λ j. cell_lines f tables j (cell_at f.net.cells j)) (length f.net.cells) cells) in
       let more = All-append P (declarations f ++ lines_of_cells f tables) (lines_of_outputs f) some (all_of_numbers P (output_lines f) (length f.outs) outputs) in
       let all = All-append P (declarations f ++ lines_of_cells f tables ++ lines_of_outputs f) (register_lines f 0 f.regs) more registers in
       All-push P (declarations f ++ lines_of_cells f tables ++ lines_of_outputs f ++ register_lines f 0 f.regs) End all last

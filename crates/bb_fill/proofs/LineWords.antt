@@ -6,19 +6,19 @@ use Rattle.std.proofs.lemmas.List.Elements.{All-append, All-head, All-nil, All-t
 use Rattle.bb_bits.specs.Earlier.{has_name}
 use Rattle.bb_bits.specs.Names.{same_name}
 use Rattle.bb_bits.specs.Tables.{TableBits}
-use Rattle.bb_lists.proofs.Members.{any_there, contains-map, either, from_map, keeps}
-use Rattle.bb_lists.proofs.Names.{same_equal}
+use Rattle.bb_lemmas.proofs.Members.{any_there, contains-map, either, from_map, keeps}
+use Rattle.bb_lemmas.proofs.Names.{same_equal}
 use Rattle.bb_net.specs.CutPoints.{register_texts}
 use Rattle.bb_net.specs.Flats.{FlatNet, HaveClocks}
-use Rattle.bb_fill.specs.Words.{Word, Named}
+use Rattle.bb_fill.specs.Words.{NetWord, Named}
 use Rattle.bb_fill.specs.Filled.{filled_lines}
 use Rattle.bb_fill.specs.Sizes.{plain_outputs}
 use Rattle.bb_fill.specs.Laws.{IsNumber, IsReady, WordsAreNets, all_nets, driven, line_words}
-use Rattle.bb_fill.proofs.CellStands.{port_words}
+use Rattle.bb_fill.proofs.CellOccurs.{port_words}
 use Rattle.bb_fill.proofs.Driven.{cell_nets, driven_texts}
 use Rattle.bb_fill.proofs.DrivenOnce.{nets_are}
-use Rattle.bb_fill.proofs.LinesStand.{lines_stand}
-use Rattle.bb_fill.proofs.Stands.{stand_words}
+use Rattle.bb_fill.proofs.LinesOccur.{lines_occur}
+use Rattle.bb_fill.proofs.Occurs.{occur_words}
 
 all_flat_map : {A B : Type 0} (P : B → Type 0) (g : A → List B) (xs : List A) → All (λ x. All P (g x)) xs → All P (flat_map g xs)
 all_flat_map P g [] all = All-nil P
@@ -26,10 +26,10 @@ all_flat_map P g (x ∷ xs) all = All-append P (g x) (flat_map g xs) (All-head (
 
 module _ (f : FlatNet) (tables : List TableBits) (ready : IsReady f tables) where
   -- a number, or a net that something drives
-  abbrev IsNet : Word → Type 0
+  abbrev IsNet : NetWord → Type 0
   IsNet word = IsNumber word ⊎ Contains (all_nets f tables) word
 
-  driven_net : (z : Word) → Contains (flat_map driven (filled_lines f tables)) z → IsNet z
+  driven_net : (z : NetWord) → Contains (flat_map driven (filled_lines f tables)) z → IsNet z
   driven_net z has = inr (Contains-append_right (map Named f.ins) (flat_map driven (filled_lines f tables)) z has)
 
   input_net : (text : List ℕ) → Contains f.ins text → IsNet (Named text)
@@ -59,15 +59,15 @@ module _ (f : FlatNet) (tables : List TableBits) (ready : IsReady f tables) wher
   name_net text (inl port) = port_net text (Contains-append_cases f.ins (register_texts f) text port)
   name_net text (inr output) = output_net text output
 
-  port_word_net : (z : Word) → Contains (port_words f) z → IsNet z
+  port_word_net : (z : NetWord) → Contains (port_words f) z → IsNet z
   port_word_net z has =
       let text = from_map Named (f.ins ++ register_texts f) z has in
       subst IsNet text.2 (port_net text.0 (Contains-append_cases f.ins (register_texts f) text.0 text.1))
 
   all_words : HaveClocks f → All (λ line. All IsNet (line_words line)) (filled_lines f tables)
   all_words clocks =
-      stand_words IsNet (filled_lines f tables) (port_words f) (λ b. inl (b, refl)) port_word_net driven_net
-      (lines_stand f tables ready IsNet clocks (λ text has. name_net text (Contains-append_cases (f.ins ++ register_texts f) f.outs text has)))
+      occur_words IsNet (filled_lines f tables) (port_words f) (λ b. inl (b, refl)) port_word_net driven_net
+      (lines_occur f tables ready IsNet clocks (λ text has. name_net text (Contains-append_cases (f.ins ++ register_texts f) f.outs text has)))
 
 pub words_are_nets : WordsAreNets
 words_are_nets f tables ready clocks = all_flat_map (λ word. IsNumber word ⊎ Contains (all_nets f tables) word) line_words (filled_lines f tables) (all_words f tables ready clocks)

@@ -1,13 +1,13 @@
--- What holds of the elements of lists behind one another, and lists without repetition that are made from others.
+-- What holds of the elements of lists one after another, and lists without repetition that are made from others.
 use Rattle.std.proofs.Common.{◌≡◌, ◌≢◌, ◌∙◌, ◌⊎◌, inl, inr, ℕ, zero, suc, ◌+◌, ◌-◌, ◌<◌, List, [], ◌∷◌, ◌++◌, length, map, reverse, refl, sym, subst, arith}
 use Rattle.std.specs.Prelude.{All, AllPairs, Contains}
 use Rattle.std.specs.List.{flat_map, range_with_len}
 use Rattle.std.proofs.lemmas.List.{get_or-reverse, length-reverse}
 use Rattle.std.proofs.lemmas.List.Elements.{All-cons, All-contains, All-nil, Contains-append_cases, Contains-append_left, Contains-append_right, Contains-get_or}
 use Rattle.std.proofs.lemmas.List.Kept.{AllPairs-cons}
-use Rattle.bb_lists.proofs.Apart.{pairs_tail}
-use Rattle.bb_lists.proofs.Members.{all_from, contains_here, contains_there, from_flat, from_map}
-use Rattle.bb_lists.proofs.Ranges.{from_range}
+use Rattle.bb_lemmas.proofs.Apart.{pairs_tail}
+use Rattle.bb_lemmas.proofs.Members.{all_from, contains_here, contains_there, from_flat, from_map}
+use Rattle.bb_lemmas.proofs.Ranges.{from_range}
 
 pub all_left : {A : Type 0} (P : A → Type 0) (xs ys : List A) → All P (xs ++ ys) → All P xs
 all_left P xs ys all = all_from P xs (λ x has. All-contains P (xs ++ ys) x all (Contains-append_left xs ys x has))
@@ -26,7 +26,7 @@ all_reverse P xs all k d within =
     let long = length-reverse xs in
     subst P (sym (get_or-reverse xs k d (omega (arith, within, long)))) (all (length xs - 1 - k) d (omega (arith, within, long)))
 
--- the first of a list without repetition stands nowhere else in it
+-- the first of a list without repetition is nowhere else in it
 pub first_apart : {A : Type 0} (x : A) (xs : List A) → AllPairs ◌≢◌ (x ∷ xs) → (y : A) → Contains xs y → x ≢ y
 first_apart x xs apart y has = λ same. apart 0 (suc has.0) y (omega arith) (omega (arith, has.1)) (same ∙ sym has.2)
 

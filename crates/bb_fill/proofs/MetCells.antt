@@ -4,8 +4,8 @@ use Rattle.std.proofs.lemmas.List.{get_or_past, length-map}
 use Rattle.std.proofs.lemmas.List.Elements.{All-cons, All-head, All-nil, All-push}
 use Rattle.bb_bits.specs.Numbers.{number_of}
 use Rattle.bb_bits.specs.Tables.{TableBits, table_bit}
-use Rattle.bb_lists.proofs.Maps.{map-twice}
-use Rattle.bb_lists.proofs.Orders.{less_or_not}
+use Rattle.bb_lemmas.proofs.Maps.{map-twice}
+use Rattle.bb_lemmas.proofs.Orders.{less_or_not}
 use Rattle.bb_net.specs.declared.cell.Cell.{Cell}
 use Rattle.bb_net.specs.declared.cell.Cell.TheVariants as cells
 use Rattle.bb_net.specs.Netlists.{Pins, ReadsBefore, box_at}
@@ -13,14 +13,14 @@ use Rattle.bb_net.specs.Values.{FitBoxes, bit_of, gate, table_at, tabled_bit}
 use Rattle.bb_net.specs.Flats.{FlatNet}
 use Rattle.bb_net.specs.CutPoints.{register_texts}
 use Rattle.std.specs.List.{slice_index_or}
-use Rattle.bb_fill.specs.Words.{Word, Bit, Named, CellNet, cell_word, word_at}
+use Rattle.bb_fill.specs.Words.{NetWord, Bit, Named, CellNet, cell_word, word_at}
 use Rattle.bb_fill.specs.Lines.{Line, Gate, Buf}
 use Rattle.bb_fill.specs.Trees.{tree_lines, tree_values}
-use Rattle.bb_fill.specs.Filled.{cell_lines, first_choice, pin_bits, pin_words}
+use Rattle.bb_fill.specs.Filled.{cell_lines, first_choice, output_pin_words, pin_words}
 use Rattle.bb_fill.specs.Laws.{AreMet, IsMet, TreesChoose, gate_bit}
 use Rattle.bb_fill.proofs.Lists.{all_left, all_right}
 
--- a table has as many input pins as its box, and behind the last box both have none
+-- a table has as many input pins as its box, and after the last box both have none
 abbrev pub TablesFit : List TableBits → List Pins → Type 0
 TablesFit tables boxes = (b : ℕ) → (table_at tables b).inputs ≡ length (box_at boxes b).ins
 
@@ -35,23 +35,23 @@ tables_fit tables boxes fit b = by (less_or_not b (length boxes))
         ∙ sym (ap (λ (p : Pins). length p.ins) (get_or_past boxes b (record { ins = []; outs = [] }) past))
 
 -- the bits of the words of the cells
-abbrev pub word_bit : FlatNet → (Word → Bool) → ℕ → Bool
+abbrev pub word_bit : FlatNet → (NetWord → Bool) → ℕ → Bool
 word_bit f bit k = bit (word_at f k)
 
 -- the lines of the tree of an output pin
 abbrev pub pin_tree : FlatNet → List TableBits → ℕ → ℕ → ℕ → List Line
-pin_tree f tables k b p = tree_lines (pin_words f b) (first_choice f k) (pin_bits tables b p)
+pin_tree f tables k b p = tree_lines (pin_words f b) (first_choice f k) (output_pin_words tables b p)
 
 -- the copy of its value
 abbrev pub pin_copy : FlatNet → List TableBits → ℕ → ℕ → ℕ → Line
-pin_copy f tables k b p = Gate Buf (CellNet k) (tree_values (pin_words f b) (first_choice f k) (pin_bits tables b p))
+pin_copy f tables k b p = Gate Buf (CellNet k) (tree_values (pin_words f b) (first_choice f k) (output_pin_words tables b p))
 
-module _ (f : FlatNet) (tables : List TableBits) (x : List Bool) (bit : Word → Bool) (choose : TreesChoose) (numbers : (b : Bool) → bit (Bit b) ≡ b) (fits : TablesFit tables f.net.boxes) where
+module _ (f : FlatNet) (tables : List TableBits) (x : List Bool) (bit : NetWord → Bool) (choose : TreesChoose) (numbers : (b : Bool) → bit (Bit b) ≡ b) (fits : TablesFit tables f.net.boxes) where
   -- the bit of a cell's gate
   abbrev gate_of : Cell → Bool
   gate_of c = gate f.net.boxes x (tabled_bit tables) (word_bit f bit) c
 
-  tree_bit : (k b p : ℕ) → AreMet bit (pin_tree f tables k b p) → gate_bit Buf (map bit (tree_values (pin_words f b) (first_choice f k) (pin_bits tables b p))) ≡ gate_of (cells.BoxOut b p)
+  tree_bit : (k b p : ℕ) → AreMet bit (pin_tree f tables k b p) → gate_bit Buf (map bit (tree_values (pin_words f b) (first_choice f k) (output_pin_words tables b p))) ≡ gate_of (cells.BoxOut b p)
   tree_bit k b p met =
       let pins = map (word_at f) (box_at f.net.boxes b).ins in
       let found = choose bit numbers (table_at tables b) p (first_choice f k) pins (length-map (box_at f.net.boxes b).ins (word_at f) ∙ sym (fits b)) met in

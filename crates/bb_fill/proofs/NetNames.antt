@@ -4,9 +4,9 @@ use Rattle.std.specs.Prelude.{AllPairs, Contains}
 use Rattle.std.proofs.lemmas.List.Elements.{All-contains, Contains-append_cases, Contains-get_or}
 use Rattle.bb_bits.specs.Earlier.{has_name}
 use Rattle.bb_bits.specs.Names.{same_name}
-use Rattle.bb_lists.proofs.Apart.{pairs_tail}
-use Rattle.bb_lists.proofs.Members.{contains_here, contains_there, either, none_of}
-use Rattle.bb_lists.proofs.Names.{same_equal, same_self}
+use Rattle.bb_lemmas.proofs.Apart.{pairs_tail}
+use Rattle.bb_lemmas.proofs.Members.{contains_here, contains_there, either, none_of}
+use Rattle.bb_lemmas.proofs.Names.{same_equal, same_self}
 use Rattle.bb_net.specs.CutPoints.{register_texts}
 use Rattle.bb_net.specs.Flats.{FlatNet, IsFlat}
 use Rattle.bb_fill.specs.Clashes.{AreNamesApart}

@@ -8,17 +8,17 @@ use Rattle.std.proofs.lemmas.List.Folds.{fold-map}
 use Rattle.std.proofs.lemmas.List.FromFn.{fill_by_all}
 use Rattle.std.proofs.lemmas.List.Sums.{sum_by-le-sum_by}
 use Rattle.bb_bits.specs.Tables.{TableBits}
-use Rattle.bb_lists.proofs.Members.{from_flat, from_map}
-use Rattle.bb_lists.proofs.Ranges.{from_range}
+use Rattle.bb_lemmas.proofs.Members.{from_flat, from_map}
+use Rattle.bb_lemmas.proofs.Ranges.{from_range}
 use Rattle.bb_net.specs.declared.cell.Cell.{Cell}
 use Rattle.bb_net.specs.declared.cell.Cell.TheVariants as cells
 use Rattle.bb_net.specs.CutPoints.{register_texts}
 use Rattle.bb_net.specs.Flats.{FlatNet}
 use Rattle.bb_net.specs.Netlists.{cell_at}
-use Rattle.bb_fill.specs.Words.{Word, Named, texts_of}
+use Rattle.bb_fill.specs.Words.{NetWord, Named, texts_of}
 use Rattle.bb_fill.specs.Filled.{cell_lines, choice_count, filled_lines, lines_of_cells}
 use Rattle.bb_fill.specs.Laws.{IsNumber, IsReady, IsWordOf, WordsAreNets, WordsAreOfNetlist, all_nets, line_words}
-use Rattle.bb_fill.specs.Sizes.{IsSmall, plain_outputs}
+use Rattle.bb_fill.specs.Sizes.{IsSmallText, plain_outputs}
 use Rattle.bb_fill.proofs.Choices.{choices_within}
 use Rattle.bb_fill.proofs.Driven.{IsNetOf, cell_nets, driven_texts, from_nets, nets_of}
 use Rattle.bb_fill.proofs.DrivenOnce.{nets_are, plain_is}
@@ -48,13 +48,13 @@ module _ (f : FlatNet) (tables : List TableBits) (fits : TablesFit tables f.net.
       in
       omega (arith, each, all, length-flat_map (λ k. cell_lines f tables k (cell_at f.net.cells k)) numbers)
 
-module _ (f : FlatNet) (tables : List TableBits) (ready : IsReady f tables) (small : IsSmall f tables) where
-  net_of_netlist : (k : ℕ) → k < length f.net.cells → (word : Word) → IsNetOf f k (cell_at f.net.cells k) word → IsWordOf f word
+module _ (f : FlatNet) (tables : List TableBits) (ready : IsReady f tables) (small : IsSmallText f tables) where
+  net_of_netlist : (k : ℕ) → k < length f.net.cells → (word : NetWord) → IsNetOf f k (cell_at f.net.cells k) word → IsWordOf f word
   net_of_netlist k within word (inl is) = subst (IsWordOf f) (sym is) (omega (arith, within, ready.flat.small.cells))
   net_of_netlist k within word (inr (m, is, from, below)) =
       subst (IsWordOf f) (sym is) (omega (arith, below, choices_within f k within, choices_few f tables (tables_fit tables f.net.boxes ready.fit), small.nets))
 
-  named_of_netlist : (texts : List (List ℕ)) → ((text : List ℕ) → Contains texts text → Contains (texts_of f) text) → (word : Word) → Contains (map Named texts) word → IsWordOf f word
+  named_of_netlist : (texts : List (List ℕ)) → ((text : List ℕ) → Contains texts text → Contains (texts_of f) text) → (word : NetWord) → Contains (map Named texts) word → IsWordOf f word
   named_of_netlist texts there word has = let at = from_map Named texts word has in subst (IsWordOf f) at.2 (there at.0 at.1)
 
   -- an output or a register
@@ -62,18 +62,18 @@ module _ (f : FlatNet) (tables : List TableBits) (ready : IsReady f tables) (sma
   driven_there text (inl plain) = Contains-append_right (f.ins ++ register_texts f) f.outs text (plain_is f text plain).0
   driven_there text (inr register) = Contains-append_left (f.ins ++ register_texts f) f.outs text (Contains-append_right f.ins (register_texts f) text register)
 
-  behind_of_netlist : (word : Word) → Contains (cell_nets f) word ⊎ Contains (map Named (driven_texts f)) word → IsWordOf f word
-  behind_of_netlist word (inl net) =
+  after_of_netlist : (word : NetWord) → Contains (cell_nets f) word ⊎ Contains (map Named (driven_texts f)) word → IsWordOf f word
+  after_of_netlist word (inl net) =
       let at = from_flat (λ k. nets_of f k (cell_at f.net.cells k)) (range_with_len 0 (length f.net.cells)) word net in
       net_of_netlist at.0 (omega (arith, (from_range 0 (length f.net.cells) at.0 at.1).1)) word (from_nets f at.0 (cell_at f.net.cells at.0) word at.2)
-  behind_of_netlist word (inr named) = named_of_netlist (driven_texts f) (λ text has. driven_there text (Contains-append_cases (plain_outputs f) (register_texts f) text has)) word named
+  after_of_netlist word (inr named) = named_of_netlist (driven_texts f) (λ text has. driven_there text (Contains-append_cases (plain_outputs f) (register_texts f) text has)) word named
 
-  part_of_netlist : (word : Word) → Contains (map Named f.ins) word ⊎ Contains (cell_nets f ++ map Named (driven_texts f)) word → IsWordOf f word
+  part_of_netlist : (word : NetWord) → Contains (map Named f.ins) word ⊎ Contains (cell_nets f ++ map Named (driven_texts f)) word → IsWordOf f word
   part_of_netlist word (inl input) =
       named_of_netlist f.ins (λ text has. Contains-append_left (f.ins ++ register_texts f) f.outs text (Contains-append_left f.ins (register_texts f) text has)) word input
-  part_of_netlist word (inr behind) = behind_of_netlist word (Contains-append_cases (cell_nets f) (map Named (driven_texts f)) word behind)
+  part_of_netlist word (inr after) = after_of_netlist word (Contains-append_cases (cell_nets f) (map Named (driven_texts f)) word after)
 
-  word_of_netlist : (word : Word) → IsNumber word ⊎ Contains (all_nets f tables) word → IsWordOf f word
+  word_of_netlist : (word : NetWord) → IsNumber word ⊎ Contains (all_nets f tables) word → IsWordOf f word
   word_of_netlist word (inl number) = subst (IsWordOf f) (sym number.1) tt
   word_of_netlist word (inr net) =
       part_of_netlist word (Contains-append_cases (map Named f.ins) (cell_nets f ++ map Named (driven_texts f)) word (subst (λ l. Contains l word) (nets_are f tables ready) net))

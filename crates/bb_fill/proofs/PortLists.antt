@@ -3,10 +3,10 @@ use Rattle.std.proofs.Common.{◌≡◌, ◌∙◌, ℕ, ◌+◌, ◌<◌, Bool,
 use Rattle.std.specs.List.{flat_map}
 use Rattle.std.proofs.lemmas.List.{take_more}
 use Rattle.bb_fill.specs.Words.{printed}
-use Rattle.bb_fill.specs.Lines.{joined}
+use Rattle.bb_fill.specs.Lines.{with_commas}
 use Rattle.bb_fill.specs.Inside.Ports.{begun_after, port_texts}
-use Rattle.bb_fill.specs.Inside.Sheets.{Writing, Adds}
-use Rattle.bb_fill.proofs.Sheets.{same, both}
+use Rattle.bb_fill.specs.Inside.TextBuffers.{Writing, Adds}
+use Rattle.bb_fill.proofs.TextBuffers.{same, both}
 
 abbrev comma : Bool → List ℕ
 comma begun = if begun then codes "," else []
@@ -37,13 +37,13 @@ after_more begun xs i x within at = sym (ap (begun_after begun) (take_more xs i 
 
 -- all names
 
-behind : (xs : List (List ℕ)) → port_texts true xs ≡ flat_map (λ other. codes "," ++ other) (map printed xs)
-behind [] = refl
-behind (x ∷ xs) = ap (λ t. (codes "," ++ printed x) ++ t) (behind xs)
+afterwards : (xs : List (List ℕ)) → port_texts true xs ≡ flat_map (λ other. codes "," ++ other) (map printed xs)
+afterwards [] = refl
+afterwards (x ∷ xs) = ap (λ t. (codes "," ++ printed x) ++ t) (afterwards xs)
 
-all_joined : (xs : List (List ℕ)) → port_texts false xs ≡ joined (map printed xs)
+all_joined : (xs : List (List ℕ)) → port_texts false xs ≡ with_commas (map printed xs)
 all_joined [] = refl
-all_joined (x ∷ xs) = ap (λ t. printed x ++ t) (behind xs)
+all_joined (x ∷ xs) = ap (λ t. printed x ++ t) (afterwards xs)
 
-pub ports_joined : (xs ys : List (List ℕ)) → port_texts false xs ++ port_texts (begun_after false xs) ys ≡ joined (map printed (xs ++ ys))
+pub ports_joined : (xs ys : List (List ℕ)) → port_texts false xs ++ port_texts (begun_after false xs) ys ≡ with_commas (map printed (xs ++ ys))
 ports_joined xs ys = sym (ports-append false xs ys) ∙ all_joined (xs ++ ys)

@@ -4,19 +4,19 @@ use Rattle.std.specs.List.{filter, flat_map, range_with_len}
 use Rattle.std.proofs.lemmas.Grind.{flat_map-append}
 use Rattle.std.proofs.lemmas.List.{append-nil, length-map, length-reverse}
 use Rattle.std.proofs.lemmas.List.FromFn.{length-range_with_len}
-use Rattle.bb_lists.proofs.Ranges.{range_last_from_zero}
+use Rattle.bb_lemmas.proofs.Ranges.{range_last_from_zero}
 use Rattle.bb_bits.specs.Tables.{TableBits, table_bit}
 use Rattle.bb_net.specs.declared.cell.Cell.TheVariants.{BoxOut}
 use Rattle.bb_net.specs.Netlists.{box_at}
 use Rattle.bb_net.specs.Values.{table_at}
 use Rattle.bb_net.specs.Flats.{FlatNet}
-use Rattle.bb_fill.specs.Words.{Word, Bit, ChoiceNet, CellNet, word_at}
+use Rattle.bb_fill.specs.Words.{NetWord, Bit, ChoiceNet, CellNet, word_at}
 use Rattle.bb_fill.specs.Lines.{Line, Gate, Buf}
 use Rattle.bb_fill.specs.Trees.{column, halved, choice_nets, tree_lines, tree_values}
-use Rattle.bb_fill.specs.Filled.{cell_lines, choice_count, first_choice, lines_of_cells, pin_bits, pin_words}
-use Rattle.bb_fill.specs.Sizes.{cell_count, makes_cell, net_count}
+use Rattle.bb_fill.specs.Filled.{cell_lines, choice_count, first_choice, lines_of_cells, output_pin_words, pin_words}
+use Rattle.bb_fill.specs.Sizes.{filled_cell_count, makes_cell, net_count}
 
-halved-length : (pin : Word) (k n : ℕ) (values : List Word) → length values ≡ 2 * n → length (halved pin k values) ≡ n
+halved-length : (pin : NetWord) (k n : ℕ) (values : List NetWord) → length values ≡ 2 * n → length (halved pin k values) ≡ n
 halved-length pin k n [] long = omega (arith, long)
 halved-length pin k n (v ∷ []) long = absurd (omega (arith, long))
 halved-length pin k zero (low ∷ high ∷ values) long = absurd (omega (arith, long))
@@ -26,7 +26,7 @@ pub nets-length : (k n : ℕ) → length (choice_nets k n) ≡ n
 nets-length k n = length-map (range_with_len 0 n) (λ i. ChoiceNet (k + i)) ∙ length-range_with_len 0 n
 
 -- a tree has a choice less than values
-pub tree-length : (pins : List Word) (k : ℕ) (values : List Word) → length values ≡ 2 ^ length pins → length (tree_lines pins k values) + 1 ≡ 2 ^ length pins
+pub tree-length : (pins : List NetWord) (k : ℕ) (values : List NetWord) → length values ≡ 2 ^ length pins → length (tree_lines pins k values) + 1 ≡ 2 ^ length pins
 tree-length [] k values long = omega arith
 tree-length (pin ∷ pins) k values long =
     let twice : 2 ^ suc (length pins) ≡ 2 * 2 ^ length pins = omega arith in
@@ -47,8 +47,8 @@ pub pin-length : (f : FlatNet) (tables : List TableBits) (k b p : ℕ) → (tabl
 pin-length f tables k b p fit =
     let pins = pin_words f b in
     let long : 2 ^ length pins ≡ 2 ^ (table_at tables b).inputs = ap (λ n. 2 ^ n) (pins-length f b ∙ sym fit) in
-    let tree = tree-length pins (first_choice f k) (pin_bits tables b p) (column-length (table_at tables b) p ∙ sym long) in
-    omega (arith, long, tree, length-append (tree_lines pins (first_choice f k) (pin_bits tables b p)) (Gate Buf (CellNet k) (tree_values pins (first_choice f k) (pin_bits tables b p)) ∷ []))
+    let tree = tree-length pins (first_choice f k) (output_pin_words tables b p) (column-length (table_at tables b) p ∙ sym long) in
+    omega (arith, long, tree, length-append (tree_lines pins (first_choice f k) (output_pin_words tables b p)) (Gate Buf (CellNet k) (tree_values pins (first_choice f k) (output_pin_words tables b p)) ∷ []))
 
 pub pin_choices : (f : FlatNet) (tables : List TableBits) (k b p : ℕ) → (table_at tables b).inputs ≡ length (box_at f.net.boxes b).ins → choice_count f.net.boxes (BoxOut b p) ≤ 2 ^ (table_at tables b).inputs
 pin_choices f tables k b p fit = let same : 2 ^ (table_at tables b).inputs ≡ 2 ^ length (box_at f.net.boxes b).ins = ap (λ n. 2 ^ n) fit in omega (arith, same)
@@ -70,5 +70,5 @@ filter-few p (x ∷ xs) = by (filter-few p xs) (p x) refl
     by rest false e = rw e (omega (arith, rest))
 
 -- no more cells are made than there are nets, but for two
-pub cells_few : (f : FlatNet) (tables : List TableBits) → cell_count f tables ≤ net_count f tables + 2
+pub cells_few : (f : FlatNet) (tables : List TableBits) → filled_cell_count f tables ≤ net_count f tables + 2
 cells_few f tables = omega (arith, filter-few makes_cell (lines_of_cells f tables))

@@ -8,21 +8,21 @@ use Rattle.std.proofs.lemmas.List.Elements.{All-append, All-cons, All-map, All-n
 use Rattle.std.proofs.lemmas.List.FromFn.{length-range_with_len}
 use Rattle.bb_bits.specs.Earlier.{has_name}
 use Rattle.bb_bits.specs.Tables.{TableBits, table_bit}
-use Rattle.bb_lists.proofs.Maps.{map-twice, reverse-map}
-use Rattle.bb_lists.proofs.Orders.{less_or_not}
+use Rattle.bb_lemmas.proofs.Maps.{map-twice, reverse-map}
+use Rattle.bb_lemmas.proofs.Orders.{less_or_not}
 use Rattle.bb_net.specs.declared.cell.Cell.{Cell}
 use Rattle.bb_net.specs.declared.cell.Cell.TheVariants as cells
 use Rattle.bb_net.specs.declared.flat.Reg.{Reg as Register}
-use Rattle.bb_net.specs.Agreement.{out_bit}
+use Rattle.bb_net.specs.Equivalence.{out_bit}
 use Rattle.bb_net.specs.CutPoints.{register_texts}
 use Rattle.bb_net.specs.Flats.{FlatNet}
 use Rattle.bb_net.specs.Netlists.{IsOrdered, Netlist, ReadsBefore, box_at, cell_at}
 use Rattle.bb_net.specs.Values.{IsValue, bit_of, flat_with, gate, table_at, tabled_bit, value_of}
-use Rattle.bb_fill.specs.Words.{Word, Bit, Named, CellNet, ChoiceNet, cell_word, word_at}
+use Rattle.bb_fill.specs.Words.{NetWord, Bit, Named, CellNet, ChoiceNet, cell_word, word_at}
 use Rattle.bb_fill.specs.Lines.{Module, Input, Output, Reg, Gate, Buf}
 use Rattle.bb_fill.specs.Trees.{column}
-use Rattle.bb_fill.specs.Filled.{cell_lines, choice_count, filled_lines, first_choice, output_lines, output_text, pin_bits, pin_words, register_line, register_lines}
-use Rattle.bb_fill.specs.Laws.{AreMet, Gives, IsMet, IsReady, LinesCanBeMet, TreesChoose}
+use Rattle.bb_fill.specs.Filled.{cell_lines, choice_count, filled_lines, first_choice, output_lines, output_text, output_pin_words, pin_words, register_line, register_lines}
+use Rattle.bb_fill.specs.Laws.{AreMet, GivesBitsOf, IsMet, IsReady, LinesCanBeMet, TreesChoose}
 use Rattle.bb_fill.proofs.ChoiceBits.{choice_bits, choice_bits-length, tree_met}
 use Rattle.bb_fill.proofs.LineBits.{word_past}
 use Rattle.bb_fill.proofs.LineParts.{all_parts, declarations}
@@ -45,7 +45,7 @@ abbrev all_choices : FlatNet → List TableBits → List Bool → List Bool
 all_choices f tables value = flat_map (cell_choices f tables value) f.net.cells
 
 -- the bit of each word at a vector
-abbrev bit_at : FlatNet → List TableBits → List Bool → Word → Bool
+abbrev bit_at : FlatNet → List TableBits → List Bool → NetWord → Bool
 bit_at f tables x (Bit b) = b
 bit_at f tables x (Named name) = bit_called (f.ins ++ register_texts f) (bit_of x) (bit_called f.outs (out_bit f.net (flat_with f.net x tables)) false name) name
 bit_at f tables x (CellNet number) = bit_of (flat_with f.net x tables) number
@@ -83,7 +83,7 @@ module _ (f : FlatNet) (tables : List TableBits) (value : List Bool) (fits : Tab
       ap (λ n. bit_of (all_choices f tables value) (n + j)) before ∙ get_or-flat_map (cell_choices f tables value) f.net.cells k j (cells.Const false) false within inside
 
 module _ (f : FlatNet) (tables : List TableBits) (ready : IsReady f tables) (x : List Bool) (is_value : IsValue f.net x (tabled_bit tables) (flat_with f.net x tables)) where
-  abbrev bit : Word → Bool
+  abbrev bit : NetWord → Bool
   bit = bit_at f tables x
 
   abbrev value : List Bool
@@ -120,11 +120,11 @@ module _ (f : FlatNet) (tables : List TableBits) (ready : IsReady f tables) (x :
       let pins : map bit (pin_words f b) ≡ reverse (map (bit_of value) ins) =
       reverse-map bit (map (word_at f) ins) ∙ ap reverse (map-twice (word_at f) bit ins ∙ ap (λ g. map g ins) (λ i k. word_is k i))
       in
-      let same : cell_choices f tables value (cell_at f.net.cells k) ≡ choice_bits (map bit (pin_words f b)) (map bit (pin_bits tables b p)) =
+      let same : cell_choices f tables value (cell_at f.net.cells k) ≡ choice_bits (map bit (pin_words f b)) (map bit (output_pin_words tables b p)) =
       ap (cell_choices f tables value) is ∙ sym (ap₂ choice_bits pins (bits_are bit (λ v. refl) (column t p)))
       in
-      let long : length (pin_bits tables b p) ≡ 2 ^ length (pin_words f b) = column-length t p ∙ ap (λ n. 2 ^ n) (tables_fit tables f.net.boxes ready.fit b ∙ sym (pins-length f b)) in
-      tree_met bit (pin_words f b) (first_choice f k) (pin_bits tables b p) long
+      let long : length (output_pin_words tables b p) ≡ 2 ^ length (pin_words f b) = column-length t p ∙ ap (λ n. 2 ^ n) (tables_fit tables f.net.boxes ready.fit b ∙ sym (pins-length f b)) in
+      tree_met bit (pin_words f b) (first_choice f k) (output_pin_words tables b p) long
       (subst (λ l. (j : ℕ) → j < length l → bit_of (all_choices f tables value) (first_choice f k + j) ≡ bit_of l j) same (λ j lt. choices_at f tables value (tables_fit tables f.net.boxes ready.fit) k j within lt))
 
   cell_is_met : TreesChoose → (k : ℕ) → k < length f.net.cells → AreMet bit (cell_lines f tables k (cell_at f.net.cells k))
@@ -156,7 +156,7 @@ module _ (f : FlatNet) (tables : List TableBits) (ready : IsReady f tables) (x :
       (All-append (IsMet bit) (map Input f.ins ++ map Output f.outs) (map Reg (register_texts f))
       (All-append (IsMet bit) (map Input f.ins) (map Output f.outs) (All-map (IsMet bit) Input f.ins (λ k d lt. tt)) (All-map (IsMet bit) Output f.outs (λ k d lt. tt))) (All-map (IsMet bit) Reg (register_texts f) (λ k d lt. tt)))
 
-  some_bits : TreesChoose → (bit : Word → Bool) × Gives f x bit × AreMet bit (filled_lines f tables)
+  some_bits : TreesChoose → (bit : NetWord → Bool) × GivesBitsOf f x bit × AreMet bit (filled_lines f tables)
   some_bits choose =
       (bit_at f tables x, record { numbers = λ b. refl; inputs = input_bit }, all_parts (IsMet bit) f tables declarations_are_met (cell_is_met choose) output_is_met (register_is_met 0 f.regs) tt)
 

@@ -3,7 +3,7 @@ use Rattle.std.proofs.Common.{◌≡◌, ◌∙◌, ℕ, ◌+◌, ◌<◌, ◌==
 use Rattle.std.proofs.lemmas.List.{drop_more, map-append, take_more}
 use Rattle.std.proofs.lemmas.Simd.{map-map}
 use Rattle.bb_net.specs.declared.flat.Reg.{Reg}
-use Rattle.bb_fill.specs.Words.{greatest, leading}
+use Rattle.bb_fill.specs.Words.{maximum, leading}
 
 begins : (x : ℕ) (xs : List ℕ) (b : Bool) → (x == 95) ≡ b → leading (x ∷ xs) ≡ (if b then 1 + leading xs else 0)
 begins x xs b e = ap (λ c. if c then 1 + leading xs else 0) e
@@ -18,23 +18,23 @@ leading_ends bytes i x within at is before =
     let rest = ap leading (drop_more bytes i x within ∙ ap (λ y. y ∷ drop (i + 1) bytes) (sym at)) ∙ begins x (drop (i + 1) bytes) false is in
     omega (arith, before, rest)
 
-pub greatest-append : (xs ys : List ℕ) → greatest (xs ++ ys) ≡ max (greatest xs) (greatest ys)
-greatest-append [] ys = omega arith
-greatest-append (x ∷ xs) ys = let rest = greatest-append xs ys in omega (arith, rest)
+pub maximum-append : (xs ys : List ℕ) → maximum (xs ++ ys) ≡ max (maximum xs) (maximum ys)
+maximum-append [] ys = omega arith
+maximum-append (x ∷ xs) ys = let rest = maximum-append xs ys in omega (arith, rest)
 
-pub greatest_more : {X : Type 0} (f : X → ℕ) (xs : List X) (i : ℕ) (x : X) (most first : ℕ) → i < length xs → x ≡ get_or xs i x → most ≡ max first (greatest (map f (take i xs)))
-    → max most (f x) ≡ max first (greatest (map f (take (i + 1) xs)))
+pub greatest_more : {X : Type 0} (f : X → ℕ) (xs : List X) (i : ℕ) (x : X) (most first : ℕ) → i < length xs → x ≡ get_or xs i x → most ≡ max first (maximum (map f (take i xs)))
+    → max most (f x) ≡ max first (maximum (map f (take (i + 1) xs)))
 greatest_more f xs i x most first within at before =
     let more : take (i + 1) xs ≡ take i xs ++ x ∷ [] = take_more xs i x within ∙ ap (λ y. take i xs ++ y ∷ []) (sym at) in
-    let rest = ap (λ l. greatest (map f l)) more ∙ ap greatest (map-append f (take i xs) (x ∷ [])) ∙ greatest-append (map f (take i xs)) (f x ∷ []) in
+    let rest = ap (λ l. maximum (map f l)) more ∙ ap maximum (map-append f (take i xs) (x ∷ [])) ∙ maximum-append (map f (take i xs)) (f x ∷ []) in
     omega (arith, before, rest)
 
 -- the greatest number over all texts
-pub stem_is : (ins outs : List (List ℕ)) (regs : List Reg) (one two three : ℕ) → one ≡ max 0 (greatest (map leading ins)) → two ≡ max one (greatest (map (λ (r : Reg). leading r.text) regs)) → three ≡ max two (greatest (map leading outs))
-    → three ≡ greatest (map leading (ins ++ map (λ (r : Reg). r.text) regs ++ outs))
+pub stem_is : (ins outs : List (List ℕ)) (regs : List Reg) (one two three : ℕ) → one ≡ max 0 (maximum (map leading ins)) → two ≡ max one (maximum (map (λ (r : Reg). leading r.text) regs)) → three ≡ max two (maximum (map leading outs))
+    → three ≡ maximum (map leading (ins ++ map (λ (r : Reg). r.text) regs ++ outs))
 stem_is ins outs regs one two three first second third =
     let texts = map (λ (r : Reg). r.text) regs in
-    let split : greatest (map leading (ins ++ texts ++ outs)) ≡ max (greatest (map leading (ins ++ texts))) (greatest (map leading outs)) = ap greatest (map-append leading (ins ++ texts) outs) ∙ greatest-append (map leading (ins ++ texts)) (map leading outs) in
-    let front : greatest (map leading (ins ++ texts)) ≡ max (greatest (map leading ins)) (greatest (map leading texts)) = ap greatest (map-append leading ins texts) ∙ greatest-append (map leading ins) (map leading texts) in
-    let inner : greatest (map leading texts) ≡ greatest (map (λ (r : Reg). leading r.text) regs) = ap greatest (map-map leading (λ (r : Reg). r.text) regs) in
-    omega (arith, first, second, third, split, front, inner)
+    let split : maximum (map leading (ins ++ texts ++ outs)) ≡ max (maximum (map leading (ins ++ texts))) (maximum (map leading outs)) = ap maximum (map-append leading (ins ++ texts) outs) ∙ maximum-append (map leading (ins ++ texts)) (map leading outs) in
+    let prefix : maximum (map leading (ins ++ texts)) ≡ max (maximum (map leading ins)) (maximum (map leading texts)) = ap maximum (map-append leading ins texts) ∙ maximum-append (map leading ins) (map leading texts) in
+    let inner : maximum (map leading texts) ≡ maximum (map (λ (r : Reg). leading r.text) regs) = ap maximum (map-map leading (λ (r : Reg). r.text) regs) in
+    omega (arith, first, second, third, split, prefix, inner)

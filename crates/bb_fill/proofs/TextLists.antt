@@ -11,8 +11,8 @@ use Rattle.bb_net.specs.CutPoints.{register_texts}
 use Rattle.bb_fill.specs.Words.{printed}
 use Rattle.bb_fill.specs.Lines.{Line, Module, Input, Output, Reg, End, line_text}
 use Rattle.bb_fill.specs.Filled.{filled_lines, lines_of_cells, output_lines, register_line, register_lines}
-use Rattle.bb_fill.specs.Inside.Sheets.{Writing, Adds}
-use Rattle.bb_fill.proofs.Sheets.{both, same}
+use Rattle.bb_fill.specs.Inside.TextBuffers.{Writing, Adds}
+use Rattle.bb_fill.proofs.TextBuffers.{both, same}
 
 pub three_parts : {A : Type 0} (f : Line → List A) (a b c : List Line) → flat_map f (a ++ b ++ c) ≡ flat_map f a ++ flat_map f b ++ flat_map f c
 three_parts f a b c = flat_map-append f (a ++ b) c ∙ ap (λ t. t ++ flat_map f c) (flat_map-append f a b)

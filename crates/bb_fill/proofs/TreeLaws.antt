@@ -6,14 +6,14 @@ use Rattle.std.proofs.lemmas.List.Elements.{All-head, All-tail}
 use Rattle.std.proofs.lemmas.List.FromFn.{get_or-map-range_with_len, length-range_with_len}
 use Rattle.bb_bits.specs.Numbers.{number_of}
 use Rattle.bb_bits.specs.Tables.{table_bit}
-use Rattle.bb_fill.specs.Words.{Word, Bit, ChoiceNet}
+use Rattle.bb_fill.specs.Words.{NetWord, Bit, ChoiceNet}
 use Rattle.bb_fill.specs.Lines.{Assign}
 use Rattle.bb_fill.specs.Trees.{choice_nets, column, halved, tree_lines, tree_values}
 use Rattle.bb_fill.specs.Laws.{AreMet, IsMet, TreesChoose}
 use Rattle.bb_fill.proofs.Lists.{all_left, all_right}
 use Rattle.bb_fill.proofs.SizeLemmas.{column-length}
 
--- one more bit behind others doubles their number and adds the bit
+-- one more bit after others doubles their number and adds the bit
 abbrev pub NumbersDouble : Type 0
 NumbersDouble = (bits : List Bool) (b : Bool) → number_of (bits ++ b ∷ []) ≡ 2 * number_of bits + (if b then 1 else 0)
 
@@ -42,9 +42,9 @@ nets_from k a (suc n) =
     let at : k + (a + 1) ≡ k + 1 + a = omega arith in
     ap₂ (λ j l. ChoiceNet j ∷ l) at (nets_from k (a + 1) n)
 
-module _ (bit : Word → Bool) where
+module _ (bit : NetWord → Bool) where
   -- where a level is met, its nets have the bits that its pin picks
-  level_picks : (pin : Word) (k n : ℕ) (values : List Word) → length values ≡ 2 * n → AreMet bit (halved pin k values) → map bit (choice_nets k n) ≡ picked (bit pin) (map bit values)
+  level_picks : (pin : NetWord) (k n : ℕ) (values : List NetWord) → length values ≡ 2 * n → AreMet bit (halved pin k values) → map bit (choice_nets k n) ≡ picked (bit pin) (map bit values)
   level_picks pin k zero [] long met = refl
   level_picks pin k (suc n) [] long met = absurd (omega (arith, long))
   level_picks pin k n (v ∷ []) long met = absurd (omega (arith, long))
@@ -55,17 +55,17 @@ module _ (bit : Word → Bool) where
       ap₂ ◌∷◌ (ap (λ j. bit (ChoiceNet j)) first ∙ All-head (IsMet bit) (Assign (ChoiceNet k) pin high low) rest met)
       (ap (map bit) (nets_from k 0 n) ∙ level_picks pin (k + 1) n values (omega (arith, long)) (All-tail (IsMet bit) (Assign (ChoiceNet k) pin high low) rest met))
 
-  one_value : (values : List Word) → length values ≡ 1 → (value : Word) × (values ≡ value ∷ []) × (bit value ≡ slice_index_or (map bit values) 0 false)
+  one_value : (values : List NetWord) → length values ≡ 1 → (value : NetWord) × (values ≡ value ∷ []) × (bit value ≡ slice_index_or (map bit values) 0 false)
   one_value (v ∷ []) long = (v, refl, refl)
   one_value [] long = absurd (omega (arith, long))
   one_value (v ∷ w ∷ values) long = absurd (omega (arith, long))
 
-  number_behind : NumbersDouble → (pin : Word) (pins : List Word) → number_of (map bit (reverse (pin ∷ pins))) ≡ 2 * number_of (map bit (reverse pins)) + (if bit pin then 1 else 0)
-  number_behind double pin pins =
+  number_after_digits : NumbersDouble → (pin : NetWord) (pins : List NetWord) → number_of (map bit (reverse (pin ∷ pins))) ≡ 2 * number_of (map bit (reverse pins)) + (if bit pin then 1 else 0)
+  number_after_digits double pin pins =
       ap (λ l. number_of (map bit l)) (reverse-append (pin ∷ []) pins) ∙ ap number_of (map-append bit (reverse pins) (pin ∷ [])) ∙ double (map bit (reverse pins)) (bit pin)
 
-  chooses : NumbersDouble → (pins : List Word) (k : ℕ) (values : List Word) → length values ≡ 2 ^ length pins → AreMet bit (tree_lines pins k values)
-      → (value : Word) × (tree_values pins k values ≡ value ∷ []) × (bit value ≡ slice_index_or (map bit values) (number_of (map bit (reverse pins))) false)
+  chooses : NumbersDouble → (pins : List NetWord) (k : ℕ) (values : List NetWord) → length values ≡ 2 ^ length pins → AreMet bit (tree_lines pins k values)
+      → (value : NetWord) × (tree_values pins k values ≡ value ∷ []) × (bit value ≡ slice_index_or (map bit values) (number_of (map bit (reverse pins))) false)
   chooses double [] k values long met = one_value values long
   chooses double (pin ∷ pins) k values long met =
       let n = length values / 2 in
@@ -73,16 +73,16 @@ module _ (bit : Word → Bool) where
       let half : n ≡ 2 ^ length pins = omega (arith, long, twice) in
       let even : length values ≡ 2 * n = omega (arith, long, twice, half) in
       let level = halved pin k values in
-      let behind = tree_lines pins (k + n) (choice_nets k n) in
+      let after = tree_lines pins (k + n) (choice_nets k n) in
       let nets : length (choice_nets k n) ≡ 2 ^ length pins = length-map (range_with_len 0 n) (λ i. ChoiceNet (k + i)) ∙ length-range_with_len 0 n ∙ half in
-      let rest = chooses double pins (k + n) (choice_nets k n) nets (all_right (IsMet bit) level behind met) in
+      let rest = chooses double pins (k + n) (choice_nets k n) nets (all_right (IsMet bit) level after met) in
       let m = number_of (map bit (reverse pins)) in
       let bits : length (map bit values) ≡ 2 * n = length-map values bit ∙ even in (
         rest.0,
         rest.1,
-        rest.2 ∙ ap (λ l. slice_index_or l m false) (level_picks pin k n values even (all_left (IsMet bit) level behind met))
+        rest.2 ∙ ap (λ l. slice_index_or l m false) (level_picks pin k n values even (all_left (IsMet bit) level after met))
             ∙ picked-at (bit pin) n (map bit values) m bits
-            ∙ sym (ap (λ j. slice_index_or (map bit values) j false) (number_behind double pin pins)),
+            ∙ sym (ap (λ j. slice_index_or (map bit values) j false) (number_after_digits double pin pins)),
       )
 
   pub bits_are : ((b : Bool) → bit (Bit b) ≡ b) → (bits : List Bool) → map bit (map Bit bits) ≡ bits

@@ -4,27 +4,27 @@ use Rattle.std.specs.Prelude.{decimal}
 use Rattle.std.proofs.lemmas.Fmt.{decimal_by_steps, decimal_injective}
 use Rattle.std.proofs.lemmas.List.{append_assoc, get_or_append_left, length-append}
 use Rattle.std.proofs.lemmas.Option.{same_Some}
-use Rattle.bb_lists.proofs.Members.{contains_cases}
+use Rattle.bb_lemmas.proofs.Members.{contains_cases}
 use Rattle.bb_net.specs.Flats.{FlatNet}
-use Rattle.bb_fill.specs.Words.{Word, Bit, Named, CellNet, ChoiceNet, greatest, leading, stem_of, texts_of}
+use Rattle.bb_fill.specs.Words.{NetWord, Bit, Named, CellNet, ChoiceNet, maximum, leading, stem_of, texts_of}
 use Rattle.bb_fill.specs.Laws.{IsWordOf, WordsAreApart, identifier}
 
 leading_run : (n : ℕ) (rest : List ℕ) → n ≤ leading (replicate n 95 ++ rest)
 leading_run zero rest = omega arith
 leading_run (suc n) rest = let more = leading_run n rest in omega (arith, more)
 
-greatest_of : (texts : List (List ℕ)) (text : List ℕ) → Contains texts text → leading text ≤ greatest (map leading texts)
+greatest_of : (texts : List (List ℕ)) (text : List ℕ) → Contains texts text → leading text ≤ maximum (map leading texts)
 greatest_of [] text has = absurd (omega (arith, has.1))
 greatest_of (t ∷ texts) text has = by (contains_cases t texts text has) (greatest_of texts text)
   where
-    by : (t ≡ text) ⊎ Contains texts text → (Contains texts text → leading text ≤ greatest (map leading texts)) → leading text ≤ max (leading t) (greatest (map leading texts))
+    by : (t ≡ text) ⊎ Contains texts text → (Contains texts text → leading text ≤ maximum (map leading texts)) → leading text ≤ max (leading t) (maximum (map leading texts))
     by (inl is) rest = let same : leading t ≡ leading text = ap leading is in omega (arith, same)
     by (inr more) rest = let below = rest more in omega (arith, below)
 
 -- no text begins as nets do
 not_net : (f : FlatNet) (text rest : List ℕ) → Contains (texts_of f) text → text ≡ stem_of f ++ rest → ⊥
 not_net f text rest has is =
-    let n = greatest (map leading (texts_of f)) in
+    let n = maximum (map leading (texts_of f)) in
     let long : leading text ≡ leading (replicate (n + 1) 95 ++ rest) = ap leading is in
     omega (arith, greatest_of (texts_of f) text has, leading_run (n + 1) rest, long)
 
@@ -45,7 +45,7 @@ not_choice stem m n small e =
     let first : get_or (decimal m) 0 0 ≡ 116 = ap (λ l. get_or l 0 0) same in
     omega (arith, first, (digit_first m small).1)
 
-apart : (f : FlatNet) (one other : Word) (name : List ℕ) → IsWordOf f one → IsWordOf f other → identifier (stem_of f) one ≡ Some name → identifier (stem_of f) other ≡ Some name → one ≡ other
+apart : (f : FlatNet) (one other : NetWord) (name : List ℕ) → IsWordOf f one → IsWordOf f other → identifier (stem_of f) one ≡ Some name → identifier (stem_of f) other ≡ Some name → one ≡ other
 apart f (Bit b) other name p q e h = absurd (true≢false (sym (ap is_some e)))
 apart f one (Bit b) name p q e h = absurd (true≢false (sym (ap is_some h)))
 apart f (Named a) (Named b) name p q e h = ap Named (same_Some a name e ∙ sym (same_Some b name h))

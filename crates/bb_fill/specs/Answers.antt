@@ -1,4 +1,5 @@
--- What is answered when a netlist is to be filled: a name that clashes; or else that the text would be too large; or else the text.
+-- The answer when a netlist is to be filled: a name that clashes; or else that the text would be too large; or else the
+-- text.
 use Rattle.std.specs.Prelude.{◌≡◌, ℕ, List, Option, Some, None, Result, Ok, Err, Vec}
 use Rattle.std.specs.declared.alloc.Global.{Global}
 use Rattle.bb_bits.specs.Tables.{TableBits}
@@ -7,7 +8,7 @@ use Rattle.bb_fill.specs.declared.fault.FillFault.{FillFault}
 use Rattle.bb_fill.specs.declared.fault.FillFault.TheVariants as faults
 use Rattle.bb_fill.specs.Filled.{filled_text}
 use Rattle.bb_fill.specs.Clashes.{AreNamesApart, IsClash}
-use Rattle.bb_fill.specs.Sizes.{IsSmall, IsTooLarge}
+use Rattle.bb_fill.specs.Sizes.{IsSmallText, IsTooLargeText}
 
 pub data Answer : Type 0 where
   Clash : List ℕ → Answer
@@ -15,12 +16,12 @@ pub data Answer : Type 0 where
   Text : List ℕ → Answer
 
 -- the answer to a netlist with these tables, one for each box
-pub data MayFill (f : FlatNet) (tables : List TableBits) (answer : Answer) : Type 0 where
-  Clashes : (name : List ℕ) → IsClash f name → answer ≡ Clash name → MayFill f tables answer
-  IsLarge : AreNamesApart f → IsTooLarge f tables → answer ≡ TooLarge → MayFill f tables answer
-  IsFilled : AreNamesApart f → IsSmall f tables → answer ≡ Text (filled_text f tables) → MayFill f tables answer
+pub data IsFillAnswer (f : FlatNet) (tables : List TableBits) (answer : Answer) : Type 0 where
+  Clashes : (name : List ℕ) → IsClash f name → answer ≡ Clash name → IsFillAnswer f tables answer
+  IsLarge : AreNamesApart f → IsTooLargeText f tables → answer ≡ TooLarge → IsFillAnswer f tables answer
+  IsFilled : AreNamesApart f → IsSmallText f tables → answer ≡ Text (filled_text f tables) → IsFillAnswer f tables answer
 
--- what a result answers; want of memory is no answer
+-- the answer of a result; lack of memory is none
 abbrev pub answer_of : Result (Vec ℕ Global) FillFault → Option Answer
 answer_of (Ok text) = Some (Text text.items)
 answer_of (Err (faults.Clash name)) = Some (Clash name)

@@ -1,7 +1,7 @@
--- When no filled text is made because of its names. In one module a name stands for one thing (IEEE 1364-2005, 4.11), but the inputs, the
--- registers and the outputs of a netlist are called from three lists. An input's text must be no register's and no output's. An output
--- may have the text of a register where it is that register; else their texts must differ too. The first text that is wrong is
--- told, inputs before outputs.
+-- When no filled text is made because of its names. In one module a name means one thing (IEEE 1364-2005, 4.11), but
+-- the inputs, the registers and the outputs of a netlist are named by three lists. An input's text must be no
+-- register's and no output's. An output may have the text of a register where it is that register; else their texts
+-- must differ too. The first text that breaks this is reported, inputs before outputs.
 use Rattle.std.specs.Prelude.{◌≡◌, ◌≢◌, ◌⊎◌, ℕ, ◌+◌, ◌<◌, List, [], length, All, Contains, slice_index}
 use Rattle.std.specs.List.{range_with_len, slice_index_or}
 use Rattle.bb_bits.specs.Closures.{IsFirst}
@@ -48,7 +48,7 @@ pub record AreNamesApart (f : FlatNet) : Type 0 where
   pub inputs : AreInputsApart f
   pub outputs : All (IsItsRegister f) (output_numbers f)
 
--- a name clashes, and this one is told
+-- a name clashes, and this one is reported
 pub data IsClash (f : FlatNet) (name : List ℕ) : Type 0 where
   InputClashes : IsFirst (IsInputClash f) f.ins name → IsClash f name
   OutputClashes : (o : ℕ) → AreInputsApart f → IsFirst (IsOutputClash f) (output_numbers f) o → name ≡ output_text f o → IsClash f name

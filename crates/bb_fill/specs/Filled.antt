@@ -1,6 +1,7 @@
--- The filled text: one module in Verilog for a flat netlist whose boxes hold tables. Its ports are the inputs and the outputs of the netlist
--- and its registers are registers. A gate stands for each gate of the netlist, a conditional for each multiplexer, and for each output pin of a
--- box a tree of choices over the table of the box. An output is a copy of its cell, or the register of the same text.
+-- The filled text: one module in Verilog for a flat netlist whose boxes hold tables. Its ports are the inputs and the
+-- outputs of the netlist and its registers are registers. A gate implements each gate of the netlist, a conditional
+-- each multiplexer, and a tree of choices over its table each output pin of a box. An output is a buffer of its cell,
+-- or the register of the same text.
 use Rattle.std.specs.Prelude.{ℕ, ◌+◌, ◌-◌, ◌^◌, if◌then◌else◌, List, [], ◌∷◌, ◌++◌, length, map, take, reverse, sum_by, slice_index}
 use Rattle.std.specs.List.{flat_map, range_with_len, slice_index_or}
 use Rattle.std.specs.Option.{unwrap_or}
@@ -13,11 +14,11 @@ use Rattle.bb_net.specs.Netlists.{Pins, box_at, cell_at}
 use Rattle.bb_net.specs.Values.{table_at}
 use Rattle.bb_net.specs.Flats.{FlatNet}
 use Rattle.bb_net.specs.CutPoints.{clock_text, register_texts}
-use Rattle.bb_fill.specs.Words.{Word, Bit, Named, CellNet, stem_of, word_at}
+use Rattle.bb_fill.specs.Words.{NetWord, Bit, Named, CellNet, stem_of, word_at}
 use Rattle.bb_fill.specs.Lines.{Line, Module, Input, Output, Reg, Gate, Assign, Always, End, Not, And, Or, Xor, Buf, line_text}
 use Rattle.bb_fill.specs.Trees.{column, tree_lines, tree_values}
 
--- how many choices stand for a cell: a tree over n input pins has 2^n - 1
+-- how many choices implement a cell: a tree over n input pins has 2^n - 1
 abbrev pub choice_count : List Pins → Cell → ℕ
 choice_count boxes (cells.BoxOut b p) = 2 ^ length (box_at boxes b).ins - 1
 choice_count boxes cell = 0
@@ -27,12 +28,12 @@ abbrev pub first_choice : FlatNet → ℕ → ℕ
 first_choice f k = sum_by (choice_count f.net.boxes) (take k f.net.cells)
 
 -- the words of the input pins of a box, from the last to the first
-abbrev pub pin_words : FlatNet → ℕ → List Word
+abbrev pub pin_words : FlatNet → ℕ → List NetWord
 pin_words f b = reverse (map (word_at f) (box_at f.net.boxes b).ins)
 
 -- the bits of an output pin of a box, as words
-abbrev pub pin_bits : List TableBits → ℕ → ℕ → List Word
-pin_bits tables b p = map Bit (column (table_at tables b) p)
+abbrev pub output_pin_words : List TableBits → ℕ → ℕ → List NetWord
+output_pin_words tables b p = map Bit (column (table_at tables b) p)
 
 -- the lines of the cell with a number; a constant and an input have none
 abbrev pub cell_lines : FlatNet → List TableBits → ℕ → Cell → List Line
@@ -44,8 +45,8 @@ cell_lines f tables k (cells.Or a b) = Gate Or (CellNet k) (word_at f a ∷ word
 cell_lines f tables k (cells.Xor a b) = Gate Xor (CellNet k) (word_at f a ∷ word_at f b ∷ []) ∷ []
 cell_lines f tables k (cells.Mux c t e) = Assign (CellNet k) (word_at f c) (word_at f t) (word_at f e) ∷ []
 cell_lines f tables k (cells.BoxOut b p) =
-    tree_lines (pin_words f b) (first_choice f k) (pin_bits tables b p)
-    ++ Gate Buf (CellNet k) (tree_values (pin_words f b) (first_choice f k) (pin_bits tables b p)) ∷ []
+    tree_lines (pin_words f b) (first_choice f k) (output_pin_words tables b p)
+    ++ Gate Buf (CellNet k) (tree_values (pin_words f b) (first_choice f k) (output_pin_words tables b p)) ∷ []
 
 -- the lines of all cells in order
 abbrev pub lines_of_cells : FlatNet → List TableBits → List Line
@@ -59,8 +60,8 @@ output_text f o = slice_index_or f.outs o []
 abbrev pub output_lines : FlatNet → ℕ → List Line
 output_lines f o = if has_name (output_text f o) (register_texts f) then [] else Gate Buf (Named (output_text f o)) (word_at f (slice_index f.net.outs o) ∷ []) ∷ []
 
--- what the register with a number takes: the netlist's output behind those of the top
-abbrev pub next_word : FlatNet → ℕ → Word
+-- what the register with a number takes: the netlist's output after those of the top
+abbrev pub next_word : FlatNet → ℕ → NetWord
 next_word f r = word_at f (slice_index f.net.outs (length f.outs + r))
 
 -- the line of a register

@@ -17,8 +17,8 @@ most_bytes = 33554432
 abbrev pub most_nets : ℕ
 most_nets = 1000000
 
-abbrev pub most_cells : ℕ
-most_cells = 2000000
+abbrev pub most_filled_cells : ℕ
+most_filled_cells = 2000000
 
 -- the outputs that are no registers
 abbrev pub plain_outputs : FlatNet → List (List ℕ)
@@ -28,21 +28,21 @@ plain_outputs f = filter (λ text. not (has_name text (register_texts f))) f.out
 abbrev pub net_count : FlatNet → List TableBits → ℕ
 net_count f tables = length f.ins + length f.regs + length (plain_outputs f) + length (lines_of_cells f tables)
 
--- the line of a cell is a gate or a conditional, and no copy
+-- the line of a cell is a gate or a conditional, and no buffer
 abbrev pub makes_cell : Line → Bool
 makes_cell (Gate Buf out ins) = false
 makes_cell line = true
 
 -- how many cells it has
-abbrev pub cell_count : FlatNet → List TableBits → ℕ
-cell_count f tables = 2 + length f.ins + length f.regs + length (filter makes_cell (lines_of_cells f tables))
+abbrev pub filled_cell_count : FlatNet → List TableBits → ℕ
+filled_cell_count f tables = 2 + length f.ins + length f.regs + length (filter makes_cell (lines_of_cells f tables))
 
 -- the text is too large
-abbrev pub IsTooLarge : FlatNet → List TableBits → Type 0
-IsTooLarge f tables = (most_bytes < length (filled_text f tables)) ⊎ ((most_nets < net_count f tables) ⊎ (most_cells < cell_count f tables))
+abbrev pub IsTooLargeText : FlatNet → List TableBits → Type 0
+IsTooLargeText f tables = (most_bytes < length (filled_text f tables)) ⊎ ((most_nets < net_count f tables) ⊎ (most_filled_cells < filled_cell_count f tables))
 
 -- it is not
-pub record IsSmall (f : FlatNet) (tables : List TableBits) : Type 0 where
+pub record IsSmallText (f : FlatNet) (tables : List TableBits) : Type 0 where
   pub bytes : length (filled_text f tables) ≤ most_bytes
   pub nets : net_count f tables ≤ most_nets
-  pub cells : cell_count f tables ≤ most_cells
+  pub cells : filled_cell_count f tables ≤ most_filled_cells

@@ -1,4 +1,5 @@
-//! The lines of the cells of a netlist.
+//! The lines of the cells, in the order of the netlist. Operands come before their cell there, so a line reads only
+//! what is driven before it, and no loop has to be excluded.
 
 ghost use Rattle.std.specs.Prelude.{◌≡◌, ◌+◌, ◌<◌, ◌^◌, length, replicate, sum_by};
 ghost use Rattle.std.specs.List.{flat_map};
@@ -7,16 +8,16 @@ ghost use Rattle.bb_net.specs.Netlists.{cell_at};
 ghost use Rattle.bb_net.specs.Values.{FitBoxes};
 ghost use Rattle.bb_fill.specs.Lines.{line_text};
 ghost use Rattle.bb_fill.specs.Filled.{cell_lines, choice_count, first_choice, lines_of_cells};
-ghost use Rattle.bb_fill.specs.Inside.Sheets.{Adds};
+ghost use Rattle.bb_fill.specs.Inside.TextBuffers.{Adds};
 
 use crate::lines::{put_gate_of_one, put_gate_of_two, put_multiplexer};
 use crate::parts::{cell_count, cell_of, pins_of, table_of};
-use crate::sheet::Sheet;
+use crate::text_buffer::TextBuffer;
 use crate::trees::{put_pin, row_count};
 use bb_bits::Table;
 use bb_net::{Cell, Flat};
 
-/// How many choices stand for a cell.
+/// The number of inner nodes of a box pin's tree, 2^n - 1 for n input pins; 0 for other cells.
 pub(crate) fn choice_count(flat: &Flat, tables: &[Table], kinds: &[u32], number: u32) -> u32
     requires tables { FitBoxes (spread kinds.now tables.now) flat.now.net.boxes }
     requires there { number < length flat.now.net.cells }
@@ -29,9 +30,9 @@ pub(crate) fn choice_count(flat: &Flat, tables: &[Table], kinds: &[u32], number:
     }
 }
 
-// Puts the lines of a cell on the sheet.
+// `first` is the number of the cell's first choice. Constants and inputs need no line: they are words themselves.
 fn put_cell(
-    out: &mut Sheet,
+    out: &mut TextBuffer,
     flat: &Flat,
     tables: &[Table],
     kinds: &[u32],
@@ -59,8 +60,14 @@ fn put_cell(
     }
 }
 
-/// Puts the lines of all cells on the sheet.
-pub(crate) fn put_cells(out: &mut Sheet, flat: &Flat, tables: &[Table], kinds: &[u32], stem: usize)
+/// Choices are numbered through all cells, so each has a net of its own.
+pub(crate) fn put_cells(
+    out: &mut TextBuffer,
+    flat: &Flat,
+    tables: &[Table],
+    kinds: &[u32],
+    stem: usize,
+)
     requires tables { FitBoxes (spread kinds.now tables.now) flat.now.net.boxes }
     requires room { sum_by (choice_count flat.now.net.boxes) flat.now.net.cells < 2 ^ 32 }
     ensures adds { Adds out.old out.new (flat_map (line_text (replicate stem 95)) (lines_of_cells flat.now (spread kinds.now tables.now))) }

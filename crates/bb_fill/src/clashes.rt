@@ -1,4 +1,6 @@
-//! Names that clash.
+//! Clashes of names. In one module a name means one thing (IEEE 1364-2005, 4.11), but a netlist names its inputs,
+//! registers and outputs from three lists. An output may share its text with a register only where it is that register.
+//! The first clash is reported and nothing is renamed, since another name would no longer be that of the report.
 
 ghost use Rattle.std.specs.Prelude.{◌≡◌, ◌≢◌, ◌+◌, ◌<◌, All, length, IfSome, IfNone, MatchBool};
 ghost use Rattle.bb_bits.specs.Closures.{IsFirst};
@@ -11,7 +13,7 @@ use crate::parts::{cell_of, output_count, output_place, output_text};
 use bb_bits::Name;
 use bb_net::{Cell, Flat};
 
-// The first input with the text of a register or an output.
+// An input must share its text with no register and no output.
 fn first_input<'a>(flat: &'a Flat, texts: &Texts) -> Option<&'a Name>
     requires index { IsIndex flat.now texts.now.entries }
     ensures some { IfSome result (λ text. IsFirst (IsInputClash flat.now) flat.now.ins text.now) }
@@ -25,7 +27,6 @@ fn first_input<'a>(flat: &'a Flat, texts: &Texts) -> Option<&'a Name>
     None
 }
 
-// The number of the input that is the present state of a register.
 fn state_input(flat: &Flat, r: u32) -> u32
     requires there { r < length flat.now.regs }
     ensures input { result ≡ length flat.now.ins + r }
@@ -35,7 +36,7 @@ fn state_input(flat: &Flat, r: u32) -> u32
     inputs - (regs - r)
 }
 
-// Whether a cell is the present state of a register.
+// Only then is an output of this cell the register itself.
 fn is_state(flat: &Flat, place: u32, r: u32) -> bool
     requires there { place < length flat.now.net.cells }
     requires register { r < length flat.now.regs }
@@ -47,7 +48,6 @@ fn is_state(flat: &Flat, place: u32, r: u32) -> bool
     }
 }
 
-// Whether an output has the text of a register that it is not.
 fn is_output_clash(flat: &Flat, texts: &Texts, o: u32) -> bool
     requires index { IsIndex flat.now texts.now.entries }
     requires there { o < length flat.now.outs }
@@ -59,7 +59,6 @@ fn is_output_clash(flat: &Flat, texts: &Texts, o: u32) -> bool
     }
 }
 
-// The first output with the text of a register that it is not.
 fn first_output<'a>(flat: &'a Flat, texts: &Texts) -> Option<u32>
     requires index { IsIndex flat.now texts.now.entries }
     ensures some { IfSome result (λ o. (o < length flat.now.outs) × IsFirst (IsOutputClash flat.now) (output_numbers flat.now) o) }
@@ -73,7 +72,7 @@ fn first_output<'a>(flat: &'a Flat, texts: &Texts) -> Option<u32>
     None
 }
 
-/// The first name that clashes.
+/// Inputs before outputs, each in the order of the netlist.
 pub(crate) fn first_clash<'a>(flat: &'a Flat, texts: &Texts) -> Option<&'a Name>
     requires index { IsIndex flat.now texts.now.entries }
     ensures some { IfSome result (λ name. IsClash flat.now name.now) }

@@ -1,16 +1,17 @@
-//! Why no filled text is made.
+//! Why no filled text is made. The verdict and its tables stay: a clash of names or a bound of the reader says nothing
+//! of the design.
 
 use bb_bits::Name;
 use std::alloc::{AllocError, AllocFailed};
 use thiserror::Error;
 
-/// Why no filled text is made. Where both causes hold, the name is told.
+/// Where both causes hold, the clash is reported.
 #[derive(Debug, Drop, Error)]
 pub enum FillFault {
-    /// An input, a register and an output are not called apart: the first text that stands for two of them.
+    /// The first text that two of an input, a register and an output share, inputs before outputs.
     #[error("a name that stands for two nets")]
     Clash { name: Name },
-    /// The text would have more than 33,554,432 bytes, more than 1,000,000 bits of nets, or more than 2,000,000 cells.
+    /// More than 33,554,432 bytes, 1,000,000 bits of nets, or 2,000,000 cells: such a text would not be read again.
     #[error("a text that is too large")]
     TooLarge,
     #[error("out of memory")]

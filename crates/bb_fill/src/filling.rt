@@ -1,9 +1,13 @@
-//! A netlist whose boxes hold tables, as a module in Verilog.
+//! From a netlist and its tables to the filled text. Nets and bytes are counted before memory is taken, by putting the
+//! same lines on a buffer that only counts, so what is counted and what is printed are one code. The bound on cells
+//! needs no count: there are at most two cells more than nets, and twice as many cells as nets are allowed. The text is
+//! never read again here: that it reads, is sound and makes the designs equivalent are laws, so there is no branch for
+//! a text that is not.
 
 ghost use Rattle.std.specs.Prelude.{◌≡◌, ◌-◌, ◌<◌, ◌≤◌, ◌^◌, length, replicate, sum_by, IfOk, IfSome};
 ghost use Rattle.bb_net.specs.Kinds.{spread};
 ghost use Rattle.bb_net.specs.Values.{FitBoxes};
-ghost use Rattle.bb_fill.specs.Answers.{Answer, MayFill, answer_of};
+ghost use Rattle.bb_fill.specs.Answers.{Answer, IsFillAnswer, answer_of};
 ghost use Rattle.bb_fill.specs.Clashes.{AreNamesApart};
 ghost use Rattle.bb_net.specs.Flats.{HaveClocks};
 ghost use Rattle.bb_fill.specs.Filled.{choice_count, filled_text};
@@ -15,20 +19,20 @@ use crate::fault::FillFault;
 use crate::index::{Texts, index_of};
 use crate::laws::answers_are_one;
 use crate::sections::put_text;
-use crate::sheet::Sheet;
 use crate::sizes::net_count;
 use crate::stems::stem_length;
+use crate::text_buffer::TextBuffer;
 use bb_bits::{NoMemory, Table};
 use bb_net::Flat;
 use std::alloc::Global;
 
-// The most bytes that the text may have.
+// In bytes: the most that is read again.
 const MOST_BYTES: u64 = 33_554_432;
 
-// The most bits of nets that it may have.
+// The most that elaboration takes.
 const MOST_NETS: u64 = 1_000_000;
 
-// How many bytes the text has, up to the last number of 64 bits.
+// In bytes; saturates at 2^64 - 1, beyond every bound.
 fn byte_count(
     alloc: Global,
     flat: &Flat,
@@ -45,12 +49,12 @@ fn byte_count(
     ensures counted { length (filled_text flat.now (spread kinds.now tables.now)) < 2 ^ 64 → result ≡ length (filled_text flat.now (spread kinds.now tables.now)) }
     ensures full { 2 ^ 64 ≤ length (filled_text flat.now (spread kinds.now tables.now)) → 2 ^ 64 - 1 ≤ result }
 {
-    let mut sheet = Sheet::new(Vec::new(alloc), 0);
-    put_text(&mut sheet, flat, tables, kinds, texts, stem);
-    sheet.count()
+    let mut text_buffer = TextBuffer::new(Vec::new(alloc), 0);
+    put_text(&mut text_buffer, flat, tables, kinds, texts, stem);
+    text_buffer.count()
 }
 
-// The text, which has so many bytes.
+// Takes its memory at once, since the length is known.
 fn text_of(
     alloc: Global,
     flat: &Flat,
@@ -69,12 +73,12 @@ fn text_of(
     ensures text { IfOk result (λ text. text.items ≡ filled_text flat.now (spread kinds.now tables.now)) }
 {
     let text = Vec::with_capacity(alloc, bytes as usize)?;
-    let mut sheet = Sheet::new(text, bytes);
-    put_text(&mut sheet, flat, tables, kinds, texts, stem);
-    Ok(sheet.into_text())
+    let mut text_buffer = TextBuffer::new(text, bytes);
+    put_text(&mut text_buffer, flat, tables, kinds, texts, stem);
+    Ok(text_buffer.into_text())
 }
 
-// The text of a netlist in which no name clashes.
+// Nets before bytes: with few nets the number of choices fits 32 bits, which printing needs.
 fn fill_apart(
     alloc: Global,
     flat: &Flat,
@@ -86,7 +90,7 @@ fn fill_apart(
     requires tables { FitBoxes (spread kinds.now tables.now) flat.now.net.boxes }
     requires index { IsIndex flat.now texts.now.entries }
     requires apart { AreNamesApart flat.now }
-    ensures answer { IfSome (answer_of result) (MayFill flat.now (spread kinds.now tables.now)) }
+    ensures answer { IfSome (answer_of result) (IsFillAnswer flat.now (spread kinds.now tables.now)) }
     ensures text { IfOk result (λ text. text.items ≡ filled_text flat.now (spread kinds.now tables.now)) }
 {
     if net_count(flat, tables, kinds, texts) > MOST_NETS {
@@ -101,12 +105,12 @@ fn fill_apart(
     Ok(text)
 }
 
-/// The netlist as the text of a module in Verilog, with gates in place of its boxes: each box holds the table of its kind. Each register
-/// has a clock that is an input, and the table of the kind of a box has its numbers of pins.
+/// The netlist as a module in Verilog, each box replaced by a tree over the table of its sharing class. Each register
+/// has a clock that is an input, and each table has the numbers of pins of its boxes.
 ///
 /// # Errors
 ///
-/// A name that stands for two nets, the first one, inputs before outputs; else a text that is too large; and want of memory.
+/// `Clash` with the first name, inputs before outputs; else `TooLarge`; and lack of memory.
 pub fn fill(
     alloc: Global,
     flat: &Flat,
@@ -115,12 +119,11 @@ pub fn fill(
 ) -> Result<Vec<u8>, FillFault>
     requires clocks { HaveClocks flat.now }
     requires tables { FitBoxes (spread kinds.now tables.now) flat.now.net.boxes }
-    // What is answered is the answer.
-    ensures answer { IfSome (answer_of result) (MayFill flat.now (spread kinds.now tables.now)) }
+    ensures answer { IfSome (answer_of result) (IsFillAnswer flat.now (spread kinds.now tables.now)) }
     ensures text { IfOk result (λ text. text.items ≡ filled_text flat.now (spread kinds.now tables.now)) }
 
-    // And no other is given than the one that is due.
-    ensures due { (answer : Answer) → MayFill flat.now (spread kinds.now tables.now) answer → IfSome (answer_of result) (λ given. given ≡ answer) }
+    // There is only one answer, so another result excludes it.
+    ensures due { (answer : Answer) → IsFillAnswer flat.now (spread kinds.now tables.now) answer → IfSome (answer_of result) (λ given. given ≡ answer) }
 {
     answers_are_one();
     let texts = index_of(alloc, flat)?;

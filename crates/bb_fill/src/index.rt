@@ -1,4 +1,5 @@
-//! An index of the texts of registers and outputs.
+//! An index of the texts of registers and outputs by hash, so that looking for clashes is linear in the number of
+//! names. It serves twice: for clashes, and for outputs that are registers and need no line.
 
 ghost use Rattle.std.specs.Prelude.{◌≡◌, ◌+◌, ◌<◌, ◌⊎◌, ℕ, length, Contains, IfOk, IfSome, IfNone, MatchBool, OnOk, []};
 ghost use Rattle.bb_bits.specs.Earlier.{has_name};
@@ -12,23 +13,22 @@ use bb_net::Flat;
 use indexmap::IndexMap;
 use std::alloc::Global;
 
-/// The numbers of registers by their texts, and the number behind the last register for an output's text that no register has.
+/// The number of the register with a text; for a text that only an output has, the number after the last register.
 pub(crate) type Texts = IndexMap<Name, u32>;
 
-// Puts the texts of outputs into an index without registers.
+// Outputs first, so that registers of the same text replace them.
 fn put_outputs(flat: &Flat, texts: &mut Texts) -> Result<(), NoMemory>
     requires empty { texts.old.entries ≡ [] }
     ensures index { OnOk result (IsIndexUpTo flat.now 0 texts.new.entries) }
 {
-    let behind = register_count(flat);
+    let after = register_count(flat);
     for o in 0..output_count(flat) {
         let text = output_text(flat, o).clone()?;
-        texts.insert(text, behind)?;
+        texts.insert(text, after)?;
     }
     Ok(())
 }
 
-// Puts the texts of registers into it.
 fn put_registers(flat: &Flat, texts: &mut Texts) -> Result<(), NoMemory>
     requires index { IsIndexUpTo flat.now 0 texts.old.entries }
     ensures index { OnOk result (IsIndex flat.now texts.new.entries) }
@@ -40,7 +40,6 @@ fn put_registers(flat: &Flat, texts: &mut Texts) -> Result<(), NoMemory>
     Ok(())
 }
 
-/// The index of the texts of registers and outputs.
 pub(crate) fn index_of(alloc: Global, flat: &Flat) -> Result<Texts, NoMemory>
     ensures index { IfOk result (λ texts. IsIndex flat.now texts.entries) }
 {
@@ -51,7 +50,7 @@ pub(crate) fn index_of(alloc: Global, flat: &Flat) -> Result<Texts, NoMemory>
     Ok(texts)
 }
 
-/// The number of the register with a text, if one has it.
+/// None where only an output has the text.
 pub(crate) fn register_of(flat: &Flat, texts: &Texts, text: &Name) -> Option<u32>
     requires index { IsIndex flat.now texts.now.entries }
     ensures some { IfSome result (λ r. (r < length flat.now.regs) × (text.now ≡ register_text flat.now r)) }
@@ -63,7 +62,7 @@ pub(crate) fn register_of(flat: &Flat, texts: &Texts, text: &Name) -> Option<u32
     }
 }
 
-/// Whether a register or an output has a text.
+/// An input with such a text clashes.
 pub(crate) fn is_taken(flat: &Flat, texts: &Texts, text: &Name) -> bool
     requires index { IsIndex flat.now texts.now.entries }
     ensures taken { MatchBool result (Contains (register_texts flat.now) text.now ⊎ Contains flat.now.outs text.now) ((Contains (register_texts flat.now) text.now → ⊥) × (Contains flat.now.outs text.now → ⊥)) }
@@ -72,7 +71,7 @@ pub(crate) fn is_taken(flat: &Flat, texts: &Texts, text: &Name) -> bool
     texts.contains_key(text)
 }
 
-/// Whether a register has a text.
+/// Such an output needs no line: it is the register.
 pub(crate) fn is_register(flat: &Flat, texts: &Texts, text: &Name) -> bool
     requires index { IsIndex flat.now texts.now.entries }
     ensures register { result ≡ has_name text.now (register_texts flat.now) }

@@ -1,4 +1,5 @@
-//! Laws of the filled text. Each function has a law as its contract and does nothing.
+//! Laws of the filled text. They speak of bits for all words that meet the lines, which is what crates above need to
+//! show that a design has them. Each function has a law as its contract and does nothing.
 
 ghost use Rattle.bb_fill.specs.Laws.{AnswersAreOne, AnswersExist, LinesCanBeMet, LinesHaveBits, LinesReadWhatIsDriven};
 ghost use Rattle.bb_fill.specs.Laws.{NetsAreDrivenOnce, RegistersTakeBits, TreesChoose, WordsAreApart, WordsAreNets, WordsAreOfNetlist};
@@ -6,7 +7,7 @@ ghost use Rattle.bb_fill.specs.Laws.{NetsAreDrivenOnce, RegistersTakeBits, Trees
 use bb_bits::{number_doubles, number_is_below};
 use bb_net::{value_exists, value_is_unique};
 
-/// The value of a tree has the bit of the row that the bits at the pins choose.
+/// The root of a tree has the bit of the row whose number the pins spell, the first pin most significant.
 pub fn trees_choose()
     ensures { TreesChoose }
 {
@@ -14,22 +15,22 @@ pub fn trees_choose()
     number_is_below();
 }
 
-/// Each netlist has an answer.
+/// Each netlist has an answer: a text, a clash, or too large.
 pub fn answers_exist()
     ensures { AnswersExist }
 {}
 
-/// And only one.
+/// There is at most one answer, so it is a function of netlist and tables.
 pub fn answers_are_one()
     ensures { AnswersAreOne }
 {}
 
-/// Words that are called alike are one word.
+/// No net has the name of another, of a port or of a register.
 pub fn words_are_apart()
     ensures { WordsAreApart }
 {}
 
-/// Where the lines are met at a vector, the words have the bits of the netlist with these tables.
+/// If the lines are met at a vector, the words have the bits of the netlist with these tables.
 pub fn lines_have_bits()
     ensures { LinesHaveBits }
 {
@@ -37,14 +38,14 @@ pub fn lines_have_bits()
     value_is_unique();
 }
 
-/// And each register takes its next state.
+/// Next states too: each register takes the bit of the netlist.
 pub fn registers_take_bits()
     ensures { RegistersTakeBits }
 {
     lines_have_bits();
 }
 
-/// At each vector some bits meet the lines.
+/// At each vector some bits meet the lines, so the law before is not empty.
 pub fn lines_can_be_met()
     ensures { LinesCanBeMet }
 {
@@ -52,24 +53,24 @@ pub fn lines_can_be_met()
     value_exists();
 }
 
-/// The inputs and what the lines drive are different words, as many as the text has nets.
+/// Each net is driven once, and there are as many nets as were counted.
 pub fn nets_are_driven_once()
     ensures { NetsAreDrivenOnce }
 {}
 
-/// Each word of the lines is a number, or one of these nets.
+/// No line has a word that nothing drives.
 pub fn words_are_nets()
     ensures { WordsAreNets }
 {}
 
-/// Where the text is not too large, its words are those of the netlist.
+/// Words have numbers of 64 bits then, and no two of them the same name.
 pub fn words_are_of_netlist()
     ensures { WordsAreOfNetlist }
 {
     words_are_nets();
 }
 
-/// What a line reads is a number, an input, a register, or driven by a line before it.
+/// A line reads only numbers, inputs, registers and what earlier lines drive: so no loop but through a register.
 pub fn lines_read_what_is_driven()
     ensures { LinesReadWhatIsDriven }
 {}

@@ -1,18 +1,18 @@
-//! Lines of the filled text.
+//! The lines of the filled text, each one item of the language. Nets that gates and assignments drive are implicit
+//! (IEEE 1364-2005, 4.5) and have no `wire` line: each would count against the bounds.
 
 ghost use Rattle.std.specs.Prelude.{◌≡◌, ◌<◌, ◌++◌, ◌∷◌, [], if◌then◌else◌, codes, decimal, length, map, replicate};
 ghost use Rattle.std.specs.List.{flat_map};
 ghost use Rattle.bb_fill.specs.Words.{CellNet, Named, printed, word_at, word_text};
-ghost use Rattle.bb_fill.specs.Lines.{Always, Assign, Buf, Gate, joined, line_text};
-ghost use Rattle.bb_fill.specs.Inside.Sheets.{Adds};
+ghost use Rattle.bb_fill.specs.Lines.{Always, Assign, Buf, Gate, with_commas, line_text};
+ghost use Rattle.bb_fill.specs.Inside.TextBuffers.{Adds};
 
-use crate::sheet::Sheet;
+use crate::text_buffer::TextBuffer;
 use crate::words::{put_name, put_net, put_word};
 use bb_bits::Name;
 use bb_net::{Flat, Reg};
 
-// Puts a declaration on the sheet.
-fn put_declaration(out: &mut Sheet, kind: &str, name: &Name)
+fn put_declaration(out: &mut TextBuffer, kind: &str, name: &Name)
     ensures adds { Adds out.old out.new (kind.now ++ printed name.now ++ codes ";\n") }
 {
     out.put(kind.as_bytes());
@@ -20,8 +20,8 @@ fn put_declaration(out: &mut Sheet, kind: &str, name: &Name)
     out.put(b";\n");
 }
 
-/// Puts declarations of names on the sheet.
-pub(crate) fn put_declarations(out: &mut Sheet, kind: &str, names: &[Name])
+/// `kind` with a blank after it.
+pub(crate) fn put_declarations(out: &mut TextBuffer, kind: &str, names: &[Name])
     ensures adds { Adds out.old out.new (flat_map (λ name. kind.now ++ printed name ++ codes ";\n") names.now) }
 {
     for name in names {
@@ -29,8 +29,7 @@ pub(crate) fn put_declarations(out: &mut Sheet, kind: &str, names: &[Name])
     }
 }
 
-/// Puts the declarations of registers on the sheet.
-pub(crate) fn put_registers(out: &mut Sheet, regs: &[Reg])
+pub(crate) fn put_registers(out: &mut TextBuffer, regs: &[Reg])
     ensures adds { Adds out.old out.new (flat_map (λ r. codes "reg " ++ printed r.text ++ codes ";\n") regs.now) }
 {
     for reg in regs {
@@ -38,8 +37,8 @@ pub(crate) fn put_registers(out: &mut Sheet, regs: &[Reg])
     }
 }
 
-// Puts the beginning of a gate on the sheet, whose output is the net of a cell.
-fn put_gate(out: &mut Sheet, gate: &str, stem: usize, number: u32)
+// The output is the first terminal of a gate (IEEE 1364-2005, 7.2).
+fn put_gate(out: &mut TextBuffer, gate: &str, stem: usize, number: u32)
     ensures adds { Adds out.old out.new (gate.now ++ codes "(" ++ (replicate stem 95 ++ decimal number)) }
 {
     out.put(gate.as_bytes());
@@ -47,8 +46,7 @@ fn put_gate(out: &mut Sheet, gate: &str, stem: usize, number: u32)
     put_net(out, stem, number);
 }
 
-// Puts a further input of a gate on the sheet.
-fn put_operand(out: &mut Sheet, flat: &Flat, stem: usize, place: u32)
+fn put_operand(out: &mut TextBuffer, flat: &Flat, stem: usize, place: u32)
     requires there { place < length flat.now.net.cells }
     ensures adds { Adds out.old out.new (codes "," ++ word_text (replicate stem 95) (word_at flat.now place)) }
 {
@@ -56,9 +54,8 @@ fn put_operand(out: &mut Sheet, flat: &Flat, stem: usize, place: u32)
     put_word(out, flat, stem, place);
 }
 
-/// Puts a gate of one input on the sheet.
 pub(crate) fn put_gate_of_one(
-    out: &mut Sheet,
+    out: &mut TextBuffer,
     flat: &Flat,
     gate: &str,
     stem: usize,
@@ -66,16 +63,15 @@ pub(crate) fn put_gate_of_one(
     a: u32,
 )
     requires there { a < length flat.now.net.cells }
-    ensures adds { Adds out.old out.new (gate.now ++ codes "(" ++ joined (map (word_text (replicate stem 95)) (CellNet number ∷ word_at flat.now a ∷ [])) ++ codes ");\n") }
+    ensures adds { Adds out.old out.new (gate.now ++ codes "(" ++ with_commas (map (word_text (replicate stem 95)) (CellNet number ∷ word_at flat.now a ∷ [])) ++ codes ");\n") }
 {
     put_gate(out, gate, stem, number);
     put_operand(out, flat, stem, a);
     out.put(b");\n");
 }
 
-/// Puts a gate of two inputs on the sheet.
 pub(crate) fn put_gate_of_two(
-    out: &mut Sheet,
+    out: &mut TextBuffer,
     flat: &Flat,
     gate: &str,
     stem: usize,
@@ -85,7 +81,7 @@ pub(crate) fn put_gate_of_two(
 )
     requires first { a < length flat.now.net.cells }
     requires second { b < length flat.now.net.cells }
-    ensures adds { Adds out.old out.new (gate.now ++ codes "(" ++ joined (map (word_text (replicate stem 95)) (CellNet number ∷ word_at flat.now a ∷ word_at flat.now b ∷ [])) ++ codes ");\n") }
+    ensures adds { Adds out.old out.new (gate.now ++ codes "(" ++ with_commas (map (word_text (replicate stem 95)) (CellNet number ∷ word_at flat.now a ∷ word_at flat.now b ∷ [])) ++ codes ");\n") }
 {
     put_gate(out, gate, stem, number);
     put_operand(out, flat, stem, a);
@@ -93,9 +89,9 @@ pub(crate) fn put_gate_of_two(
     out.put(b");\n");
 }
 
-/// Puts the assignment of a multiplexer on the sheet.
+/// `t` where `c` is 1, `e` where it is 0.
 pub(crate) fn put_multiplexer(
-    out: &mut Sheet,
+    out: &mut TextBuffer,
     flat: &Flat,
     stem: usize,
     number: u32,
@@ -119,8 +115,8 @@ pub(crate) fn put_multiplexer(
     out.put(b";\n");
 }
 
-/// Puts the copy that drives an output on the sheet.
-pub(crate) fn put_copy(out: &mut Sheet, flat: &Flat, stem: usize, name: &Name, place: u32)
+/// A `buf`, which elaboration does not count as a cell.
+pub(crate) fn put_copy(out: &mut TextBuffer, flat: &Flat, stem: usize, name: &Name, place: u32)
     requires there { place < length flat.now.net.cells }
     ensures adds { Adds out.old out.new (line_text (replicate stem 95) (Gate Buf (Named name.now) (word_at flat.now place ∷ []))) }
 {
@@ -130,8 +126,7 @@ pub(crate) fn put_copy(out: &mut Sheet, flat: &Flat, stem: usize, name: &Name, p
     out.put(b");\n");
 }
 
-// Puts the edge of a clock on the sheet.
-fn put_edge(out: &mut Sheet, falling: bool, clock: &Name)
+fn put_edge(out: &mut TextBuffer, falling: bool, clock: &Name)
     ensures adds { Adds out.old out.new (codes "always @(" ++ (if falling then codes "negedge " else codes "posedge ") ++ printed clock.now ++ codes ") ") }
 {
     out.put(b"always @(");
@@ -144,9 +139,9 @@ fn put_edge(out: &mut Sheet, falling: bool, clock: &Name)
     out.put(b") ");
 }
 
-/// Puts a register on the sheet.
+/// The next state at the edge of the register's own clock.
 pub(crate) fn put_register(
-    out: &mut Sheet,
+    out: &mut TextBuffer,
     flat: &Flat,
     stem: usize,
     reg: &Reg,

@@ -1,4 +1,5 @@
-//! The parts of a flat netlist, by their numbers.
+//! The parts of a flat netlist by number. Each call gives the facts on its part that later proofs need, so that the
+//! invariant of the netlist is opened here alone.
 
 ghost use Rattle.std.specs.Prelude.{◌≡◌, ◌+◌, ◌<◌, ◌^◌, ℕ, All, length, slice_index};
 ghost use Rattle.bb_net.specs.Flats.{IsFlat};
@@ -11,7 +12,6 @@ ghost use Rattle.bb_fill.specs.Filled.{output_text};
 use bb_bits::{Name, Table};
 use bb_net::{Cell, Flat, tables_are_spread};
 
-/// The number of cells.
 pub(crate) fn cell_count(flat: &Flat) -> u32
     ensures count { result ≡ length flat.now.net.cells }
     ensures kept { IsFlat flat.now }
@@ -20,7 +20,6 @@ pub(crate) fn cell_count(flat: &Flat) -> u32
     flat.net().cells().len() as u32
 }
 
-/// The cell with a number.
 pub(crate) fn cell_of(flat: &Flat, number: u32) -> Cell
     requires there { number < length flat.now.net.cells }
     ensures cell { result ≡ cell_at flat.now.net.cells number }
@@ -30,7 +29,7 @@ pub(crate) fn cell_of(flat: &Flat, number: u32) -> Cell
     flat.net().cells()[number as usize]
 }
 
-/// The cells at the input pins of a box.
+/// In the order of the pins.
 pub(crate) fn pins_of(flat: &Flat, b: u32) -> &[u32]
     requires there { b < length flat.now.net.boxes }
     ensures pins { result.now ≡ (box_at flat.now.net.boxes b).ins }
@@ -39,7 +38,7 @@ pub(crate) fn pins_of(flat: &Flat, b: u32) -> &[u32]
     flat.net().boxes()[b as usize].ins()
 }
 
-/// The table of a box that has an output pin.
+/// The table of the box's sharing class.
 pub(crate) fn table_of<'a>(
     flat: &Flat,
     tables: &'a [Table],
@@ -59,7 +58,6 @@ pub(crate) fn table_of<'a>(
     &tables[kind as usize]
 }
 
-/// The number of registers.
 pub(crate) fn register_count(flat: &Flat) -> u32
     ensures count { result ≡ length flat.now.regs }
     ensures kept { IsFlat flat.now }
@@ -67,7 +65,7 @@ pub(crate) fn register_count(flat: &Flat) -> u32
     flat.regs().len() as u32
 }
 
-/// The number of outputs of the top.
+/// Without the next states, which are further outputs of the netlist.
 pub(crate) fn output_count(flat: &Flat) -> u32
     ensures count { result ≡ length flat.now.outs }
     ensures kept { IsFlat flat.now }
@@ -75,7 +73,6 @@ pub(crate) fn output_count(flat: &Flat) -> u32
     flat.outs().len() as u32
 }
 
-/// The text of a register.
 pub(crate) fn register_text(flat: &Flat, r: u32) -> &Name
     requires there { r < length flat.now.regs }
     ensures text { result.now ≡ register_text flat.now r }
@@ -83,7 +80,6 @@ pub(crate) fn register_text(flat: &Flat, r: u32) -> &Name
     &flat.regs()[r as usize].text
 }
 
-/// The text of an output of the top.
 pub(crate) fn output_text(flat: &Flat, o: u32) -> &Name
     requires there { o < length flat.now.outs }
     ensures text { result.now ≡ output_text flat.now o }
@@ -91,7 +87,7 @@ pub(crate) fn output_text(flat: &Flat, o: u32) -> &Name
     &flat.outs()[o as usize]
 }
 
-/// The cell at an output of the netlist.
+/// The outputs of the top come first, then the next states of the registers.
 pub(crate) fn output_place(flat: &Flat, o: u32) -> u32
     requires there { o < length flat.now.outs + length flat.now.regs }
     ensures place { result ≡ slice_index flat.now.net.outs o }
@@ -101,7 +97,7 @@ pub(crate) fn output_place(flat: &Flat, o: u32) -> u32
     flat.net().outs()[o as usize]
 }
 
-/// The number of inputs of the netlist, which are those of the top and the registers.
+/// The inputs of the top come first, then the present states of the registers.
 pub(crate) fn input_count(flat: &Flat) -> u32
     ensures count { result ≡ length flat.now.ins + length flat.now.regs }
 {

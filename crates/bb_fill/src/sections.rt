@@ -1,4 +1,5 @@
-//! The sections of the filled text: its header and declarations, the cells, the outputs and the registers.
+//! The sections of the text in order: header, declarations, cells, outputs, registers. Cells come before outputs, so
+//! that a line reads only what is driven before it.
 
 ghost use Rattle.std.specs.Prelude.{◌≡◌, ◌<◌, ◌^◌, ◌++◌, [], ℕ, List, IsSome, IfSome, if◌then◌else◌, codes, length, map, replicate, sum_by};
 ghost use Rattle.std.specs.List.{flat_map, range_with_len};
@@ -12,19 +13,19 @@ ghost use Rattle.bb_net.specs.Flats.{HaveClocks};
 ghost use Rattle.bb_fill.specs.Filled.{choice_count, filled_text, output_lines, register_line, register_lines};
 ghost use Rattle.bb_fill.specs.Inside.Indexes.{IsIndex};
 ghost use Rattle.bb_fill.specs.Inside.Ports.{begun_after, port_texts};
-ghost use Rattle.bb_fill.specs.Inside.Sheets.{Adds};
+ghost use Rattle.bb_fill.specs.Inside.TextBuffers.{Adds};
 
 use crate::cells::put_cells;
 use crate::index::{Texts, is_register};
 use crate::lines::{put_copy, put_declarations, put_register, put_registers};
 use crate::parts::{output_count, output_place, output_text};
-use crate::sheet::Sheet;
+use crate::text_buffer::TextBuffer;
 use crate::words::put_name;
 use bb_bits::{Name, Table};
 use bb_net::{Flat, Reg};
 
-// Puts the name of a port on the sheet, behind a comma where one has come before.
-fn put_port(out: &mut Sheet, begun: bool, name: &Name)
+// A comma separates this port from one before it.
+fn put_port(out: &mut TextBuffer, begun: bool, name: &Name)
     ensures adds { Adds out.old out.new ((if begun then codes "," else []) ++ printed name.now) }
 {
     if begun {
@@ -33,8 +34,8 @@ fn put_port(out: &mut Sheet, begun: bool, name: &Name)
     put_name(out, name);
 }
 
-// Puts names of ports on the sheet, and answers whether one has come.
-fn put_ports(out: &mut Sheet, begun: bool, names: &[Name]) -> bool
+// True once a port has come, since ports are printed from two lists.
+fn put_ports(out: &mut TextBuffer, begun: bool, names: &[Name]) -> bool
     ensures adds { Adds out.old out.new (port_texts begun names.now) }
     ensures begun { result ≡ begun_after begun names.now }
 {
@@ -46,8 +47,8 @@ fn put_ports(out: &mut Sheet, begun: bool, names: &[Name]) -> bool
     begun
 }
 
-// Puts the header on the sheet.
-fn put_header(out: &mut Sheet, flat: &Flat)
+// Inputs before outputs, each in the order of the netlist.
+fn put_header(out: &mut TextBuffer, flat: &Flat)
     ensures adds { (stem : List ℕ) → Adds out.old out.new (line_text stem (Module (flat.now.ins ++ flat.now.outs))) }
 {
     out.put(b"module filled(");
@@ -56,8 +57,7 @@ fn put_header(out: &mut Sheet, flat: &Flat)
     out.put(b");\n");
 }
 
-// Puts the declarations on the sheet.
-fn put_all_declarations(out: &mut Sheet, flat: &Flat)
+fn put_all_declarations(out: &mut TextBuffer, flat: &Flat)
     ensures adds { (stem : List ℕ) → Adds out.old out.new (flat_map (line_text stem) (map line.Input flat.now.ins ++ map line.Output flat.now.outs ++ map line.Reg (register_texts flat.now))) }
 {
     put_declarations(out, "input ", flat.ins());
@@ -65,8 +65,8 @@ fn put_all_declarations(out: &mut Sheet, flat: &Flat)
     put_registers(out, flat.regs());
 }
 
-// Puts the line of an output on the sheet, if it has one.
-fn put_output(out: &mut Sheet, flat: &Flat, texts: &Texts, stem: usize, o: u32)
+// An output with the text of a register is that register, and has no line.
+fn put_output(out: &mut TextBuffer, flat: &Flat, texts: &Texts, stem: usize, o: u32)
     requires index { IsIndex flat.now texts.now.entries }
     requires there { o < length flat.now.outs }
     ensures adds { Adds out.old out.new (flat_map (line_text (replicate stem 95)) (output_lines flat.now o)) }
@@ -77,8 +77,7 @@ fn put_output(out: &mut Sheet, flat: &Flat, texts: &Texts, stem: usize, o: u32)
     }
 }
 
-// Puts the lines of all outputs on the sheet.
-fn put_outputs(out: &mut Sheet, flat: &Flat, texts: &Texts, stem: usize)
+fn put_outputs(out: &mut TextBuffer, flat: &Flat, texts: &Texts, stem: usize)
     requires index { IsIndex flat.now texts.now.entries }
     ensures adds { Adds out.old out.new (flat_map (line_text (replicate stem 95)) (flat_map (output_lines flat.now) (range_with_len 0 (length flat.now.outs)))) }
 {
@@ -87,8 +86,7 @@ fn put_outputs(out: &mut Sheet, flat: &Flat, texts: &Texts, stem: usize)
     }
 }
 
-// Puts the line of a register on the sheet.
-fn put_state(out: &mut Sheet, flat: &Flat, stem: usize, r: u32, reg: &Reg)
+fn put_state(out: &mut TextBuffer, flat: &Flat, stem: usize, r: u32, reg: &Reg)
     requires there { r < length flat.now.regs }
     requires clock { IsSome reg.now.clock }
     requires input { IfSome reg.now.clock (λ k. k < length flat.now.ins) }
@@ -102,8 +100,7 @@ fn put_state(out: &mut Sheet, flat: &Flat, stem: usize, r: u32, reg: &Reg)
     put_register(out, flat, stem, reg, clock, place);
 }
 
-// Puts the lines of all registers on the sheet.
-fn put_states(out: &mut Sheet, flat: &Flat, stem: usize)
+fn put_states(out: &mut TextBuffer, flat: &Flat, stem: usize)
     requires clocks { HaveClocks flat.now }
     ensures adds { Adds out.old out.new (flat_map (line_text (replicate stem 95)) (register_lines flat.now 0 flat.now.regs)) }
 {
@@ -112,9 +109,8 @@ fn put_states(out: &mut Sheet, flat: &Flat, stem: usize)
     }
 }
 
-/// Puts the whole text on the sheet.
 pub(crate) fn put_text(
-    out: &mut Sheet,
+    out: &mut TextBuffer,
     flat: &Flat,
     tables: &[Table],
     kinds: &[u32],

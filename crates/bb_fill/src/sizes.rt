@@ -1,4 +1,5 @@
-//! How large the filled text is.
+//! Sizes of the filled text, counted in 64 bits from tables and names before anything is printed. The number of nets
+//! comes first: within its bound choices have numbers of 32 bits, which the printer needs.
 
 ghost use Rattle.std.specs.Prelude.{◌≡◌, ◌<◌, ◌≤◌, ◌^◌, length, sum_by};
 ghost use Rattle.bb_net.specs.Kinds.{spread};
@@ -14,7 +15,7 @@ use crate::trees::row_count;
 use bb_bits::Table;
 use bb_net::{Cell, Flat};
 
-// How many lines a cell gives.
+// A tree over n pins gives 2^n - 1 choices and one `buf`.
 fn line_count(flat: &Flat, tables: &[Table], kinds: &[u32], number: u32) -> u64
     requires tables { FitBoxes (spread kinds.now tables.now) flat.now.net.boxes }
     requires there { number < length flat.now.net.cells }
@@ -29,7 +30,6 @@ fn line_count(flat: &Flat, tables: &[Table], kinds: &[u32], number: u32) -> u64
     }
 }
 
-// How many lines all cells give.
 fn all_line_count(flat: &Flat, tables: &[Table], kinds: &[u32]) -> u64
     requires tables { FitBoxes (spread kinds.now tables.now) flat.now.net.boxes }
     ensures count { result ≡ length (lines_of_cells flat.now (spread kinds.now tables.now)) }
@@ -43,7 +43,7 @@ fn all_line_count(flat: &Flat, tables: &[Table], kinds: &[u32]) -> u64
     count
 }
 
-// How many outputs are no registers.
+// An output that is a register is one net with it.
 fn plain_count(flat: &Flat, texts: &Texts) -> u64
     requires index { IsIndex flat.now texts.now.entries }
     ensures count { result ≡ length (plain_outputs flat.now) }
@@ -58,7 +58,7 @@ fn plain_count(flat: &Flat, texts: &Texts) -> u64
     count
 }
 
-/// How many bits of nets the text has.
+/// Inputs, registers, further outputs, and one net for each line of a cell.
 pub(crate) fn net_count(flat: &Flat, tables: &[Table], kinds: &[u32], texts: &Texts) -> u64
     requires tables { FitBoxes (spread kinds.now tables.now) flat.now.net.boxes }
     requires index { IsIndex flat.now texts.now.entries }

@@ -1,12 +1,12 @@
-//! The stem of the words of nets.
+//! The stem of names of inner nets: a run of `_` one longer than any with which a port or a register begins. So inner
+//! names are apart from all others without a look-up, and the same netlist always gets the same names.
 
 ghost use Rattle.std.specs.Prelude.{◌≡◌, ◌<◌, ◌^◌, max, map, replicate};
-ghost use Rattle.bb_fill.specs.Words.{greatest, leading, stem_of};
+ghost use Rattle.bb_fill.specs.Words.{maximum, leading, stem_of};
 
 use bb_bits::Name;
 use bb_net::{Flat, Reg};
 
-// With how many `_` a text begins.
 fn leading(name: &Name) -> usize
     ensures leading { result ≡ leading name.now }
     ensures few { result < 2 ^ 63 }
@@ -20,10 +20,9 @@ fn leading(name: &Name) -> usize
     bytes.len()
 }
 
-// The greater of a number and those with which texts begin.
 fn most_of(most: usize, names: &[Name]) -> usize
     requires few { most < 2 ^ 63 }
-    ensures most { result ≡ max most (greatest (map leading names.now)) }
+    ensures most { result ≡ max most (maximum (map leading names.now)) }
     ensures few { result < 2 ^ 63 }
 {
     let mut most = most;
@@ -33,10 +32,9 @@ fn most_of(most: usize, names: &[Name]) -> usize
     most
 }
 
-// The greatest number with which the texts of registers begin.
 fn most_of_registers(most: usize, regs: &[Reg]) -> usize
     requires few { most < 2 ^ 63 }
-    ensures most { result ≡ max most (greatest (map (λ r. leading r.text) regs.now)) }
+    ensures most { result ≡ max most (maximum (map (λ r. leading r.text) regs.now)) }
     ensures few { result < 2 ^ 63 }
 {
     let mut most = most;
@@ -46,7 +44,7 @@ fn most_of_registers(most: usize, regs: &[Reg]) -> usize
     most
 }
 
-/// How many `_` the stem has.
+/// At least 1, since a net's name may not begin with a digit.
 pub(crate) fn stem_length(flat: &Flat) -> usize
     ensures stem { replicate result 95 ≡ stem_of flat.now }
 {

@@ -1,4 +1,7 @@
-//! Trees of choices over the tables of boxes.
+//! Trees of choices over the tables of boxes, one for each output pin: the leaves are the bits of its rows, the level
+//! next to them chooses by the last input pin, and the root by the first. Such a tree has 2^n - 1 choices for n pins,
+//! whatever the table has: its size and its names are known from the pins alone, so both are counted before anything is
+//! printed.
 
 ghost use Rattle.std.specs.Prelude.{◌≡◌, ◌+◌, ◌*◌, ◌^◌, ◌<◌, ◌≤◌, ◌++◌, ◌∷◌, [], ℕ, All, length, map, replicate, reverse};
 ghost use Rattle.std.specs.List.{flat_map};
@@ -6,22 +9,21 @@ ghost use Rattle.bb_fill.specs.Words.{Bit, CellNet, word_at, word_text};
 ghost use Rattle.bb_fill.specs.Lines.{Buf, Gate, line_text};
 ghost use Rattle.bb_fill.specs.Trees.{column, halved, tree_lines, tree_values};
 ghost use Rattle.bb_fill.specs.Inside.Levels.{HasValues, level_choice, level_words, value_word};
-ghost use Rattle.bb_fill.specs.Inside.Sheets.{Adds};
+ghost use Rattle.bb_fill.specs.Inside.TextBuffers.{Adds};
 
-use crate::sheet::Sheet;
+use crate::text_buffer::TextBuffer;
 use crate::words::{put_bit, put_choice, put_net, put_word};
 use bb_bits::{Table, tables_have_few_inputs};
 use bb_net::Flat;
 
-/// The values of a level of a tree: the bits of the rows, or the nets of choices, which are numbered on from a number.
+/// The bits of the rows, or the nets of the choices from this number on.
 #[derive(Clone, Copy, Debug, PartialEq, Eq)]
 pub(crate) enum Values {
     Rows,
     Nets(u32),
 }
 
-// Puts a value of a level on the sheet.
-fn put_value(out: &mut Sheet, table: &Table, p: u32, stem: usize, values: Values, i: u32)
+fn put_value(out: &mut TextBuffer, table: &Table, p: u32, stem: usize, values: Values, i: u32)
     requires pin { p < table.now.outputs }
     requires values { HasValues table.now values (i + 1) }
     ensures adds { Adds out.old out.new (word_text (replicate stem 95) (value_word table.now p values i)) }
@@ -32,9 +34,9 @@ fn put_value(out: &mut Sheet, table: &Table, p: u32, stem: usize, values: Values
     }
 }
 
-// Puts a choice between two neighbouring values of a level on the sheet.
+// The right neighbour where the pin is 1: it has the larger row number.
 fn put_level_choice(
-    out: &mut Sheet,
+    out: &mut TextBuffer,
     flat: &Flat,
     stem: usize,
     pin: u32,
@@ -61,9 +63,8 @@ fn put_level_choice(
     out.put(b";\n");
 }
 
-// Puts the choices of a pin on the sheet.
 fn put_level(
-    out: &mut Sheet,
+    out: &mut TextBuffer,
     flat: &Flat,
     stem: usize,
     pin: u32,
@@ -84,9 +85,9 @@ fn put_level(
     }
 }
 
-// Puts the choices of some pins on the sheet, from the last to the first, and answers what values are left.
+// From the last pin to the first; ends since each level halves the values, and returns the one that is left.
 fn put_levels(
-    out: &mut Sheet,
+    out: &mut TextBuffer,
     flat: &Flat,
     stem: usize,
     pins: &[u32],
@@ -123,8 +124,8 @@ fn put_levels(
     )
 }
 
-// Puts the copy of the value of a tree on the sheet.
-fn put_root(out: &mut Sheet, table: &Table, p: u32, stem: usize, number: u32, values: Values)
+// The cell's own net gets the value by a `buf`, so other lines need not know that it is a tree.
+fn put_root(out: &mut TextBuffer, table: &Table, p: u32, stem: usize, number: u32, values: Values)
     requires pin { p < table.now.outputs }
     requires value { HasValues table.now values 1 }
     ensures adds { Adds out.old out.new (line_text (replicate stem 95) (Gate Buf (CellNet number) (level_words table.now p values 1))) }
@@ -136,7 +137,7 @@ fn put_root(out: &mut Sheet, table: &Table, p: u32, stem: usize, number: u32, va
     out.put(b");\n");
 }
 
-/// How many rows a table with an output has.
+/// 2^n for n input pins; below 2^25 by the bound of tables.
 pub(crate) fn row_count(table: &Table) -> u32
     requires some { 0 < table.now.outputs }
     ensures rows { result ≡ 2 ^ table.now.inputs }
@@ -147,9 +148,9 @@ pub(crate) fn row_count(table: &Table) -> u32
     1 << table.inputs()
 }
 
-/// Puts what stands for an output pin of a box on the sheet: a tree over its table, and the copy of its value.
+/// A tree over the pin's column of the table, and the `buf` of its value.
 pub(crate) fn put_pin(
-    out: &mut Sheet,
+    out: &mut TextBuffer,
     flat: &Flat,
     stem: usize,
     number: u32,

@@ -1,17 +1,19 @@
-//! Words of the filled text.
+//! The words of the filled text. Ports and registers keep their texts as escaped names (IEEE 1364-2005, 3.7.1), so that
+//! a report and the text name the same things whatever bytes the names have; other cells and choices have names made of
+//! the stem and a number.
 
 ghost use Rattle.std.specs.Prelude.{◌≡◌, ◌+◌, ◌<◌, ◌++◌, if◌then◌else◌, [], codes, decimal, length, map, replicate};
 ghost use Rattle.std.specs.List.{slice_index_or};
 ghost use Rattle.bb_net.specs.CutPoints.{register_texts};
 ghost use Rattle.bb_fill.specs.Words.{printed, word_at, word_text};
-ghost use Rattle.bb_fill.specs.Inside.Sheets.{Adds};
+ghost use Rattle.bb_fill.specs.Inside.TextBuffers.{Adds};
 
-use crate::sheet::Sheet;
+use crate::text_buffer::TextBuffer;
 use bb_bits::Name;
 use bb_net::{Cell, Flat};
 
-/// Puts a name on the sheet.
-pub(crate) fn put_name(out: &mut Sheet, name: &Name)
+/// The blank ends an escaped name.
+pub(crate) fn put_name(out: &mut TextBuffer, name: &Name)
     ensures adds { Adds out.old out.new (printed name.now) }
 {
     out.put(b"\\");
@@ -19,8 +21,7 @@ pub(crate) fn put_name(out: &mut Sheet, name: &Name)
     out.put(b" ");
 }
 
-/// Puts a bit on the sheet, as a number.
-pub(crate) fn put_bit(out: &mut Sheet, bit: bool)
+pub(crate) fn put_bit(out: &mut TextBuffer, bit: bool)
     ensures adds { Adds out.old out.new (if bit then codes "1'b1" else codes "1'b0") }
 {
     if bit {
@@ -30,16 +31,15 @@ pub(crate) fn put_bit(out: &mut Sheet, bit: bool)
     }
 }
 
-/// Puts the net of a cell on the sheet.
-pub(crate) fn put_net(out: &mut Sheet, stem: usize, number: u32)
+pub(crate) fn put_net(out: &mut TextBuffer, stem: usize, number: u32)
     ensures adds { Adds out.old out.new (replicate stem 95 ++ decimal number) }
 {
     out.put_stem(stem);
     out.put_number(number);
 }
 
-/// Puts the net of a choice on the sheet.
-pub(crate) fn put_choice(out: &mut Sheet, stem: usize, number: u32)
+/// The `t` keeps choices apart from cells.
+pub(crate) fn put_choice(out: &mut TextBuffer, stem: usize, number: u32)
     ensures adds { Adds out.old out.new (replicate stem 95 ++ codes "t" ++ decimal number) }
 {
     out.put_stem(stem);
@@ -47,8 +47,8 @@ pub(crate) fn put_choice(out: &mut Sheet, stem: usize, number: u32)
     out.put_number(number);
 }
 
-// Puts the text of an input of the netlist on the sheet, of the top or else a register.
-fn put_input(out: &mut Sheet, flat: &Flat, i: u32)
+// Inputs of the netlist are those of the top and then the registers.
+fn put_input(out: &mut TextBuffer, flat: &Flat, i: u32)
     requires there { i < length flat.now.ins + length flat.now.regs }
     ensures adds { Adds out.old out.new (printed (slice_index_or (flat.now.ins ++ register_texts flat.now) i [])) }
 {
@@ -61,8 +61,8 @@ fn put_input(out: &mut Sheet, flat: &Flat, i: u32)
     }
 }
 
-/// Puts the word of a cell on the sheet.
-pub(crate) fn put_word(out: &mut Sheet, flat: &Flat, stem: usize, place: u32)
+/// A constant is its bit, an input or register its text; any other cell its own net.
+pub(crate) fn put_word(out: &mut TextBuffer, flat: &Flat, stem: usize, place: u32)
     requires there { place < length flat.now.net.cells }
     ensures adds { Adds out.old out.new (word_text (replicate stem 95) (word_at flat.now place)) }
 {

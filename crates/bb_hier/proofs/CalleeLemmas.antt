@@ -10,7 +10,7 @@ use Rattle.bb_bits.specs.Names.{same_name, placed}
 use Rattle.bb_ast.specs.Syntax.{PlainModule, PlainConns}
 use Rattle.bb_design.specs.Hierarchy.{Instance, instance_of, instances_of}
 use Rattle.bb_design.specs.Inside.Callees.{place_named, callees}
-use Rattle.bb_lists.proofs.Names.{same_equal}
+use Rattle.bb_lemmas.proofs.Names.{same_equal}
 
 abbrev first_or : {X : Type 0} → Option X → Option X → Option X
 first_or (Some x) o = Some x
@@ -36,23 +36,23 @@ placed-push j (m ∷ ns) n = ap (λ l. (m, j) ∷ l) (placed-push (j + 1) ns n �
     plus-suc j k = omega arith
 
 module _ {A B : Type 0} (f : A → B) (g : B → PlainModule) (xs : List A) (k : ℕ) (x : A) (lt : k < length xs) (at : x ≡ get_or xs k x) where
-  front-more : map g (map f (take (k + 1) xs)) ≡ map g (map f (take k xs)) ++ g (f x) ∷ []
-  front-more = ap (λ l. map g (map f l)) (take_more xs k x lt ∙ ap (λ y. take k xs ++ y ∷ []) (sym at)) ∙ ap (map g) (map-append f (take k xs) (x ∷ [])) ∙ map-append g (map f (take k xs)) (f x ∷ [])
+  prefix-more : map g (map f (take (k + 1) xs)) ≡ map g (map f (take k xs)) ++ g (f x) ∷ []
+  prefix-more = ap (λ l. map g (map f l)) (take_more xs k x lt ∙ ap (λ y. take k xs ++ y ∷ []) (sym at)) ∙ ap (map g) (map-append f (take k xs) (x ∷ [])) ∙ map-append g (map f (take k xs)) (f x ∷ [])
 
   names-more : map (λ (m : PlainModule). m.name) (map g (map f (take (k + 1) xs))) ≡ map (λ (m : PlainModule). m.name) (map g (map f (take k xs))) ++ (g (f x)).name ∷ []
-  names-more = ap (map (λ (m : PlainModule). m.name)) front-more ∙ map-append (λ (m : PlainModule). m.name) (map g (map f (take k xs))) (g (f x) ∷ [])
+  names-more = ap (map (λ (m : PlainModule). m.name)) prefix-more ∙ map-append (λ (m : PlainModule). m.name) (map g (map f (take k xs))) (g (f x) ∷ [])
 
   -- one module more
   next-place : (n : List ℕ) → place_named (map g (map f (take (k + 1) xs))) n ≡ first_or (place_named (map g (map f (take k xs))) n) (cond (same_name n (g (f x)).name) (Some k) None)
   next-place n =
       ap (λ l. lookup (same_name n) (placed 0 l)) names-more ∙ ap (lookup (same_name n)) (placed-push 0 (map (λ (m : PlainModule). m.name) (map g (map f (take k xs)))) (g (f x)).name)
       ∙ lookup-push (same_name n) (placed 0 (map (λ (m : PlainModule). m.name) (map g (map f (take k xs))))) (g (f x)).name (0 + length (map (λ (m : PlainModule). m.name) (map g (map f (take k xs)))))
-      ∙ ap (λ j. first_or (place_named (map g (map f (take k xs))) n) (cond (same_name n (g (f x)).name) (Some j) None)) (front-length xs k lt)
+      ∙ ap (λ j. first_or (place_named (map g (map f (take k xs))) n) (cond (same_name n (g (f x)).name) (Some j) None)) (prefix-length xs k lt)
     where
-      front-length : (ys : List A) (j : ℕ) → j < length ys → 0 + length (map (λ (m : PlainModule). m.name) (map g (map f (take j ys)))) ≡ j
-      front-length [] j lt = absurd (omega (arith, lt))
-      front-length (y ∷ ys) zero lt = omega arith
-      front-length (y ∷ ys) (suc j) lt = omega (arith, front-length ys j (omega (arith, lt)))
+      prefix-length : (ys : List A) (j : ℕ) → j < length ys → 0 + length (map (λ (m : PlainModule). m.name) (map g (map f (take j ys)))) ≡ j
+      prefix-length [] j lt = absurd (omega (arith, lt))
+      prefix-length (y ∷ ys) zero lt = omega arith
+      prefix-length (y ∷ ys) (suc j) lt = omega (arith, prefix-length ys j (omega (arith, lt)))
 
   -- its name was new
   pub new-name : (n copy : List ℕ) (entries now : List (List ℕ × ℕ)) → copy ≡ (g (f x)).name → now ≡ entries ++ (copy, k) ∷ [] → ((m : List ℕ) → lookup (same_name m) entries ≡ place_named (map g (map f (take k xs))) m)

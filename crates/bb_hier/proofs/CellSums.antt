@@ -1,4 +1,4 @@
--- Sums that stop at a greatest number, element by element; and what stands in a checked module is as narrow as a net may be.
+-- Sums that stop at a greatest number, element by element; and what is in a checked module is as narrow as a net may be.
 use Rattle.std.proofs.Common.{◌≡◌, ◌⊎◌, ℕ, ◌+◌, ◌-◌, ◌≤◌, ◌<◌, Bool, true, false, filter, List, [], ◌∷◌, ◌++◌, map, length, take, drop, get_or, All, Option, Some, None, refl, sym, ap, ◌∙◌, subst, inl, inr, arith}
 use Rattle.std.specs.Prelude.{if◌then◌else◌, sum_by, min, slice_get, IsSomeAnd}
 use Rattle.std.specs.List.{flat_map}
@@ -15,11 +15,11 @@ use Rattle.bb_names.specs.Inside.Checked.{ModuleFacts, syntax, IsChecked}
 use Rattle.bb_names.specs.Declarations.{range_of}
 use Rattle.bb_names.specs.Widths.{own_width}
 use Rattle.bb_expr.specs.Inside.Fit.{AreFit, ranges_in}
-use Rattle.bb_expr.specs.Laws.FitLaws.{StandingIsFit}
-use Rattle.bb_expr.specs.Inside.Standing.{StandsAt, ranges_at}
+use Rattle.bb_expr.specs.Laws.FitLaws.{OccurrencesAreFit}
+use Rattle.bb_expr.specs.Inside.Occurrences.{OccursAt, ranges_at}
 use Rattle.bb_hier.specs.Inside.Weights.{inputs_of}
-use Rattle.bb_lists.proofs.Members.{all_from, contains-map, into_flat}
-use Rattle.bb_lists.proofs.Orders.{less_or_not}
+use Rattle.bb_lemmas.proofs.Members.{all_from, contains-map, into_flat}
+use Rattle.bb_lemmas.proofs.Orders.{less_or_not}
 
 pub two_shares : (m a b first second result : ℕ) → first ≡ min m a → second ≡ min m b → result ≡ min (first + second) m → result ≡ min m (a + b)
 two_shares m a b first second result x y is = omega (arith, x, y, is)
@@ -49,7 +49,7 @@ pub all_within : {X Y Z : Type 0} (P : Z → Type 0) (h : Y → List Z) (f : X �
 all_within P h f xs i x within at all =
     all_from P (h (f x)) (λ z has. All-contains P (flat_map h (map f xs)) z all (into_flat h (map f xs) (f x) z (contains-map f xs x (i, within, sym at)) has))
 
--- what stands in a module
+-- what is in a module
 
 some_at_place : {A : Type 0} (P : A → Type 0) (o : Option A) → IsSomeAnd o P → (x : A) × (o ≡ Some x) × P x
 some_at_place P None h = absurd h
@@ -58,9 +58,9 @@ some_at_place P (Some x) h = (x, refl, h)
 pub ranges_there : (checked : List ModuleFacts) (k : ℕ) (m : ModuleFacts) → slice_get checked k ≡ Some m → ranges_at checked k ≡ ranges_in m
 ranges_there checked k m at = ap (λ o. λ (n : List ℕ). option_and_then (λ (m : ModuleFacts). range_of (syntax m) n) o) at
 
-pub stands_narrow : (checked : List ModuleFacts) (k : ℕ) (e : Expression) → StandingIsFit → IsChecked checked → StandsAt checked k e → own_width (ranges_at checked k) e ≤ 65536
-stands_narrow checked k e law ok stands =
-    let m = some_at_place (λ m. AreFit m e) (slice_get checked k) (law checked k e ok stands) in
+pub occurs_narrow : (checked : List ModuleFacts) (k : ℕ) (e : Expression) → OccurrencesAreFit → IsChecked checked → OccursAt checked k e → own_width (ranges_at checked k) e ≤ 65536
+occurs_narrow checked k e law ok occurs =
+    let m = some_at_place (λ m. AreFit m e) (slice_get checked k) (law checked k e ok occurs) in
     subst (λ r. own_width r e ≤ 65536) (sym (ranges_there checked k m.0 m.1)) (m.2.each 0 e (omega arith)).bounded
 
 -- the inputs of a gate
@@ -77,7 +77,7 @@ inputs_there gate terms k is =
     ap (map expression) (take_whole (output_count gate (length terms)) k terms is) ∙ sym (drop-map expression (output_count gate (length terms)) terms)
     ∙ ap (λ n. drop (output_count gate n) (map expression terms)) (sym (length-map terms expression))
 
--- sums over a list as it stands
+-- sums over a list as it is
 module _ {X : Type 0} (g : X → ℕ) (xs : List X) (i : ℕ) (m : ℕ) where
   pub share_step : (x : X) (before here now : ℕ) → i < length xs → x ≡ get_or xs i x → before ≡ min m (sum_by g (take i xs)) → here ≡ min m (g x) → now ≡ min (before + here) m → now ≡ min m (sum_by g (take (i + 1) xs))
   share_step x before here now within at so_far more is =

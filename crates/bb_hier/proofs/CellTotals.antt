@@ -8,7 +8,7 @@ use Rattle.bb_ast.specs.Syntax.{PlainItem, PlainModule}
 use Rattle.bb_names.specs.Declarations.{range_of}
 use Rattle.bb_names.specs.Faults.{IsSound}
 use Rattle.bb_names.specs.Nets.{nets_of, is_empty}
-use Rattle.bb_names.specs.Spots.{module_named}
+use Rattle.bb_names.specs.Sites.{module_named}
 use Rattle.bb_expr.specs.Laws.FitLaws.{AssignableIsNets}
 use Rattle.bb_expr.specs.Laws.{CellsAreCounted, MadeHasValue, ValuesHaveWidth}
 use Rattle.bb_design.specs.Constructs.{BoxContents, body_constructs, constructs_at, parts}
@@ -19,9 +19,9 @@ use Rattle.bb_design.specs.Refusals.{design_on}
 use Rattle.bb_design.specs.Registers.{RegisterBit, registers, cut_bits}
 use Rattle.bb_design.specs.Sizes.{cell_count_at, cells_in, bits_and_instances}
 use Rattle.bb_hier.specs.Inside.Weights.{net_width, is_input_net, is_output_net, bit_count, item_cells, construct_cells, instance_cells, total_below}
-use Rattle.bb_lists.proofs.Places.{there_at}
-use Rattle.bb_lists.proofs.Members.{from_flat, mapped_there, contains_here, contains_there, contains_cases, none_in_nil, from_filter_map}
-use Rattle.bb_lists.proofs.Orders.{less_or_not}
+use Rattle.bb_lemmas.proofs.Places.{there_at}
+use Rattle.bb_lemmas.proofs.Members.{from_flat, mapped_there, contains_here, contains_there, contains_cases, none_in_nil, from_filter_map}
+use Rattle.bb_lemmas.proofs.Orders.{less_or_not}
 use Rattle.bb_hier.proofs.CellSums.{sum_flat}
 use Rattle.bb_hier.proofs.ConstructCounts.{sum_items}
 use Rattle.bb_hier.proofs.HierarchySums.{weight_or, sum_map, sum_same, sum_both, sum_below, long_nets, weight_at, bits_counted, got_map, total_capped_where}
@@ -117,8 +117,8 @@ sum_there : (m k i r constructs inputs first own below sum whole : ℕ) → 2 �
     → whole ≡ (2 + i) + (k + r) → sum ≡ min m whole
 sum_there m k i r constructs inputs first own below sum whole le a b c e f g all = omega (arith, le, a, b, c, e, f, g, all)
 
-told_past : (m limit sum whole : ℕ) → limit < m → sum ≡ min m whole → nat_lt limit sum ≡ nat_lt limit whole
-told_past m limit sum whole room is = by (less_or_not limit whole)
+reported_past : (m limit sum whole : ℕ) → limit < m → sum ≡ min m whole → nat_lt limit sum ≡ nat_lt limit whole
+reported_past m limit sum whole room is = by (less_or_not limit whole)
   where
     by : (limit < whole) ⊎ (whole ≤ limit) → nat_lt limit sum ≡ nat_lt limit whole
     by (inl h) = let lt : limit < sum = omega (arith, room, is, h) in grind (arith, lt, h)
@@ -134,8 +134,8 @@ module _ (of_designs : DesignLaws) (m limit : ℕ) (room : limit + 1 < m) (text 
   few_below : bit_count t + total_below (called text) bit_weight 64 top ≤ limit
   few_below = omega (arith, few, bits_counted (design_on text t), sum_below of_designs text sound (λ x. bit_count x + 1) 64 (root (design_on text t)) top at)
 
-  weight_told : (k : ℕ) → bit_weight k ≤ limit → min m (slice_index_or instances k 0) ≡ min m (weight_at instance_cells text k)
-  weight_told k le = by (slice_get text k) refl
+  weight_reported : (k : ℕ) → bit_weight k ≤ limit → min m (slice_index_or instances k 0) ≡ min m (weight_at instance_cells text k)
+  weight_reported k le = by (slice_get text k) refl
     where
       past : slice_get text k ≡ None → length text ≤ k
       past none = not_there text k none
@@ -152,17 +152,17 @@ module _ (of_designs : DesignLaws) (m limit : ℕ) (room : limit + 1 < m) (text 
       by None e = ap (min m) (get_or_past instances k 0 (omega (arith, long, past e))) ∙ ap (λ o. min m (weight_or instance_cells o)) (sym e)
       by (Some x) e =
           let small : bit_count x + 1 ≤ limit = subst (λ o. weight_or (λ x. bit_count x + 1) o ≤ limit) e le in
-          let told : slice_index_or bits k 0 ≤ limit + 1 = omega (arith, small, ap (λ l. slice_index_or l k 0) are ∙ got_map (λ x. min m (bit_count x + 1)) text k x e) in
-          ap (min m) (called_made k x e (made k x e told)) ∙ twice m (instance_cells x) ∙ ap (λ o. min m (weight_or instance_cells o)) (sym e)
+          let reported : slice_index_or bits k 0 ≤ limit + 1 = omega (arith, small, ap (λ l. slice_index_or l k 0) are ∙ got_map (λ x. min m (bit_count x + 1)) text k x e) in
+          ap (min m) (called_made k x e (made k x e reported)) ∙ twice m (instance_cells x) ∙ ap (λ o. min m (weight_or instance_cells o)) (sym e)
 
   pub many_cells : CellsAreCounted → MadeHasValue → ValuesHaveWidth → AssignableIsNets → (limit2 inputs first own below sum : ℕ) → limit2 < m → inputs ≡ min m (sum_by net_width (filter is_input_net (nets_of t)))
       → first ≡ min (slice_index_or constructs top 0 + inputs) m → own ≡ min (first + 2) m → below ≡ min m (total_below (called text) (λ j. slice_index_or instances j 0) 64 top) → sum ≡ min (own + below) m
       → nat_lt limit2 sum ≡ nat_lt limit2 (cells_in (design_on text t))
   many_cells counted made_value long_value assignable limit2 inputs first own below sum room2 a b c e f =
-      let told : slice_index_or bits top 0 ≤ limit + 1 = omega (arith, few_below, ap (λ l. slice_index_or l top 0) are ∙ got_map (λ x. min m (bit_count x + 1)) text top t at) in
-      told_past m limit2 sum (cells_in (design_on text t)) room2
+      let reported : slice_index_or bits top 0 ≤ limit + 1 = omega (arith, few_below, ap (λ l. slice_index_or l top 0) are ∙ got_map (λ x. min m (bit_count x + 1)) text top t at) in
+      reported_past m limit2 sum (cells_in (design_on text t)) room2
       (sum_there m (construct_cells t) (sum_by net_width (filter is_input_net (nets_of t))) (total_below (called text) (weight_at instance_cells text) 64 top) (slice_index_or constructs top 0) inputs first own below sum (cells_in (design_on text t)) (omega (arith, room, room2))
-      (made top t at told) a b c
-      (e ∙ total_capped_where m limit (called text) bit_weight (λ j. slice_index_or instances j 0) (weight_at instance_cells text) weight_told 64 top (omega (arith, few_below))) f
+      (made top t at reported) a b c
+      (e ∙ total_capped_where m limit (called text) bit_weight (λ j. slice_index_or instances j 0) (weight_at instance_cells text) weight_reported 64 top (omega (arith, few_below))) f
       (cells_whole of_designs counted made_value long_value assignable (design_on text t) sound (there_at text top t at)
       ∙ ap (λ n. (2 + sum_by net_width (filter is_input_net (nets_of t))) + (construct_cells t + n)) (sum_below of_designs text sound instance_cells 64 (root (design_on text t)) top at)))

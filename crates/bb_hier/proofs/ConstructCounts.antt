@@ -15,13 +15,13 @@ use Rattle.bb_names.specs.declared.fault.NameFault.{NameFault}
 use Rattle.bb_names.specs.declared.fault.NameFault.TheVariants as name_faults
 use Rattle.bb_names.specs.Declarations.{Declaration, declared_by_head, instance_declaration, range_of, direction_of, port_direction}
 use Rattle.bb_names.specs.Faults.{IsSound, Rows, is_input, unknown, wrong_role, kinds, statement_faults, module_faults}
-use Rattle.bb_names.specs.Spots.{Pin, Spot, HeadName, Target, Placed, PortName, Declared, header_spots, declared_spots, item_spots, conns_spots, joined_spots, module_named, pin_named, pin_at, place_count}
+use Rattle.bb_names.specs.Sites.{Pin, Site, HeadName, Target, Placed, PortName, Declared, header_sites, declared_sites, item_sites, conns_sites, joined_sites, module_named, pin_named, pin_at, place_count}
 use Rattle.bb_names.specs.Widths.{Ranges, own_width}
 use Rattle.bb_expr.specs.Cells.{cell_count}
 use Rattle.bb_expr.specs.Laws.FitLaws.{AssignableIsNets}
 use Rattle.bb_expr.specs.Laws.{CellsAreCounted, MadeHasValue, ValuesHaveWidth}
 use Rattle.bb_expr.specs.Inside.Shares.{own_cells}
-use Rattle.bb_expr.specs.Inside.Standing.{conns_expressions}
+use Rattle.bb_expr.specs.Inside.Occurrences.{conns_expressions}
 use Rattle.bb_expr.specs.Terms.{Term, term_bit}
 use Rattle.bb_expr.specs.Values.{Bits}
 use Rattle.bb_design.specs.Constructs.{Construct, Assignment, Register, SupplyNet, InputConnection, OutputConnection, initial_construct, gate_construct, connection, connections, body_constructs}
@@ -32,14 +32,14 @@ use Rattle.bb_design.specs.GateFunctions.{inverts, on_terms, gate_gives, joined_
 use Rattle.bb_design.specs.Hierarchy.{Scope}
 use Rattle.bb_design.specs.Sizes.{cell_count_at}
 use Rattle.bb_hier.specs.Inside.Weights.{assigned_cells, initial_cells, assignment_cells, inputs_of, inversions, gate_weight, item_cells}
-use Rattle.bb_lists.proofs.Places.{got, some_at}
+use Rattle.bb_lemmas.proofs.Places.{got, some_at}
 use Rattle.bb_hier.proofs.CellSums.{sum_flat}
-use Rattle.bb_lists.proofs.Numbered.{enumerated_from}
+use Rattle.bb_lemmas.proofs.Numbered.{enumerated_from}
 use Rattle.bb_hier.proofs.HierarchySums.{sum_map, sum_same, sum_ones, length_flat}
-use Rattle.bb_lists.proofs.Members.{contains-map, into_flat, flat_nil, left_nil, map_nil, contains_here, contains_there, from_find, find_there, none_if}
-use Rattle.bb_lists.proofs.Earlier.{each_there, each_nil}
-use Rattle.bb_design.specs.Laws.SoundSpots.{IsSoundSpot}
-use Rattle.bb_lists.proofs.Names.{same_self}
+use Rattle.bb_lemmas.proofs.Members.{contains-map, into_flat, flat_nil, left_nil, map_nil, contains_here, contains_there, from_find, find_there, none_if}
+use Rattle.bb_lemmas.proofs.Earlier.{each_there, each_nil}
+use Rattle.bb_design.specs.Laws.SoundSites.{IsSoundSite}
+use Rattle.bb_lemmas.proofs.Names.{same_self}
 use Rattle.bb_design.specs.Laws.DesignLaws.{DesignLaws}
 
 some_where : {A : Type 0} (o : Option A) → is_none o ≡ false → (x : A) × (o ≡ Some x)
@@ -84,11 +84,11 @@ module _ (text : List PlainModule) (sound : IsSound text) where
   head_has_direction : (m : PlainModule) → Contains text m → (head : PlainHead) → Contains m.heads head → (dir : _) × (direction_of m head.name ≡ Some dir)
   head_has_direction m has head there =
       let in_module = each_nil (module_faults text) [] text sound m has in
-      let spots = flat_nil (λ (x : (ℕ → List ℕ → NameFault) × Rows). map (x.0 m.line) (flat_map (x.1 text m) (header_spots in_module.0 m))) kinds (left_nil (statement_faults text m m.line (header_spots in_module.0 m)) _ in_module.1) (name_faults.Unknown, unknown) (1, omega arith, refl) in
-      let w = each_there (λ before h. HeadName before h.name ∷ declared_spots (flat_map declared_by_head before) (declared_by_head h)) [] m.heads head there in
-      let spot = HeadName w.0 head.name in
-      let none = flat_nil (unknown text m) (header_spots in_module.0 m) (map_nil (name_faults.Unknown m.line) (flat_map (unknown text m) (header_spots in_module.0 m)) spots) spot
-      (contains_there _ _ spot (w.1 spot (contains_here spot _))) in
+      let sites = flat_nil (λ (x : (ℕ → List ℕ → NameFault) × Rows). map (x.0 m.line) (flat_map (x.1 text m) (header_sites in_module.0 m))) kinds (left_nil (statement_faults text m m.line (header_sites in_module.0 m)) _ in_module.1) (name_faults.Unknown, unknown) (1, omega arith, refl) in
+      let w = each_there (λ before h. HeadName before h.name ∷ declared_sites (flat_map declared_by_head before) (declared_by_head h)) [] m.heads head there in
+      let site = HeadName w.0 head.name in
+      let none = flat_nil (unknown text m) (header_sites in_module.0 m) (map_nil (name_faults.Unknown m.line) (flat_map (unknown text m) (header_sites in_module.0 m)) sites) site
+      (contains_there _ _ site (w.1 site (contains_here site _))) in
       some_where (direction_of m head.name) (none_if (is_none (direction_of m head.name)) head.name none)
 
   pub head_is_port : (m : PlainModule) → Contains text m → (head : PlainHead) → Contains m.heads head → (pin : Pin) × (pin_named m head.name ≡ Some pin)
@@ -181,34 +181,34 @@ module _ (of_designs : DesignLaws) (counted : CellsAreCounted) (made_value : Mad
         ∙ sym (sum_flat (own_cells (range_of s.source)) (λ (x : List ℕ × Option Expression). option_to_list x.1) all)
 
   module _ (here : Contains text s.source) where
-    -- no spot of calls is at fault
-    module _ (earlier : List Declaration) (name : List ℕ) (calls : List (List ℕ × PlainConns)) (fine : (spot : Spot) → Contains (item_spots text earlier (Calls name calls)) spot → IsSoundSpot text s spot) where
+    -- no site of calls is at fault
+    module _ (earlier : List Declaration) (name : List ℕ) (calls : List (List ℕ × PlainConns)) (fine : (site : Site) → Contains (item_sites text earlier (Calls name calls)) site → IsSoundSite text s site) where
       target_is : (m : PlainModule) × (module_named text name ≡ Some m)
       target_is = some_where (module_named text name) (none_if (is_none (module_named text name)) name (fine (Target name) (contains_here (Target name) _) (name_faults.Unknown, unknown) (1, omega arith, refl)))
 
       module _ (x : List ℕ × PlainConns) (has : Contains calls x) where
-        call_spot : (spot : Spot) → Contains (Placed (module_named text name) x.0 (place_count x.1) ∷ conns_spots (module_named text name) x.1) spot → IsSoundSpot text s spot
-        call_spot spot at =
-            let w = each_there (λ before y. Declared (earlier ++ map (λ (z : List ℕ × PlainConns). instance_declaration z.0) before) (instance_declaration y.0) ∷ Placed (module_named text name) y.0 (place_count y.1) ∷ conns_spots (module_named text name) y.1) [] calls x has in
-            fine spot (contains_there (Target name) _ spot (w.1 spot (contains_there _ (Placed (module_named text name) x.0 (place_count x.1) ∷ conns_spots (module_named text name) x.1) spot at)))
+        call_site : (site : Site) → Contains (Placed (module_named text name) x.0 (place_count x.1) ∷ conns_sites (module_named text name) x.1) site → IsSoundSite text s site
+        call_site site at =
+            let w = each_there (λ before y. Declared (earlier ++ map (λ (z : List ℕ × PlainConns). instance_declaration z.0) before) (instance_declaration y.0) ∷ Placed (module_named text name) y.0 (place_count y.1) ∷ conns_sites (module_named text name) y.1) [] calls x has in
+            fine site (contains_there (Target name) _ site (w.1 site (contains_there _ (Placed (module_named text name) x.0 (place_count x.1) ∷ conns_sites (module_named text name) x.1) site at)))
 
         few_places : (m : PlainModule) → module_named text name ≡ Some m → place_count x.1 ≤ length m.heads
         few_places m is = not_more (length m.heads) (place_count x.1) (none_if (nat_lt (length m.heads) (place_count x.1)) x.0
-            (subst (λ o. wrong_role text s.source (Placed o x.0 (place_count x.1)) ≡ []) is (call_spot (Placed (module_named text name) x.0 (place_count x.1)) (contains_here _ _) (name_faults.Role, wrong_role) (4, omega arith, refl))))
+            (subst (λ o. wrong_role text s.source (Placed o x.0 (place_count x.1)) ≡ []) is (call_site (Placed (module_named text name) x.0 (place_count x.1)) (contains_here _ _) (name_faults.Role, wrong_role) (4, omega arith, refl))))
           where
             not_more : (a b : ℕ) → nat_lt a b ≡ false → b ≤ a
             not_more a b h = grind (arith, nat_tests, h)
 
         named_port : (m : PlainModule) → module_named text name ≡ Some m → (n : List ℕ) (e : Expression) (all : List (List ℕ × Option Expression)) → x.1 ≡ Named all → Contains all (n, Some e) → (p : Pin) × (pin_named m n ≡ Some p)
         named_port m is n e all form there =
-            let w = each_there (λ before y. PortName (module_named text name) (map (λ z. z.0) before) y.0 ∷ joined_spots (option_and_then (λ m. pin_named m y.0) (module_named text name)) y.1) [] all (n, Some e) there in
-            let spot = PortName (module_named text name) (map (λ (z : List ℕ × Option Expression). z.0) w.0) n in
-            let sound_spot = call_spot spot (contains_there _ (conns_spots (module_named text name) x.1) spot (subst (λ conns. Contains (conns_spots (module_named text name) conns) spot) (sym form) (w.1 spot (contains_here spot _)))) in
+            let w = each_there (λ before y. PortName (module_named text name) (map (λ z. z.0) before) y.0 ∷ joined_sites (option_and_then (λ m. pin_named m y.0) (module_named text name)) y.1) [] all (n, Some e) there in
+            let site = PortName (module_named text name) (map (λ (z : List ℕ × Option Expression). z.0) w.0) n in
+            let sound_site = call_site site (contains_there _ (conns_sites (module_named text name) x.1) site (subst (λ conns. Contains (conns_sites (module_named text name) conns) site) (sym form) (w.1 site (contains_here site _)))) in
             let dir = some_where (port_direction m n) (none_if (is_none (port_direction m n)) n
-            (subst (λ o. unknown text s.source (PortName o (map (λ (z : List ℕ × Option Expression). z.0) w.0) n) ≡ []) is (sound_spot (name_faults.Unknown, unknown) (1, omega arith, refl)))) in
+            (subst (λ o. unknown text s.source (PortName o (map (λ (z : List ℕ × Option Expression). z.0) w.0) n) ≡ []) is (sound_site (name_faults.Unknown, unknown) (1, omega arith, refl)))) in
             (_, ap (option_map (λ dir. record { name = n; dir = dir; width = _ })) dir.1)
 
-    sum_body : (earlier : List Declaration) (body : PlainBody) → ((spot : Spot) → Contains (item_spots text earlier body) spot → IsSoundSpot text s spot) → sum_by count (body_constructs text body) ≡ item_cells (range_of s.source) body
+    sum_body : (earlier : List Declaration) (body : PlainBody) → ((site : Site) → Contains (item_sites text earlier body) site → IsSoundSite text s site) → sum_by count (body_constructs text body) ≡ item_cells (range_of s.source) body
     sum_body earlier (Ports port names) fine = refl
     sum_body earlier (Regs range names) fine = refl
     sum_body earlier (Nets range nets) fine = sum_flat count initial_construct nets ∙ sum_same (λ x. sum_by count (initial_construct x)) (initial_cells (range_of s.source)) nets (λ x has. sum_initial x)
@@ -231,4 +231,4 @@ module _ (of_designs : DesignLaws) (counted : CellsAreCounted) (made_value : Mad
     pub sum_items : sum_by count (flat_map (λ item. body_constructs text item.body) s.source.items) ≡ sum_by (λ item. item_cells (range_of s.source) item.body) s.source.items
     sum_items = sum_flat count (λ (item : PlainItem). body_constructs text item.body) s.source.items
         ∙ sum_same (λ (item : PlainItem). sum_by count (body_constructs text item.body)) (λ item. item_cells (range_of s.source) item.body) s.source.items
-        (λ item has. let spots = of_designs.sound_spots text sound s.source here item has in sum_body spots.0 item.body spots.1)
+        (λ item has. let sites = of_designs.sound_sites text sound s.source here item has in sum_body sites.0 item.body sites.1)

@@ -5,7 +5,7 @@ use Rattle.std.specs.List.{list_any, slice_index_or}
 use Rattle.std.proofs.lemmas.List.{get_or-map, get_or_default, length-map, take_more, map-append}
 use Rattle.std.proofs.lemmas.List.Elements.{All-from_get_or}
 use Rattle.bb_hier.specs.Inside.Depths.{height_over, is_tall}
-use Rattle.bb_lists.proofs.Orders.{less_or_same}
+use Rattle.bb_lemmas.proofs.Orders.{less_or_same}
 
 height_over-push : (h : ℕ → ℕ) (xs : List ℕ) (k : ℕ) → height_over h (xs ++ k ∷ []) ≡ max (height_over h xs) (h k + 1)
 height_over-push h [] k = omega arith
@@ -23,12 +23,12 @@ callees_fit n callees i list called there lt is same =
 
 pub heights_more : (f : List ℕ → ℕ) (callees : List (Vec ℕ Global)) (i : ℕ) (list : Vec ℕ Global) (called before now : List ℕ) (height : ℕ) → i < length callees → list ≡ get_or callees i list → called ≡ list.items
     → before ≡ map f (map (λ list. list.items) (take i callees)) → now ≡ before ++ height ∷ [] → height ≡ f called → now ≡ map f (map (λ list. list.items) (take (i + 1) callees))
-heights_more f callees i list called before now height lt is same front more made =
+heights_more f callees i list called before now height lt is same prefix more made =
     let lists : List (List ℕ) = map (λ list. list.items) (take i callees) in
     let taken : map (λ list. list.items) (take (i + 1) callees) ≡ lists ++ called ∷ [] =
     ap (map (λ list. list.items)) (take_more callees i list lt) ∙ map-append (λ list. list.items) (take i callees) (get_or callees i list ∷ []) ∙ ap (λ (x : Vec ℕ Global). lists ++ x.items ∷ []) (sym is)
     ∙ ap (λ xs. lists ++ xs ∷ []) (sym same) in
-    more ∙ ap (λ xs. xs ++ height ∷ []) front ∙ ap (λ h. map f lists ++ h ∷ []) made ∙ sym (ap (map f) taken ∙ map-append f lists (called ∷ []))
+    more ∙ ap (λ xs. xs ++ height ∷ []) prefix ∙ ap (λ h. map f lists ++ h ∷ []) made ∙ sym (ap (map f) taken ∙ map-append f lists (called ∷ []))
 
 map-at : {A B : Type 0} (f : A → B) (xs : List A) (k : ℕ) (d : A) → get_or (map f xs) k (f d) ≡ f (get_or xs k d)
 map-at f [] k d = refl

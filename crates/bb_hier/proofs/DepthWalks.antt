@@ -1,4 +1,4 @@
--- The way from the top down to the first instance that stands too low.
+-- The way from the top down to the first instance that is too low.
 use Rattle.std.proofs.Common.{◌≡◌, ◌⊎◌, ◌+◌, ◌<◌, ◌≤◌, ◌++◌, ◌||◌, ℕ, Vec, Global, zero, suc, Bool, true, false, List, [], ◌∷◌, map, length, take, drop, get_or, Contains, Option, Some, refl, sym, ap, ◌∙◌, subst, inl, inr, arith, true≢false, append_assoc, length-append}
 use Rattle.std.specs.Prelude.{slice_get, ◌-◌, ◌==◌, codes, if◌then◌else◌, IfSome, nat_le}
 use Rattle.std.specs.List.{flat_map, list_any, slice_index_or}
@@ -11,23 +11,23 @@ use Rattle.bb_names.specs.Faults.{IsSound}
 use Rattle.bb_bits.specs.Closures.{IsFirst}
 use Rattle.bb_hier.specs.Inside.Depths.{is_tall}
 use Rattle.bb_design.specs.Hierarchy.{Instance, Path, Scope, instances_of, children, path_to, below, root, instances}
-use Rattle.bb_design.specs.Refusals.{Depth, IsTooLow, IsTold, IsAbsent, design_on}
+use Rattle.bb_design.specs.Refusals.{Depth, IsTooLow, IsReportedOfDesign, IsAbsentInDesign, design_on}
 use Rattle.bb_design.specs.Texts.{path_text}
 use Rattle.bb_design.specs.Inside.Callees.{callee_place, child, called}
-use Rattle.bb_lists.proofs.Places.{there_at, got, some_at, split, taken, list_here}
-use Rattle.bb_lists.proofs.Members.{all_from, from_flat, from_map, contains_there, contains_cases, none_in_nil}
-use Rattle.bb_lists.proofs.Orders.{less_or_past}
-use Rattle.bb_lists.proofs.Maps.{any-map}
+use Rattle.bb_lemmas.proofs.Places.{there_at, got, some_at, split, taken, list_here}
+use Rattle.bb_lemmas.proofs.Members.{all_from, from_flat, from_map, contains_there, contains_cases, none_in_nil}
+use Rattle.bb_lemmas.proofs.Orders.{less_or_past}
+use Rattle.bb_lemmas.proofs.Maps.{any-map}
 use Rattle.bb_design.specs.Laws.DesignLaws.{DesignLaws}
 
 module _ (of_designs : DesignLaws) (text : List PlainModule) (sound : IsSound text) where
-  -- what stands in a scope that is too low has as many instances above it
+  -- what is in a scope that is too low has as many instances above it
   low_is_tall : (n : ℕ) (s : Scope) (k : ℕ) → slice_get text k ≡ Some s.source → length s.path + n ≡ 64 → (y : Scope) → Contains (s ∷ below n text s) y → 64 ≤ length y.path → is_tall (called text) n k ≡ true
   unfolding below
   low_is_tall zero s k at long y has low = refl
   low_is_tall (suc n) s k at long y has low =
       by (contains_cases s (below (suc n) text s) y has)
-      (λ i there c. low_is_tall n (child text s i) (callee_place text i) ((of_designs.instances text sound s.source (there_at text k s.source at)).stands i there) (omega (arith, long, length-append s.path (i.name ∷ []))) y c low)
+      (λ i there c. low_is_tall n (child text s i) (callee_place text i) ((of_designs.instances text sound s.source (there_at text k s.source at)).occurs i there) (omega (arith, long, length-append s.path (i.name ∷ []))) y c low)
     where
       by : (s ≡ y) ⊎ Contains (below (suc n) text s) y → ((i : Instance) → Contains (instances_of s.source) i → Contains (child text s i ∷ below n text (child text s i)) y → is_tall (called text) n (callee_place text i) ≡ true)
           → is_tall (called text) (suc n) k ≡ true
@@ -45,32 +45,32 @@ module _ (of_designs : DesignLaws) (text : List PlainModule) (sound : IsSound te
     abbrev each : Scope → List Scope
     each c = c ∷ below n text c
 
-    abbrev front : List Instance
-    front = take j (instances_of s.source)
+    abbrev prefix : List Instance
+    prefix = take j (instances_of s.source)
 
     abbrev back : List Instance
     back = drop (suc j) (instances_of s.source)
 
     abbrev before : List Scope
-    before = flat_map each (map (child text s) front)
+    before = flat_map each (map (child text s) prefix)
 
     abbrev after : List Scope
     after = flat_map each (map (child text s) back)
 
     parts : below (suc n) text s ≡ before ++ (each (child text s x) ++ after)
     unfolding below
-    parts = ap (flat_map each) ((of_designs.instances text sound s.source (there_at text k s.source at)).children s refl ∙ ap (map (child text s)) (split (instances_of s.source) j x chosen) ∙ map-append (child text s) front (x ∷ back))
-        ∙ flat_map-append each (map (child text s) front) (child text s x ∷ map (child text s) back)
+    parts = ap (flat_map each) ((of_designs.instances text sound s.source (there_at text k s.source at)).children s refl ∙ ap (map (child text s)) (split (instances_of s.source) j x chosen) ∙ map-append (child text s) prefix (x ∷ back))
+        ∙ flat_map-append each (map (child text s) prefix) (child text s x ∷ map (child text s) back)
 
     none_before : (y : Scope) → Contains before y → 64 ≤ length y.path → ⊥
     none_before y has low =
-        let c = from_flat each (map (child text s) front) y has in
-        let i = from_map (child text s) front c.0 c.1 in
+        let c = from_flat each (map (child text s) prefix) y has in
+        let i = from_map (child text s) prefix c.0 c.1 in
         let t = taken (instances_of s.source) j i.0 i.1 in
         let g = got (instances_of s.source) t.0 i.0 i.0 t.2 in
         let place : slice_index_or (slice_index_or (called text) k []) t.0 0 ≡ callee_place text i.0 =
         ap (λ l. slice_index_or l t.0 0) ((of_designs.instances text sound s.source (there_at text k s.source at)).called k at) ∙ get_or-map (callee_place text) (instances_of s.source) t.0 i.0 0 g.0 ∙ ap (callee_place text) g.1 in
-        let tall = low_is_tall n (child text s i.0) (callee_place text i.0) ((of_designs.instances text sound s.source (there_at text k s.source at)).stands i.0 (there_at (instances_of s.source) t.0 i.0 t.2))
+        let tall = low_is_tall n (child text s i.0) (callee_place text i.0) ((of_designs.instances text sound s.source (there_at text k s.source at)).occurs i.0 (there_at (instances_of s.source) t.0 i.0 t.2))
         (omega (arith, long, length-append s.path (i.0.name ∷ []))) y (subst (λ (z : Scope). Contains (z ∷ below n text z) y) (sym i.2) c.2) low in
         true≢false (sym tall ∙ sym (ap (is_tall (called text) n) place) ∙ first t.0 t.1)
 
@@ -78,7 +78,7 @@ module _ (of_designs : DesignLaws) (text : List PlainModule) (sound : IsSound te
     leads_on r is = record {
       before = s ∷ (before ++ is.before);
       after = is.after ++ after;
-      stands = ap (λ l. s ∷ l) (parts ∙ ap (λ l. before ++ (l ++ after)) is.stands ∙ ap (λ l. before ++ l) (append_assoc is.before (r ∷ is.after) after) ∙ sym (append_assoc before is.before (r ∷ (is.after ++ after))));
+      occurs = ap (λ l. s ∷ l) (parts ∙ ap (λ l. before ++ (l ++ after)) is.occurs ∙ ap (λ l. before ++ l) (append_assoc is.before (r ∷ is.after) after) ∙ sym (append_assoc before is.before (r ∷ (is.after ++ after))));
       holds = is.holds;
       earlier = λ y has low. by y low (contains_cases s (before ++ is.before) y has);
     }
@@ -91,7 +91,7 @@ module _ (of_designs : DesignLaws) (text : List PlainModule) (sound : IsSound te
         by y low (inl same) = omega (arith, long, low, ap (λ (z : Scope). length z.path) same)
         by y low (inr more) = in_parts y low (Contains-append_cases before is.before y more)
 
-  pub shallow_where_low : (top : ℕ) (t : PlainModule) → slice_get text top ≡ Some t → is_tall (called text) 64 top ≡ false → IsAbsent (design_on text t) Depth
+  pub shallow_where_low : (top : ℕ) (t : PlainModule) → slice_get text top ≡ Some t → is_tall (called text) 64 top ≡ false → IsAbsentInDesign (design_on text t) Depth
   shallow_where_low top t at low = all_from (λ s. length s.path < 64) (instances (design_on text t)) (λ y has. from y has (less_or_past (length y.path) 64))
     where
       from : (y : Scope) → Contains (instances (design_on text t)) y → (length y.path < 64) ⊎ (64 ≤ length y.path) → length y.path < 64
@@ -162,7 +162,7 @@ module _ (of_designs : DesignLaws) where
         scope = child text s x.0;
         left = n;
         whole = omega (arith, small);
-        at = ap (slice_get text) to ∙ (of_designs.instances text sound s.source there).stands x.0 (there_at (instances_of s.source) next x.0 x.1);
+        at = ap (slice_get text) to ∙ (of_designs.instances text sound s.source there).occurs x.0 (there_at (instances_of s.source) next x.0 x.1);
         long = omega (arith, way.long, length-append s.path (x.0.name ∷ []));
         tall = tall;
         named = some_is (slice_get (instances_of m) next) x.0 (λ (i : Instance). now ≡ dotted ++ i.name) (ap (λ (y : PlainModule). slice_get (instances_of y) next) is ∙ x.1) more
@@ -195,9 +195,9 @@ some_goes_on text heights tall top level place name way small list same =
     any_same (λ k. nat_le (63 - level) (slice_index_or heights k 0)) (is_tall (called text) (63 - level)) (λ k. tall k (63 - level) (omega arith)) list
     ∙ ap (list_any (is_tall (called text) (63 - level))) (sym same) ∙ sym (ap (λ n. is_tall (called text) n place) left) ∙ way.tall
 
-pub stands_in : (callees : List (Vec ℕ Global)) (place : ℕ) (list : Vec ℕ Global) (items : List ℕ) (lists : List (List ℕ)) → map (λ list. list.items) callees ≡ lists → place < length callees → list ≡ get_or callees place list → slice_index_or lists place [] ≡ items
+pub occurs_in : (callees : List (Vec ℕ Global)) (place : ℕ) (list : Vec ℕ Global) (items : List ℕ) (lists : List (List ℕ)) → map (λ list. list.items) callees ≡ lists → place < length callees → list ≡ get_or callees place list → slice_index_or lists place [] ≡ items
     → (next to : ℕ) → next < length items → to ≡ get_or list.items next to → to ≡ slice_index_or items next 0
-stands_in callees place list items lists same lt is here next to within at =
+occurs_in callees place list items lists same lt is here next to within at =
     let one : list.items ≡ items = sym (list_here callees place list list.items lists same lt is refl) ∙ here in
     at ∙ ap (λ l. get_or l next to) one ∙ get_or_default items next to 0 within
 
@@ -205,18 +205,18 @@ pub way_there : (text : List PlainModule) (top level place : ℕ) (name : List �
 way_there text top level place name way = (got text place way.scope.source way.scope.source way.at).0
 
 module _ (of_designs : DesignLaws) where
-  first_behind : {A : Type 0} (P : A → Type 0) (x : A) (xs : List A) (r : A) → IsFirst P (x ∷ xs) r → (P x → ⊥) → IsFirst P xs r
-  first_behind P x xs r is not = by is.before is.after is.stands is.earlier
+  first_after : {A : Type 0} (P : A → Type 0) (x : A) (xs : List A) (r : A) → IsFirst P (x ∷ xs) r → (P x → ⊥) → IsFirst P xs r
+  first_after P x xs r is not = by is.before is.after is.occurs is.earlier
     where
       by : (ys zs : List _) → x ∷ xs ≡ ys ++ r ∷ zs → ((y : _) → Contains ys y → P y → ⊥) → IsFirst P xs r
       by [] zs e earlier = absurd (not (subst P (sym (ap (λ l. get_or l 0 r) e)) is.holds))
-      by (y ∷ ys) zs e earlier = record { before = ys; after = zs; stands = ap (drop 1) e; holds = is.holds; earlier = λ z has. earlier z (contains_there y ys z has) }
+      by (y ∷ ys) zs e earlier = record { before = ys; after = zs; occurs = ap (drop 1) e; holds = is.holds; earlier = λ z has. earlier z (contains_there y ys z has) }
 
-  pub way_ends : (text : List PlainModule) (top level place : ℕ) (path name : List ℕ) → IsOnWay text top level place path → level ≡ 64 → name ≡ path → (t : PlainModule) → slice_get text top ≡ Some t → IsTold (design_on text t) Depth name
+  pub way_ends : (text : List PlainModule) (top level place : ℕ) (path name : List ℕ) → IsOnWay text top level place path → level ≡ 64 → name ≡ path → (t : PlainModule) → slice_get text top ≡ Some t → IsReportedOfDesign (design_on text t) Depth name
   way_ends text top level place path name way end copy t at =
       let same : Some way.head ≡ Some t = sym way.from ∙ at in
       let is : way.head ≡ t = grind (arith, same) in
       let low : 64 ≤ length way.scope.path = omega (arith, way.long, end) in
-      let here : IsFirst IsTooLow (way.scope ∷ below way.left text way.scope) way.scope = record { before = []; after = below way.left text way.scope; stands = refl; holds = low; earlier = λ y has p. none_in_nil y has } in
-      subst (λ (m : PlainModule). IsTold (design_on text m) Depth name) is
-      (way.scope, first_behind IsTooLow (root (design_on text way.head)) (instances (design_on text way.head)) way.scope (way.first way.scope here) (λ (p : 64 ≤ 0). omega (arith, p)), copy ∙ way.named)
+      let here : IsFirst IsTooLow (way.scope ∷ below way.left text way.scope) way.scope = record { before = []; after = below way.left text way.scope; occurs = refl; holds = low; earlier = λ y has p. none_in_nil y has } in
+      subst (λ (m : PlainModule). IsReportedOfDesign (design_on text m) Depth name) is
+      (way.scope, first_after IsTooLow (root (design_on text way.head)) (instances (design_on text way.head)) way.scope (way.first way.scope here) (λ (p : 64 ≤ 0). omega (arith, p)), copy ∙ way.named)

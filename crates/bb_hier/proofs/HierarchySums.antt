@@ -15,11 +15,11 @@ use Rattle.bb_design.specs.Refusals.{design_on}
 use Rattle.bb_design.specs.Sizes.{bits_and_instances}
 use Rattle.bb_hier.specs.Inside.Weights.{net_width, bit_count, total_below}
 use Rattle.bb_design.specs.Inside.Callees.{callee_place, child, called}
-use Rattle.bb_lists.proofs.Places.{there_at}
-use Rattle.bb_lists.proofs.Orders.{less_or_not}
+use Rattle.bb_lemmas.proofs.Places.{there_at}
+use Rattle.bb_lemmas.proofs.Orders.{less_or_not}
 use Rattle.bb_hier.proofs.CellSums.{sum_flat}
 use Rattle.bb_hier.proofs.SizeTotals.{add_capped, total_capped}
-use Rattle.bb_lists.proofs.Members.{contains_here, contains_there}
+use Rattle.bb_lemmas.proofs.Members.{contains_here, contains_there}
 use Rattle.bb_design.specs.Laws.DesignLaws.{DesignLaws}
 
 pub sum_map : {X Y : Type 0} (g : Y → ℕ) (f : X → Y) (xs : List X) → sum_by g (map f xs) ≡ sum_by (λ x. g (f x)) xs
@@ -62,8 +62,8 @@ module _ (of_designs : DesignLaws) (text : List PlainModule) (sound : IsSound te
       ∙ sum_map (λ c. sum_by (λ (c : Scope). weight c.source) (c ∷ below n text c)) (child text s) is
       ∙ sum_same (λ i. sum_by (λ (c : Scope). weight c.source) (child text s i ∷ below n text (child text s i))) (λ i. weight_at weight text (callee_place text i) + total_below (called text) (weight_at weight text) n (callee_place text i)) is
       (λ i has. sum_by-cons (λ (c : Scope). weight c.source) (child text s i) (below n text (child text s i))
-      ∙ ap (λ w. w + sum_by (λ (c : Scope). weight c.source) (below n text (child text s i))) (ap (weight_or weight) (sym ((of_designs.instances text sound s.source here).stands i has)))
-      ∙ ap (λ t. weight_at weight text (callee_place text i) + t) (sum_below n (child text s i) (callee_place text i) ((of_designs.instances text sound s.source here).stands i has)))
+      ∙ ap (λ w. w + sum_by (λ (c : Scope). weight c.source) (below n text (child text s i))) (ap (weight_or weight) (sym ((of_designs.instances text sound s.source here).occurs i has)))
+      ∙ ap (λ t. weight_at weight text (callee_place text i) + t) (sum_below n (child text s i) (callee_place text i) ((of_designs.instances text sound s.source here).occurs i has)))
       ∙ sym (sum_map (λ j. weight_at weight text j + total_below (called text) (weight_at weight text) n j) (callee_place text) is)
       ∙ ap (sum_by (λ j. weight_at weight text j + total_below (called text) (weight_at weight text) n j)) (sym ((of_designs.instances text sound s.source here).called k at))
 
@@ -85,7 +85,7 @@ bits_counted d =
     ∙ ap (λ n. bit_count d.top + n) (length_flat scope_bits (instances d) ∙ sum_same (λ s. length (scope_bits s)) (λ (s : Scope). bit_count s.source) (instances d) (λ s has. long_scope s)) in
     omega (arith, order, sum_ones (instances d), sum_both (λ (s : Scope). bit_count s.source) (λ s. 1) (instances d))
 
--- sums as far as they are told
+-- sums as far as they are reported
 
 pub total_capped_where : (m limit : ℕ) (lists : List (List ℕ)) (b f g : ℕ → ℕ) → ((k : ℕ) → b k ≤ limit → min m (f k) ≡ min m (g k)) → (n k : ℕ) → total_below lists b n k ≤ limit
     → min m (total_below lists f n k) ≡ min m (total_below lists g n k)

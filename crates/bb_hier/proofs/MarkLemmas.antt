@@ -26,9 +26,9 @@ use Rattle.bb_names.specs.Ranges.{distance, range_width, place_of}
 use Rattle.bb_expr.specs.Laws.FitLaws.{NetNamesDiffer}
 use Rattle.bb_design.specs.NetBits.{Bit, same_bit, bits_from, bits_of_net, assigned, written_bits}
 use Rattle.bb_hier.specs.Inside.Weights.{any_scope, is_among, named_bits, AreMarks, stored_bits, register_count}
-use Rattle.bb_lists.proofs.Names.{place-holds, holds-place, same_equal, same_self}
-use Rattle.bb_lists.proofs.Places.{got, got-map}
-use Rattle.bb_lists.proofs.Orders.{less_or_same}
+use Rattle.bb_lemmas.proofs.Names.{place-holds, holds-place, same_equal, same_self}
+use Rattle.bb_lemmas.proofs.Places.{got, got-map}
+use Rattle.bb_lemmas.proofs.Orders.{less_or_same}
 
 or_same : (a b c : Bool) → b ≡ c → (a || b) ≡ (a || c)
 or_same a b c e = ap (λ x. a || x) e
@@ -79,15 +79,15 @@ mark_ends before marks first end p past most so_far q = so_far q ∙ or_same (sl
         after h = from (less_or_same first q)
           where
             from : (first < q) ⊎ ((q < first) ⊎ (first ≡ q)) → (nat_le first q && nat_lt q p) ≡ (nat_le first q && nat_lt q end)
-            from (inl a) = let behind : p ≤ q = omega (arith, most, a, h) in ap (λ b. nat_le first q && b) (grind (arith, behind, h))
+            from (inl a) = let afterwards : p ≤ q = omega (arith, most, a, h) in ap (λ b. nat_le first q && b) (grind (arith, afterwards, h))
             from (inr (inl a)) = grind (arith, a)
-            from (inr (inr a)) = let behind : p ≤ q = omega (arith, most, a, h) in ap (λ b. nat_le first q && b) (grind (arith, behind, h))
+            from (inr (inr a)) = let afterwards : p ≤ q = omega (arith, most, a, h) in ap (λ b. nat_le first q && b) (grind (arith, afterwards, h))
     by (inr (inr h)) = from (less_or_same first q)
       where
         from : (first < q) ⊎ ((q < first) ⊎ (first ≡ q)) → (nat_le first q && nat_lt q p) ≡ (nat_le first q && nat_lt q end)
-        from (inl a) = let behind : p ≤ q = omega (arith, most, a, h) in ap (λ b. nat_le first q && b) (grind (arith, behind, h))
+        from (inl a) = let afterwards : p ≤ q = omega (arith, most, a, h) in ap (λ b. nat_le first q && b) (grind (arith, afterwards, h))
         from (inr (inl a)) = grind (arith, a)
-        from (inr (inr a)) = let behind : p ≤ q = omega (arith, most, a, h) in ap (λ b. nat_le first q && b) (grind (arith, behind, h))
+        from (inr (inr a)) = let afterwards : p ≤ q = omega (arith, most, a, h) in ap (λ b. nat_le first q && b) (grind (arith, afterwards, h))
 
 -- nets by their names
 

@@ -12,12 +12,12 @@ use Rattle.bb_net.specs.Loose.{loose_at, operands, IsLoose, Reaches}
 use Rattle.bb_net.specs.Netlists.{Pins, box_at, IsPinAt}
 use Rattle.bb_bits.specs.Closures.{Leads, One, More}
 use Rattle.bb_hier.specs.Inside.Recursions.{place_steps, ArePlacesThere, module_pins, module_list}
-use Rattle.bb_lists.proofs.Members.{all_from, from_flat, from_map, contains-map, into_flat, none_in_nil}
-use Rattle.bb_lists.proofs.Numbered.{placed-at, at-place}
-use Rattle.bb_lists.proofs.Orders.{less_or_past}
+use Rattle.bb_lemmas.proofs.Members.{all_from, from_flat, from_map, contains-map, into_flat, none_in_nil}
+use Rattle.bb_lemmas.proofs.Numbered.{placed-at, at-place}
+use Rattle.bb_lemmas.proofs.Orders.{less_or_past}
 
-two_behind : (k : ℕ) → suc (suc k) ≡ k + 2
-two_behind k = omega arith
+two_after : (k : ℕ) → suc (suc k) ≡ k + 2
+two_after k = omega arith
 
 zero_plus : (k : ℕ) → 0 + k ≡ k
 zero_plus k = omega arith
@@ -33,7 +33,7 @@ module _ (lists : List (List ℕ)) where
   cells_long = omega (arith, length-map-range_with_len (λ k. BoxOut k 0) 0 (length lists))
 
   cell_at : (k : ℕ) → k < length lists → loose_at (module_list lists) (k + 2) ≡ BoxOut k 0
-  cell_at k lt = subst (λ p. slice_index_or (module_list lists).cells p (Const false) ≡ BoxOut k 0) (two_behind k)
+  cell_at k lt = subst (λ p. slice_index_or (module_list lists).cells p (Const false) ≡ BoxOut k 0) (two_after k)
       (get_or-map-range_with_len (λ k. BoxOut k 0) 0 (length lists) k k (Const false) lt (omega arith))
 
   cell_past : (k : ℕ) → length lists ≤ k → loose_at (module_list lists) (k + 2) ≡ Const false
@@ -109,7 +109,7 @@ module _ (lists : List (List ℕ)) where
   reads_there : ArePlacesThere lists → (place : ℕ) → All (λ k. k < length (module_list lists).cells) (operands (module_list lists).boxes (loose_at (module_list lists) place))
   reads_there there zero = all_from (λ k. k < length (module_list lists).cells) [] (λ q has. absurd (none_in_nil q has))
   reads_there there (suc zero) = all_from (λ k. k < length (module_list lists).cells) [] (λ q has. absurd (none_in_nil q has))
-  reads_there there (suc (suc j)) = subst (λ p. All (λ k. k < length (module_list lists).cells) (operands (module_list lists).boxes (loose_at (module_list lists) p))) (sym (two_behind j))
+  reads_there there (suc (suc j)) = subst (λ p. All (λ k. k < length (module_list lists).cells) (operands (module_list lists).boxes (loose_at (module_list lists) p))) (sym (two_after j))
       (all_from (λ k. k < length (module_list lists).cells) _ (λ q has.
       let r = read_from j q has in
       let low = All-contains (λ k. k < length lists) (called_at lists j) r.0 (there.there j [] r.2) r.3 in
@@ -122,8 +122,8 @@ module _ (lists : List (List ℕ)) where
   kind_of (suc (suc j)) c is other = by (less_or_past j (length lists))
     where
       by : (j < length lists) ⊎ (length lists ≤ j) → (i : ℕ) × (suc (suc j) ≡ i + 2) × (i < length lists) × (c ≡ BoxOut i 0)
-      by (inl lt) = (j, two_behind j, lt, sym is ∙ ap (loose_at (module_list lists)) (two_behind j) ∙ cell_at j lt)
-      by (inr past) = absurd (other false (sym is ∙ ap (loose_at (module_list lists)) (two_behind j) ∙ cell_past j past))
+      by (inl lt) = (j, two_after j, lt, sym is ∙ ap (loose_at (module_list lists)) (two_after j) ∙ cell_at j lt)
+      by (inr past) = absurd (other false (sym is ∙ ap (loose_at (module_list lists)) (two_after j) ∙ cell_past j past))
 
   listed : (place b p : ℕ) → loose_at (module_list lists) place ≡ BoxOut b p → IsPinAt (module_list lists).boxes b p place
   listed place b p is =
@@ -147,7 +147,7 @@ module _ (lists : List (List ℕ)) where
 
   pub modules_are_loose : ArePlacesThere lists → IsLoose (module_list lists)
   modules_are_loose there = record {
-    front = refl;
+    prefix = refl;
     there = λ place lt. reads_there there place;
     inputs_there = λ place i lt is. let k = kind_of place (Input i) is (λ c e. grind (arith, e)) in grind (arith, k.3);
     outs_there = all_from (λ k. k < length (module_list lists).cells) [] (λ q has. absurd (none_in_nil q has));

@@ -7,7 +7,7 @@ use Rattle.std.proofs.lemmas.Option.{slice_get_read}
 use Rattle.bb_ast.specs.Syntax.{PlainModule}
 use Rattle.bb_names.specs.declared.checked.CheckedModule.{CheckedModule}
 use Rattle.bb_names.specs.Inside.Checked.{ModuleFacts, module_facts, syntax, HasNets, IsChecked}
-use Rattle.bb_lists.proofs.Places.{there_at, got-map}
+use Rattle.bb_lemmas.proofs.Places.{there_at, got-map}
 
 module _ (checked : List ModuleFacts) (modules : List CheckedModule) (same : map module_facts modules ≡ checked) (k : ℕ) (item : CheckedModule) (at : item ≡ get_or modules k item) (lt : k < length checked) where
   pub facts_at : slice_get checked k ≡ Some (module_facts item)
@@ -18,8 +18,8 @@ module _ (checked : List ModuleFacts) (modules : List CheckedModule) (same : map
   pub module_at_place : slice_get (map syntax checked) k ≡ Some (syntax (module_facts item))
   module_at_place = got-map syntax checked k (module_facts item) facts_at
 
-  pub module_stands : Contains (map syntax checked) (syntax (module_facts item))
-  module_stands = there_at (map syntax checked) k (syntax (module_facts item)) module_at_place
+  pub module_occurs : Contains (map syntax checked) (syntax (module_facts item))
+  module_occurs = there_at (map syntax checked) k (syntax (module_facts item)) module_at_place
 
   pub nets_at_place : IsChecked checked → HasNets (module_facts item)
   nets_at_place ok = All-contains HasNets checked (module_facts item) ok.each (there_at checked k (module_facts item) facts_at)

@@ -1,17 +1,17 @@
--- Which modules are recursive is told by loops among the cells of those that the top reaches.
+-- Which modules are recursive is given by loops among the cells of those that the top reaches.
 use Rattle.std.proofs.Common.{◌≡◌, ◌⊎◌, ℕ, ◌+◌, ◌<◌, ◌||◌, ◌==◌, zero, suc, Bool, true, false, List, [], length, get_or, All, Contains, refl, sym, ap, ◌∙◌, subst, inl, inr, arith, if◌then◌else◌, true≢false}
 use Rattle.std.specs.Bool.{Decides}
 use Rattle.std.specs.List.{enumerate_from}
 use Rattle.std.proofs.lemmas.List.{get_or-map, length-map}
 use Rattle.std.proofs.lemmas.List.Elements.{All-contains, All-from_get_or}
 use Rattle.std.proofs.lemmas.List.FromFn.{get_or-enumerate_from, length-enumerate_from}
-use Rattle.bb_net.specs.Loose.{LooseList, IsLoose, DependsOn, IsOnClosedWalk, IsLeastOnClosedWalk, Reaches}
+use Rattle.bb_net.specs.Loose.{LooseList, IsLoose, PlaceDependsOn, IsOnClosedWalk, IsLeastOnClosedWalk, Reaches}
 use Rattle.bb_net.specs.Values.{bit_of}
 use Rattle.bb_bits.specs.Closures.{Leads, One, More}
 use Rattle.bb_hier.specs.Inside.Recursions.{place_steps, ArePlacesThere, IsReachedAt, IsRecursiveAt, IsFirstRecursive, module_list, kept_lists}
-use Rattle.bb_lists.proofs.Members.{all_from, none_in_nil}
+use Rattle.bb_lemmas.proofs.Members.{all_from, none_in_nil}
 use Rattle.bb_hier.proofs.ModuleCells.{cells_long, modules_are_loose, step_from, step_to, walk_from, walk_to}
-use Rattle.bb_lists.proofs.Walks.{more_behind}
+use Rattle.bb_lemmas.proofs.Walks.{more_after}
 
 -- loops among cells are loops among modules
 
@@ -54,9 +54,9 @@ or_cases : (a b : Bool) → (a || b) ≡ true → (a ≡ true) ⊎ (b ≡ true)
 or_cases true b h = inl refl
 or_cases false b h = inr h
 
-pub marked_places : (lists : List (List ℕ)) (top : ℕ) (l : LooseList) (marks items : List Bool) → l ≡ module_list lists → marks ≡ items → ((k : ℕ) → Decides (bit_of items k) (DependsOn l (top + 2) k))
-    → (k : ℕ) → Decides (bit_of marks k) (DependsOn (module_list lists) (top + 2) k)
-marked_places lists top l marks items is same told k = subst (λ (x : LooseList). Decides (bit_of marks k) (DependsOn x (top + 2) k)) is (subst (λ xs. Decides (bit_of xs k) (DependsOn l (top + 2) k)) (sym same) (told k))
+pub marked_places : (lists : List (List ℕ)) (top : ℕ) (l : LooseList) (marks items : List Bool) → l ≡ module_list lists → marks ≡ items → ((k : ℕ) → Decides (bit_of items k) (PlaceDependsOn l (top + 2) k))
+    → (k : ℕ) → Decides (bit_of marks k) (PlaceDependsOn (module_list lists) (top + 2) k)
+marked_places lists top l marks items is same reported k = subst (λ (x : LooseList). Decides (bit_of marks k) (PlaceDependsOn x (top + 2) k)) is (subst (λ xs. Decides (bit_of xs k) (PlaceDependsOn l (top + 2) k)) (sym same) (reported k))
 
 module _ (lists : List (List ℕ)) (top : ℕ) (marks : List Bool) where
   is_kept : ℕ → Bool
@@ -88,9 +88,9 @@ module _ (lists : List (List ℕ)) (top : ℕ) (marks : List Bool) where
 
   reached_then : (j k : ℕ) → IsReachedAt lists top j → Contains (place_steps lists) (j, k) → IsReachedAt lists top k
   reached_then j k (inl e) has = inr (One (subst (λ z. Contains (place_steps lists) (z, k)) (sym e) has))
-  reached_then j k (inr leads) has = inr (more_behind (place_steps lists) leads has)
+  reached_then j k (inr leads) has = inr (more_after (place_steps lists) leads has)
 
-  module _ (marked : (k : ℕ) → Decides (bit_of marks k) (DependsOn (module_list lists) (top + 2) k)) where
+  module _ (marked : (k : ℕ) → Decides (bit_of marks k) (PlaceDependsOn (module_list lists) (top + 2) k)) where
     kept_where_reached : (k : ℕ) → IsReachedAt lists top k → (k == top || bit_of marks (k + 2)) ≡ true
     kept_where_reached k (inl e) = or_left (k == top) (bit_of marks (k + 2)) (subst (λ t. (k == t) ≡ true) (sym e) (same_number k))
     kept_where_reached k (inr leads) = or_right (k == top) (bit_of marks (k + 2)) ((marked (k + 2)).1 (walk_to lists top k leads))

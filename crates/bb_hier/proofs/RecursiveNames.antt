@@ -12,11 +12,11 @@ use Rattle.bb_design.specs.Inside.Callees.{callees, called, calls, place_named}
 use Rattle.bb_bits.specs.Closures.{Leads}
 use Rattle.bb_design.specs.Hierarchy.{Instance, instances_of}
 use Rattle.bb_hier.specs.Inside.Recursions.{place_steps, ArePlacesThere, IsReachedAt, IsRecursiveAt, IsFirstRecursive}
-use Rattle.bb_design.specs.Refusals.{IsReached, IsRecursive, Recursion, IsTold, IsAbsent, design_on}
-use Rattle.bb_lists.proofs.Names.{place-holds}
-use Rattle.bb_lists.proofs.Places.{got, got-map, some_at, split, taken, mapped_at}
-use Rattle.bb_lists.proofs.Members.{from_filter, all_from, from_map}
-use Rattle.bb_lists.proofs.Firsts.{first_there}
+use Rattle.bb_design.specs.Refusals.{IsReached, IsRecursive, Recursion, IsReportedOfDesign, IsAbsentInDesign, design_on}
+use Rattle.bb_lemmas.proofs.Names.{place-holds}
+use Rattle.bb_lemmas.proofs.Places.{got, got-map, some_at, split, taken, mapped_at}
+use Rattle.bb_lemmas.proofs.Members.{from_filter, all_from, from_map}
+use Rattle.bb_lemmas.proofs.Firsts.{first_there}
 use Rattle.bb_design.specs.Laws.DesignLaws.{DesignLaws}
 
 steps_from : (text ms : List PlainModule) (s : ℕ) → flat_map (λ (x : ℕ × List ℕ). map {A = ℕ} {B = ℕ × ℕ} (λ k. (x.0, k)) x.1) (enumerate_from s (map (callees text) ms))
@@ -95,20 +95,20 @@ module _ (of_designs : DesignLaws) (text : List PlainModule) (sound : IsSound te
       reached (inl e) = inl (names_apart j m at e)
       reached (inr leads) = inr (subst (λ s. Leads s top j) (sym (steps_are_calls text)) ((of_designs.walks text t m top j sound top_at at).1 leads))
 
-  pub absent_where_none : ((k : ℕ) → IsRecursiveAt (called text) top k → ⊥) → IsAbsent (design_on text t) Recursion
+  pub absent_where_none : ((k : ℕ) → IsRecursiveAt (called text) top k → ⊥) → IsAbsentInDesign (design_on text t) Recursion
   absent_where_none none = from (of_designs.recursion (design_on text t))
     where
-      from : IsAbsent (design_on text t) Recursion ⊎ ((n : List ℕ) × IsTold (design_on text t) Recursion n) → IsAbsent (design_on text t) Recursion
+      from : IsAbsentInDesign (design_on text t) Recursion ⊎ ((n : List ℕ) × IsReportedOfDesign (design_on text t) Recursion n) → IsAbsentInDesign (design_on text t) Recursion
       from (inl absent) = absent
       from (inr r) =
           let p = mapped_at (λ (x : PlainModule). x.name) text r.0 (first_there (IsRecursive (design_on text t)) (map (λ (x : PlainModule). x.name) text) r.0 r.1) in
           absurd (none p.0 (to_place p.0 p.1 p.2 (subst (IsRecursive (design_on text t)) (sym p.3) r.1.holds)))
 
-  pub told_where_first : (k : ℕ) (m : PlainModule) → slice_get text k ≡ Some m → IsFirstRecursive (called text) top k → IsTold (design_on text t) Recursion m.name
-  told_where_first k m at first = record {
+  pub reported_where_first : (k : ℕ) (m : PlainModule) → slice_get text k ≡ Some m → IsFirstRecursive (called text) top k → IsReportedOfDesign (design_on text t) Recursion m.name
+  reported_where_first k m at first = record {
     before = take k names;
     after = drop (suc k) names;
-    stands = split names k m.name (got-map (λ (x : PlainModule). x.name) text k m at);
+    occurs = split names k m.name (got-map (λ (x : PlainModule). x.name) text k m at);
     holds = to_name k m at first.holds;
     earlier = λ y has h.
         let j = taken names k y has in

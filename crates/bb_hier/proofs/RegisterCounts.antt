@@ -17,9 +17,9 @@ use Rattle.bb_design.specs.Laws.{HasNamesApart}
 use Rattle.bb_design.specs.NetBits.{Bit, same_bit, bits_from, bits_of_net, scope_bits, net_order, assigned, written_bits}
 use Rattle.bb_design.specs.Registers.{RegisterBit, stored_at, stored, registers}
 use Rattle.bb_hier.specs.Inside.Weights.{any_scope, stored_by, stored_bits, register_count}
-use Rattle.bb_lists.proofs.Maps.{any-map, both}
-use Rattle.bb_lists.proofs.Members.{from_flat, from_map, contains-map, into_flat, contains_here, contains_there, contains_cases, none_in_nil}
-use Rattle.bb_lists.proofs.Numbered.{from_numbered, numbered_there}
+use Rattle.bb_lemmas.proofs.Maps.{any-map, both}
+use Rattle.bb_lemmas.proofs.Members.{from_flat, from_map, contains-map, into_flat, contains_here, contains_there, contains_cases, none_in_nil}
+use Rattle.bb_lemmas.proofs.Numbered.{from_numbered, numbered_there}
 use Rattle.bb_design.specs.Laws.DesignLaws.{DesignLaws}
 
 -- filters

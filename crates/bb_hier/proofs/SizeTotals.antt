@@ -26,7 +26,7 @@ none_capped m = omega arith
 pub add_capped : (m a b c d e f : ℕ) → min m a ≡ min m b → min m c ≡ min m d → e ≡ a + c → f ≡ b + d → min m e ≡ min m f
 add_capped m a b c d e f x y p q = omega (arith, x, y, p, q)
 
--- sums that are the same as far as they are told are so together
+-- sums that are the same as far as they are reported are so together
 pub sum_capped : {X : Type 0} (m : ℕ) (f g : X → ℕ) → ((x : X) → min m (f x) ≡ min m (g x)) → (xs : List X) → min m (sum_by f xs) ≡ min m (sum_by g xs)
 sum_capped m f g same [] = refl
 sum_capped m f g same (x ∷ xs) = add_capped m (f x) (g x) (sum_by f xs) (sum_by g xs) _ _ (same x) (sum_capped m f g same xs) (sum_by-cons f x xs) (sum_by-cons g x xs)

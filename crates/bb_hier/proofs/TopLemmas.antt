@@ -10,14 +10,14 @@ use Rattle.indexmap.specs.IndexSet.{insert_key}
 use Rattle.bb_bits.specs.Names.{same_name}
 use Rattle.bb_ast.specs.Syntax.{PlainConns, PlainItem}
 use Rattle.bb_design.specs.Hierarchy.{Instance, instance_of, instances_in, the_only}
-use Rattle.bb_lists.proofs.Maps.{or-false}
-use Rattle.bb_lists.proofs.Names.{any-inserted, same_turned}
+use Rattle.bb_lemmas.proofs.Maps.{or-false}
+use Rattle.bb_lemmas.proofs.Names.{any-inserted, same_turned}
 
 one-more : (k : ℕ) → k + 1 ≡ suc k
 one-more k = omega arith
 
 module _ {A B C : Type 0} (f : A → B) (g : B → C) where
-  -- the one that stands next in a list
+  -- the one that is next in a list
   pub next-found : (p : C → Bool) (xs : List A) (k : ℕ) (x : A) → k < length xs → x ≡ get_or xs k x → p (g (f x)) ≡ true → find p (map g (map f (drop k xs))) ≡ slice_get (map g (map f xs)) k
   next-found p [] k x lt at e = absurd (omega (arith, lt))
   next-found p (y ∷ ys) zero x lt at e = ap (λ b. cond b (Some (g (f y))) (find p (map g (map f ys)))) (ap (λ z. p (g (f z))) (sym at) ∙ e)
@@ -49,15 +49,15 @@ any-map p f [] = refl
 any-map p f (x ∷ xs) = ap (λ b. p (f x) || b) (any-map p f xs)
 
 -- whether one of a front passes a test, with one more in the front
-any-front : {A : Type 0} (p : A → Bool) (xs : List A) (k : ℕ) (x : A) → k < length xs → x ≡ get_or xs k x → list_any p (take (suc k) xs) ≡ (list_any p (take k xs) || p x)
-any-front p xs k x lt at = ap (list_any p) (take-suc xs k x lt) ∙ list_any-append p (take k xs) (get_or xs k x ∷ []) ∙ ap (λ b. list_any p (take k xs) || b) (or-false (p (get_or xs k x)) ∙ ap p (sym at))
+any-prefix : {A : Type 0} (p : A → Bool) (xs : List A) (k : ℕ) (x : A) → k < length xs → x ≡ get_or xs k x → list_any p (take (suc k) xs) ≡ (list_any p (take k xs) || p x)
+any-prefix p xs k x lt at = ap (list_any p) (take-suc xs k x lt) ∙ list_any-append p (take k xs) (get_or xs k x ∷ []) ∙ ap (λ b. list_any p (take k xs) || b) (or-false (p (get_or xs k x)) ∙ ap p (sym at))
 
 -- a step through a list: what was found before, and what is found here
 pub any-step : {A B : Type 0} (p : B → Bool) (f : A → B) (xs : List A) (k : ℕ) (x : A) (initial old now : Bool) → k < length xs → x ≡ get_or xs k x
     → old ≡ (initial || list_any p (map f (take k xs))) → now ≡ (old || p (f x)) → now ≡ (initial || list_any p (map f (take (k + 1) xs)))
 any-step p f xs k x initial old now lt at before here =
     here ∙ ap (λ b. b || p (f x)) before ∙ or-assoc initial (list_any p (map f (take k xs))) (p (f x))
-    ∙ ap (λ b. initial || (b || p (f x))) (any-map p f (take k xs)) ∙ ap (λ b. initial || b) (sym (any-front (λ y. p (f y)) xs k x lt at)) ∙ ap (λ b. initial || b) (sym (any-map p f (take (suc k) xs)))
+    ∙ ap (λ b. initial || (b || p (f x))) (any-map p f (take k xs)) ∙ ap (λ b. initial || b) (sym (any-prefix (λ y. p (f y)) xs k x lt at)) ∙ ap (λ b. initial || b) (sym (any-map p f (take (suc k) xs)))
     ∙ ap (λ j. initial || list_any p (map f (take j xs))) (sym (one-more k))
 
 -- the same where two functions are mapped

@@ -1,6 +1,6 @@
--- What the code says to itself: no clause of the top call rests on it.
+-- What the functions of this crate say to each other: no clause of the top call rests on it.
 pub mod Depths
 pub mod Finite
 pub mod Recursions
-pub mod Sketches
+pub mod ModuleSummaries
 pub mod Weights

@@ -1,4 +1,5 @@
-//! Which module instantiates which, by their places in the text.
+//! Which module instantiates which, by their places in the text. Names are looked up here, once; what follows compares
+//! numbers.
 
 ghost use Rattle.std.specs.Prelude.{◌≡◌, ◌++◌, ℕ, List, map, replicate, IfOk, OnOk};
 ghost use Rattle.std.specs.List.{filter_map, flat_map};
@@ -15,7 +16,7 @@ use bb_names::{Checked, CheckedModule};
 use indexmap::IndexMap;
 use std::alloc::Global;
 
-// The place of the first module of each name.
+// A later module of the same name is a fault and changes nothing.
 fn places(alloc: Global, modules: &[CheckedModule]) -> Result<IndexMap<Name, usize>, NoMemory>
     ensures ok { IfOk result (λ places. (n : List ℕ) → lookup (same_name n) places.entries ≡ place_named (map syntax (map module_facts modules.now)) n) }
 {
@@ -29,14 +30,12 @@ fn places(alloc: Global, modules: &[CheckedModule]) -> Result<IndexMap<Name, usi
     Ok(places)
 }
 
-// The place of the module of that name.
 fn place_of(places: &IndexMap<Name, usize>, name: &Name) -> Option<usize>
     ensures { result ≡ lookup (same_name name.now) places.now.entries }
 {
     places.get(name).copied()
 }
 
-// Puts a place so many times at the end of a list.
 fn repeat(place: usize, times: usize, list: &mut Vec<usize>) -> Result<(), NoMemory>
     ensures ok { OnOk result (list.new.items ≡ list.old.items ++ replicate times place) }
 {
@@ -46,7 +45,6 @@ fn repeat(place: usize, times: usize, list: &mut Vec<usize>) -> Result<(), NoMem
     Ok(())
 }
 
-// Puts the place of the module of each instance that stands in an item at the end of a list.
 fn add_callees(
     places: &IndexMap<Name, usize>,
     item: &Item,
@@ -62,7 +60,6 @@ fn add_callees(
     Ok(())
 }
 
-// The places of the modules of the instances that stand in these items.
 fn callees_in(
     alloc: Global,
     places: &IndexMap<Name, usize>,
@@ -77,7 +74,6 @@ fn callees_in(
     Ok(list)
 }
 
-// The same for each module.
 fn all_callees(
     alloc: Global,
     places: &IndexMap<Name, usize>,
@@ -93,7 +89,7 @@ fn all_callees(
     Ok(all)
 }
 
-/// For each module the places of the modules that it instantiates, one for each instance, in text order.
+/// One place for each instance, in text order; `Call` items that list several instances give several.
 pub(crate) fn callees_of(alloc: Global, checked: &Checked) -> Result<Vec<Vec<usize>>, NoMemory>
     ensures ok { IfOk result (λ all. map (λ list. list.items) all.items ≡ map (callees (map syntax checked.now)) (map syntax checked.now)) }
 {

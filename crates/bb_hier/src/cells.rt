@@ -1,4 +1,5 @@
-//! How many cells the constructs of a module make, before anything is lowered.
+//! How many cells the constructs of a module make, before anything is lowered: a short text may have operators of
+//! millions of cells, and is refused before they take memory. Sums saturate at 2^64 - 1.
 
 ghost use Rattle.std.specs.Prelude.{◌≡◌, ◌≤◌, ◌∷◌, [], map, min, sum_by, option_to_list, All, IfSome};
 ghost use Rattle.std.specs.List.{flat_map};
@@ -7,40 +8,39 @@ ghost use Rattle.bb_ast.specs.Inside.Views.{expression, optional_view, named_vie
 ghost use Rattle.bb_names.specs.Ranges.{range_width};
 ghost use Rattle.bb_names.specs.Widths.{own_width};
 ghost use Rattle.bb_expr.specs.Inside.Shares.{capped, own_cells};
-ghost use Rattle.bb_expr.specs.Inside.Standing.{StandsAt, ranges_at, conns_expressions, item_expressions};
+ghost use Rattle.bb_expr.specs.Inside.Occurrences.{OccursAt, ranges_at, conns_expressions, item_expressions};
 ghost use Rattle.bb_design.specs.GateFunctions.{inverts};
 ghost use Rattle.bb_hier.specs.Inside.Weights.{assigned_cells, initial_cells, assignment_cells, inputs_of, inversions, gate_weight, item_cells, IsNarrowNet, AreNarrowNets};
 
 use crate::register_bits::width_of;
 use bb_ast::{Body, Call, Conns, Expr, Gate, GateCall, Item};
 use bb_bits::Name;
-use bb_expr::laws::standing_is_fit;
+use bb_expr::laws::occurrences_are_fit;
 use bb_expr::{cells, own_width};
 use bb_names::Checked;
 
-// The cells of an expression at its own width.
+// Gate inputs and port connections are lowered at their own width.
 fn own_cells(checked: &Checked, place: u32, expr: &Expr) -> u64
-    requires stands { StandsAt checked.now place (expression expr.now) }
+    requires occurs { OccursAt checked.now place (expression expr.now) }
     ensures cells { result ≡ capped (own_cells (ranges_at checked.now place) (expression expr.now)) }
 {
-    standing_is_fit();
+    occurrences_are_fit();
     let _modules = checked.modules();
     cells(checked, place, expr, own_width(checked, place, expr))
 }
 
-// The cells of what is assigned to so many bits.
+// At the wider of both widths, as it is lowered (IEEE 1364-2005, 5.4.1).
 fn assigned_cells(checked: &Checked, place: u32, left: u32, right: &Expr) -> u64
-    requires stands { StandsAt checked.now place (expression right.now) }
+    requires occurs { OccursAt checked.now place (expression right.now) }
     requires left { left ≤ 65536 }
     ensures cells { result ≡ capped (assigned_cells (ranges_at checked.now place) left (expression right.now)) }
 {
-    standing_is_fit();
+    occurrences_are_fit();
     let _modules = checked.modules();
     let width = left.max(own_width(checked, place, right));
     cells(checked, place, right, width)
 }
 
-// How many bits the net of that name has.
 fn net_width(checked: &Checked, place: u32, name: &Name) -> u32
     requires narrow { IsNarrowNet checked.now place name.now }
     ensures width { result ≡ range_width (ranges_at checked.now place name.now) }
@@ -51,9 +51,8 @@ fn net_width(checked: &Checked, place: u32, name: &Name) -> u32
     width_of(scope.nets[net as usize].range) as u32
 }
 
-// The cells of what is assigned to a wire where it is declared.
 fn initial_cells(checked: &Checked, place: u32, name: &Name, value: &Option<Expr>) -> u64
-    requires stands { All (StandsAt checked.now place) (option_to_list (optional_view value.now)) }
+    requires occurs { All (OccursAt checked.now place) (option_to_list (optional_view value.now)) }
     requires narrow { IfSome (optional_view value.now) (λ e. IsNarrowNet checked.now place name.now) }
     ensures cells { result ≡ capped (initial_cells (ranges_at checked.now place) (name.now, optional_view value.now)) }
 {
@@ -63,9 +62,8 @@ fn initial_cells(checked: &Checked, place: u32, name: &Name, value: &Option<Expr
     }
 }
 
-// The cells of declared wires.
 fn wire_cells(checked: &Checked, place: u32, nets: &[(Name, Option<Expr>)]) -> u64
-    requires stands { All (StandsAt checked.now place) (flat_map (λ x. option_to_list x.1) (map named_view nets.now)) }
+    requires occurs { All (OccursAt checked.now place) (flat_map (λ x. option_to_list x.1) (map named_view nets.now)) }
     requires narrow { All (λ x. IfSome x.1 (λ e. IsNarrowNet checked.now place x.0)) (map named_view nets.now) }
     ensures cells { result ≡ capped (sum_by (initial_cells (ranges_at checked.now place)) (map named_view nets.now)) }
 {
@@ -76,20 +74,18 @@ fn wire_cells(checked: &Checked, place: u32, nets: &[(Name, Option<Expr>)]) -> u
     total
 }
 
-// The cells of an assignment.
 fn assignment_cells(checked: &Checked, place: u32, left: &Expr, right: &Expr) -> u64
-    requires left { StandsAt checked.now place (expression left.now) }
-    requires right { StandsAt checked.now place (expression right.now) }
+    requires left { OccursAt checked.now place (expression left.now) }
+    requires right { OccursAt checked.now place (expression right.now) }
     ensures cells { result ≡ capped (assignment_cells (ranges_at checked.now place) (expression left.now, expression right.now)) }
 {
-    standing_is_fit();
+    occurrences_are_fit();
     let _modules = checked.modules();
     assigned_cells(checked, place, own_width(checked, place, left), right)
 }
 
-// The cells of assignments.
 fn assignments_cells(checked: &Checked, place: u32, all: &[(Expr, Expr)]) -> u64
-    requires stands { All (StandsAt checked.now place) (flat_map (λ x. x.0 ∷ x.1 ∷ []) (map arm_view all.now)) }
+    requires occurs { All (OccursAt checked.now place) (flat_map (λ x. x.0 ∷ x.1 ∷ []) (map arm_view all.now)) }
     ensures cells { result ≡ capped (sum_by (assignment_cells (ranges_at checked.now place)) (map arm_view all.now)) }
 {
     let mut total = 0u64;
@@ -99,9 +95,8 @@ fn assignments_cells(checked: &Checked, place: u32, all: &[(Expr, Expr)]) -> u64
     total
 }
 
-// The cells of expressions, each at its own width.
 fn all_cells(checked: &Checked, place: u32, all: &[Expr]) -> u64
-    requires stands { All (StandsAt checked.now place) (map expression all.now) }
+    requires occurs { All (OccursAt checked.now place) (map expression all.now) }
     ensures cells { result ≡ capped (sum_by (own_cells (ranges_at checked.now place)) (map expression all.now)) }
 {
     let mut total = 0u64;
@@ -111,7 +106,8 @@ fn all_cells(checked: &Checked, place: u32, all: &[Expr]) -> u64
     total
 }
 
-// How many of so many terminals, from the first on, are outputs.
+// The outputs come first: all but the last terminal of `buf` and `not`, one of any other gate (IEEE 1364-2005, 7.2 and
+// 7.3).
 fn outputs_among(gate: Gate, count: usize) -> usize
     ensures outputs { result ≡ min (output_count gate count) count }
 {
@@ -124,14 +120,13 @@ fn outputs_among(gate: Gate, count: usize) -> usize
     }
 }
 
-// The inputs among the terminals of a gate.
 fn inputs_of(gate: Gate, terms: &[Expr]) -> &[Expr]
     ensures inputs { map expression result.now ≡ inputs_of gate (map expression terms.now) }
 {
     &terms[outputs_among(gate, terms.len())..]
 }
 
-// The cells of which a gate has one more or one less.
+// One complement, after the inputs are joined.
 fn inversions(gate: Gate) -> u64
     ensures inversions { result ≡ inversions gate }
 {
@@ -141,9 +136,9 @@ fn inversions(gate: Gate) -> u64
     }
 }
 
-// The cells of a gate.
+// One cell for each input but the first, and one where the gate inverts.
 fn gate_cells(checked: &Checked, place: u32, gate: Gate, terms: &[Expr]) -> u64
-    requires stands { All (StandsAt checked.now place) (map expression terms.now) }
+    requires occurs { All (OccursAt checked.now place) (map expression terms.now) }
     ensures cells { result ≡ capped (gate_weight (ranges_at checked.now place) gate (map expression terms.now)) }
 {
     let inputs = inputs_of(gate, terms);
@@ -153,9 +148,8 @@ fn gate_cells(checked: &Checked, place: u32, gate: Gate, terms: &[Expr]) -> u64
         .saturating_add(inversions(gate))
 }
 
-// The cells of gates of one function.
 fn gates_cells(checked: &Checked, place: u32, gate: Gate, all: &[GateCall]) -> u64
-    requires stands { All (StandsAt checked.now place) (flat_map (λ x. x.1) (map gate_view all.now)) }
+    requires occurs { All (OccursAt checked.now place) (flat_map (λ x. x.1) (map gate_view all.now)) }
     ensures cells { result ≡ capped (sum_by (λ x. gate_weight (ranges_at checked.now place) gate x.1) (map gate_view all.now)) }
 {
     let mut total = 0u64;
@@ -165,9 +159,8 @@ fn gates_cells(checked: &Checked, place: u32, gate: Gate, all: &[GateCall]) -> u
     total
 }
 
-// The cells of what is connected, if something is.
 fn connected_cells(checked: &Checked, place: u32, value: &Option<Expr>) -> u64
-    requires stands { All (StandsAt checked.now place) (option_to_list (optional_view value.now)) }
+    requires occurs { All (OccursAt checked.now place) (option_to_list (optional_view value.now)) }
     ensures cells { result ≡ capped (sum_by (own_cells (ranges_at checked.now place)) (option_to_list (optional_view value.now))) }
 {
     match value {
@@ -176,9 +169,8 @@ fn connected_cells(checked: &Checked, place: u32, value: &Option<Expr>) -> u64
     }
 }
 
-// The cells of what is connected by order.
 fn ordered_cells(checked: &Checked, place: u32, all: &[Option<Expr>]) -> u64
-    requires stands { All (StandsAt checked.now place) (flat_map option_to_list (map optional_view all.now)) }
+    requires occurs { All (OccursAt checked.now place) (flat_map option_to_list (map optional_view all.now)) }
     ensures cells { result ≡ capped (sum_by (own_cells (ranges_at checked.now place)) (flat_map option_to_list (map optional_view all.now))) }
 {
     let mut total = 0u64;
@@ -188,9 +180,8 @@ fn ordered_cells(checked: &Checked, place: u32, all: &[Option<Expr>]) -> u64
     total
 }
 
-// The cells of what is connected by name.
 fn named_cells(checked: &Checked, place: u32, all: &[(Name, Option<Expr>)]) -> u64
-    requires stands { All (StandsAt checked.now place) (flat_map (λ x. option_to_list x.1) (map named_view all.now)) }
+    requires occurs { All (OccursAt checked.now place) (flat_map (λ x. option_to_list x.1) (map named_view all.now)) }
     ensures cells { result ≡ capped (sum_by (own_cells (ranges_at checked.now place)) (flat_map (λ x. option_to_list x.1) (map named_view all.now))) }
 {
     let mut total = 0u64;
@@ -200,9 +191,9 @@ fn named_cells(checked: &Checked, place: u32, all: &[(Name, Option<Expr>)]) -> u
     total
 }
 
-// The cells of what is connected to an instance.
+// An output port counts as what is connected to it, a left side, which makes no cell.
 fn connection_cells(checked: &Checked, place: u32, conns: &Conns) -> u64
-    requires stands { All (StandsAt checked.now place) (conns_expressions (conns_view conns.now)) }
+    requires occurs { All (OccursAt checked.now place) (conns_expressions (conns_view conns.now)) }
     ensures cells { result ≡ capped (sum_by (own_cells (ranges_at checked.now place)) (conns_expressions (conns_view conns.now))) }
 {
     match conns {
@@ -211,9 +202,8 @@ fn connection_cells(checked: &Checked, place: u32, conns: &Conns) -> u64
     }
 }
 
-// The cells of what is connected to instances.
 fn call_cells(checked: &Checked, place: u32, calls: &[Call]) -> u64
-    requires stands { All (StandsAt checked.now place) (flat_map (λ x. conns_expressions x.1) (map call_view calls.now)) }
+    requires occurs { All (OccursAt checked.now place) (flat_map (λ x. conns_expressions x.1) (map call_view calls.now)) }
     ensures cells { result ≡ capped (sum_by (λ x. sum_by (own_cells (ranges_at checked.now place)) (conns_expressions x.1)) (map call_view calls.now)) }
 {
     let mut total = 0u64;
@@ -223,9 +213,8 @@ fn call_cells(checked: &Checked, place: u32, calls: &[Call]) -> u64
     total
 }
 
-// The cells of an item.
 fn item_cells(checked: &Checked, place: u32, body: &Body) -> u64
-    requires stands { All (StandsAt checked.now place) (item_expressions (body_view body.now)) }
+    requires occurs { All (OccursAt checked.now place) (item_expressions (body_view body.now)) }
     requires narrow { AreNarrowNets checked.now place (body_view body.now) }
     ensures cells { result ≡ capped (item_cells (ranges_at checked.now place) (body_view body.now)) }
 {
@@ -239,9 +228,9 @@ fn item_cells(checked: &Checked, place: u32, body: &Body) -> u64
     }
 }
 
-/// The cells of the operators in the items of a module, or 2^64 - 1 where there are more.
+/// Saturates at 2^64 - 1.
 pub(crate) fn items_cells(checked: &Checked, place: u32, items: &[Item]) -> u64
-    requires stands { All (StandsAt checked.now place) (flat_map (λ item. item_expressions item.body) (map item_view items.now)) }
+    requires occurs { All (OccursAt checked.now place) (flat_map (λ item. item_expressions item.body) (map item_view items.now)) }
     requires narrow { All (λ item. AreNarrowNets checked.now place item.body) (map item_view items.now) }
     ensures cells { result ≡ capped (sum_by (λ item. item_cells (ranges_at checked.now place) item.body) (map item_view items.now)) }
 {

@@ -1,8 +1,9 @@
-//! Instances that stand too low.
+//! Instances that are too deep.
 //!
-//! How many instances stand below each other in a module is found in rounds over the lists of callees: 64 rounds tell whether
-//! there are 64. Then a walk from the top downwards, which takes the first instance that is tall enough at each level, leads to
-//! the first instance in elaboration order that stands too low.
+//! Heights of modules are found in rounds over the lists of callees: after 64 rounds a height of 64 means 64 levels or
+//! more. So the time goes by the text and not by the scopes, of which a text can have exponentially many. Then one walk
+//! down, by the first instance that is tall enough at each level, leads to the first instance in elaboration order that
+//! is too deep.
 
 ghost use Rattle.std.specs.Prelude.{◌≡◌, ◌+◌, ◌<◌, ◌≤◌, ◌++◌, ◌==◌, [], false, true, ℕ, All, Some, codes, length, map, nat_le, slice_get, if◌then◌else◌, IfOk, IfSome, IfNone, OnOk};
 ghost use Rattle.std.specs.List.{flat_map, list_any, slice_index_or};
@@ -12,7 +13,7 @@ ghost use Rattle.bb_names.specs.Inside.Checked.{syntax};
 ghost use Rattle.bb_design.specs.Inside.Callees.{callees};
 ghost use Rattle.bb_hier.specs.Inside.Depths.{height_over, is_tall};
 ghost use Rattle.bb_design.specs.Hierarchy.{instances_in};
-ghost use Rattle.bb_design.specs.Refusals.{IsTold, IsAbsent, Depth, design_on};
+ghost use Rattle.bb_design.specs.Refusals.{IsReportedOfDesign, IsAbsentInDesign, Depth, design_on};
 
 use bb_ast::{Body, Call, Item};
 use bb_bits::{Name, NoMemory};
@@ -20,7 +21,7 @@ use bb_design::laws::laws_of_designs;
 use bb_names::Checked;
 use std::alloc::Global;
 
-// One level more than the tallest of these modules has.
+// 0 of a module without instances.
 fn height_over(called: &[usize], heights: &[u8]) -> u8
     requires there { All (λ k. k < length heights.now) called.now }
     requires low { All (λ h. h < 64) heights.now }
@@ -33,7 +34,6 @@ fn height_over(called: &[usize], heights: &[u8]) -> u8
     height
 }
 
-// The heights after one more round.
 fn next_heights(alloc: Global, callees: &[Vec<usize>], heights: &[u8]) -> Result<Vec<u8>, NoMemory>
     requires there { All (All (λ k. k < length heights.now)) (map (λ list. list.items) callees.now) }
     requires low { All (λ h. h < 64) heights.now }
@@ -46,7 +46,7 @@ fn next_heights(alloc: Global, callees: &[Vec<usize>], heights: &[u8]) -> Result
     Ok(next)
 }
 
-// For each module how many instances stand below each other in it, where 64 stands for more.
+// 64 means 64 or more; a height below it is exact.
 fn heights_of(alloc: Global, callees: &[Vec<usize>]) -> Result<Vec<u8>, NoMemory>
     requires there { All (All (λ k. k < length callees.now)) (map (λ list. list.items) callees.now) }
     ensures long { IfOk result (λ heights. length heights.items ≡ length callees.now) }
@@ -59,7 +59,7 @@ fn heights_of(alloc: Global, callees: &[Vec<usize>]) -> Result<Vec<u8>, NoMemory
     Ok(heights)
 }
 
-// The first of these modules that is at least as tall.
+// Requires that one is tall enough, so the last needs no look.
 fn first_tall(called: &[usize], heights: &[u8], least: u8) -> usize
     requires there { All (λ k. k < length heights.now) called.now }
     requires some { list_any (λ k. nat_le least (slice_index_or heights.now k 0)) called.now ≡ true }
@@ -74,7 +74,7 @@ fn first_tall(called: &[usize], heights: &[u8], least: u8) -> usize
     k
 }
 
-/// The instances that stand in an item.
+/// Empty for an item that has no instances.
 pub(crate) fn calls_in(item: &Item) -> &[Call]
     ensures names { map (λ i. i.name) (instances_in (body_view item.now.body)) ≡ map (λ call. call.name) result.now }
 {
@@ -84,7 +84,7 @@ pub(crate) fn calls_in(item: &Item) -> &[Call]
     }
 }
 
-// Puts the name of the instance at a place among those that stand in these items behind a path.
+// `place` counts the instances through all items.
 fn add_name(path: &mut Vec<u8>, items: &[Item], place: usize) -> Result<(), NoMemory>
     ensures ok { OnOk result (IfSome (slice_get (flat_map (λ item. instances_in item.body) (map item_view items.now)) place) (λ i. path.new.items ≡ path.old.items ++ i.name)) }
 {
@@ -100,7 +100,6 @@ fn add_name(path: &mut Vec<u8>, items: &[Item], place: usize) -> Result<(), NoMe
     Ok(())
 }
 
-// Puts a dot behind a path on that level, unless that is the top's.
 fn add_dot(path: &mut Vec<u8>, level: u8) -> Result<(), NoMemory>
     ensures ok { OnOk result (path.new.items ≡ path.old.items ++ (if level == 0 then [] else codes ".")) }
 {
@@ -110,7 +109,7 @@ fn add_dot(path: &mut Vec<u8>, level: u8) -> Result<(), NoMemory>
     Ok(())
 }
 
-// The path of the first instance that stands too low.
+// Some instance 64 levels down exists; at each level the first instance with enough height below it is taken.
 fn first_low(
     alloc: Global,
     checked: &Checked,
@@ -123,7 +122,7 @@ fn first_low(
     requires tall { (k n : ℕ) → n ≤ 64 → nat_le n (slice_index_or heights.now k 0) ≡ is_tall (map (λ list. list.items) called.now) n k }
     requires top { top < length checked.now }
     requires low { nat_le 64 (slice_index_or heights.now top 0) ≡ true }
-    ensures told { IfOk result (λ n. (t : PlainModule) → slice_get (map syntax checked.now) top ≡ Some t → IsTold (design_on (map syntax checked.now) t) Depth n) }
+    ensures reported { IfOk result (λ n. (t : PlainModule) → slice_get (map syntax checked.now) top ≡ Some t → IsReportedOfDesign (design_on (map syntax checked.now) t) Depth n) }
 {
     laws_of_designs();
     let modules = checked.modules();
@@ -138,7 +137,7 @@ fn first_low(
     Name::of(alloc, &path)
 }
 
-/// The path of the first instance that stands too low, if there is one.
+/// The path of the first in elaboration order, if there is one.
 pub(crate) fn low_instance(
     alloc: Global,
     checked: &Checked,
@@ -147,11 +146,11 @@ pub(crate) fn low_instance(
 ) -> Result<Option<Name>, NoMemory>
     requires called { map (λ list. list.items) called.now ≡ map (callees (map syntax checked.now)) (map syntax checked.now) }
     requires top { top < length checked.now }
-    ensures some { IfOk result (λ found. IfSome found (λ n. (t : PlainModule) → slice_get (map syntax checked.now) top ≡ Some t → IsTold (design_on (map syntax checked.now) t) Depth n)) }
-    ensures none { IfOk result (λ found. IfNone found ((t : PlainModule) → slice_get (map syntax checked.now) top ≡ Some t → IsAbsent (design_on (map syntax checked.now) t) Depth)) }
+    ensures some { IfOk result (λ found. IfSome found (λ n. (t : PlainModule) → slice_get (map syntax checked.now) top ≡ Some t → IsReportedOfDesign (design_on (map syntax checked.now) t) Depth n)) }
+    ensures none { IfOk result (λ found. IfNone found ((t : PlainModule) → slice_get (map syntax checked.now) top ≡ Some t → IsAbsentInDesign (design_on (map syntax checked.now) t) Depth)) }
 {
     laws_of_designs();
-    // What was checked has no faults, as its modules tell.
+    // Gives the proof that checked modules have no faults.
     let _modules = checked.modules();
     let heights = heights_of(alloc, called)?;
     if heights[top] < 64 {

@@ -1,4 +1,5 @@
-//! The hierarchy of a design: it is refused where it is recursive, too deep or too large.
+//! Refuses a design that is recursive, too deep or too large, in this order: depth means something only without
+//! recursion. Nothing is instantiated before all three are known not to hold.
 
 ghost use Rattle.std.specs.Prelude.{◌≡◌, ◌⊎◌, ◌<◌, map, length, IfOk, IfErr};
 ghost use Rattle.bb_names.specs.Inside.Checked.{syntax};
@@ -16,8 +17,7 @@ use bb_design::laws::laws_of_designs;
 use bb_names::Checked;
 use std::alloc::Global;
 
-/// For each module the places of the modules that it instantiates, where the design with the module at a place on top is neither
-/// recursive nor too deep nor too large.
+/// For each module the places of its callees, one for each instance, in text order.
 pub fn hierarchy(alloc: Global, checked: &Checked, top: usize) -> Result<Vec<Vec<usize>>, ElabFault>
     requires top { top < length checked.now }
     ensures called { IfOk result (λ called. map (λ list. list.items) called.items ≡ map (callees (map syntax checked.now)) (map syntax checked.now)) }

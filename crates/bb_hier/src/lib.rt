@@ -1,4 +1,8 @@
 //! The hierarchy of a source: which modules instantiate which, the top, recursion, depth and size.
+//!
+//! Once the top is found modules go by their places in the text: each has one callee for each instance in it, in text
+//! order, so recursion, depth and size read one list. Laws say that walks by places are walks by names in a text
+//! without faults.
 #![tactic(auto)]
 
 mod callees;
@@ -8,9 +12,9 @@ mod finite;
 mod recursion;
 mod register_bits;
 mod size;
-mod sketch;
+mod summary;
 mod top;
 
 pub use finite::hierarchy;
-pub use sketch::{Sketch, sketches};
+pub use summary::{ModuleSummary, module_summaries};
 pub use top::place_of_top;

@@ -1,7 +1,8 @@
 //! Modules that instantiate themselves, directly or through others.
 //!
-//! A module is taken as a cell that reads the modules that it instantiates: then a recursion is a loop among cells, which the
-//! order of cells finds in linear time.
+//! A module is taken as a black box that reads the modules that it instantiates. Then a recursion is a combinational
+//! loop, and levelization (`bb_net::order`) finds it in linear time without a search of its own to prove. Each module
+//! has one box with one output.
 
 ghost use Rattle.std.specs.Prelude.{◌≡◌, ◌+◌, ◌<◌, ◌^◌, ◌||◌, ◌==◌, ◌∷◌, [], false, true, ℕ, All, Some, length, map, slice_get, if◌then◌else◌, IfOk, IfSome, IfNone};
 ghost use Rattle.std.specs.List.{enumerate_from, range_with_len};
@@ -10,7 +11,7 @@ ghost use Rattle.bb_net.specs.Values.{bit_of};
 ghost use Rattle.bb_ast.specs.Syntax.{PlainModule};
 ghost use Rattle.bb_names.specs.Inside.Checked.{syntax};
 ghost use Rattle.bb_design.specs.Inside.Callees.{callees};
-ghost use Rattle.bb_design.specs.Refusals.{IsTold, IsAbsent, Recursion, design_on};
+ghost use Rattle.bb_design.specs.Refusals.{IsReportedOfDesign, IsAbsentInDesign, Recursion, design_on};
 ghost use Rattle.bb_hier.specs.Inside.Recursions.{module_pins, module_list, kept_lists, ArePlacesThere, IsRecursiveAt, IsFirstRecursive};
 
 use bb_bits::{Name, NoMemory};
@@ -19,7 +20,7 @@ use bb_names::Checked;
 use bb_net::{BoxPins, Loose, LooseCell, NetFault, dependences, order, order_has_no_walk};
 use std::alloc::Global;
 
-// The pins of the box that stands for the module at a place.
+// Module `k` is the cell `k + 2`, after the two constants.
 fn module_pins(alloc: Global, place: usize, called: &[usize]) -> Result<BoxPins, NoMemory>
     requires place { place + 2 < 2 ^ 32 }
     requires called { All (λ k. k + 2 < 2 ^ 32) called.now }
@@ -33,7 +34,6 @@ fn module_pins(alloc: Global, place: usize, called: &[usize]) -> Result<BoxPins,
     Ok(BoxPins::of(ins, outs))
 }
 
-// The boxes that stand for the modules.
 fn module_boxes(alloc: Global, callees: &[Vec<usize>]) -> Result<Vec<BoxPins>, NoMemory>
     requires there { ArePlacesThere (map (λ list. list.items) callees.now) }
     ensures boxes { IfOk result (λ boxes. boxes.items ≡ map module_pins (enumerate_from 0 (map (λ list. list.items) callees.now))) }
@@ -45,7 +45,6 @@ fn module_boxes(alloc: Global, callees: &[Vec<usize>]) -> Result<Vec<BoxPins>, N
     Ok(boxes)
 }
 
-// The cells that stand for so many modules, behind the constants.
 fn module_cells(alloc: Global, count: usize) -> Result<Vec<LooseCell>, NoMemory>
     requires few { count + 2 < 2 ^ 32 }
     ensures cells { IfOk result (λ cells. cells.items ≡ Const false ∷ Const true ∷ map (λ k. BoxOut k 0) (range_with_len 0 count)) }
@@ -59,7 +58,6 @@ fn module_cells(alloc: Global, count: usize) -> Result<Vec<LooseCell>, NoMemory>
     Ok(cells)
 }
 
-// The modules as a list of cells.
 fn modules_as_cells(alloc: Global, callees: &[Vec<usize>]) -> Result<Loose, NoMemory>
     requires there { ArePlacesThere (map (λ list. list.items) callees.now) }
     ensures list { IfOk result (λ l. l ≡ module_list (map (λ list. list.items) callees.now)) }
@@ -69,7 +67,7 @@ fn modules_as_cells(alloc: Global, callees: &[Vec<usize>]) -> Result<Loose, NoMe
     Ok(Loose::of(0, cells, boxes, Vec::new(alloc)))
 }
 
-// Whether a module is the top or marked. The marks of modules stand behind those of the constants.
+// Entry `k + 2` of the marks is that of module `k`.
 fn is_kept(place: usize, top: usize, marks: &[bool]) -> bool
     requires there { place + 2 < length marks.now }
     ensures { result ≡ (place == top || bit_of marks.now (place + 2)) }
@@ -77,7 +75,6 @@ fn is_kept(place: usize, top: usize, marks: &[bool]) -> bool
     place == top || marks[place + 2]
 }
 
-// Empties a list that is not to be kept.
 fn keep_or_clear(list: &mut Vec<usize>, keep: bool)
     ensures kept { list.new.items ≡ (if keep then list.old.items else []) }
 {
@@ -86,7 +83,6 @@ fn keep_or_clear(list: &mut Vec<usize>, keep: bool)
     }
 }
 
-// Empties the lists of modules that are neither the top nor marked.
 fn forget_unmarked(callees: &mut [Vec<usize>], top: usize, marks: &[bool])
     requires marks { length marks.now ≡ length callees.old + 2 }
     ensures kept { map (λ list. list.items) callees.new ≡ kept_lists top marks.now (map (λ list. list.items) callees.old) }
@@ -96,8 +92,8 @@ fn forget_unmarked(callees: &mut [Vec<usize>], top: usize, marks: &[bool])
     }
 }
 
-/// Empties the lists of the modules that the top does not reach, and gives the first module that is left and instantiates
-/// itself, directly or through others.
+/// A recursion that the top does not reach is no fault of the design, so the lists of these modules are emptied first.
+/// The result is the first module in text order on a loop, since loops are reported by their least place.
 pub(crate) fn first_recursive(
     alloc: Global,
     callees: &mut [Vec<usize>],
@@ -121,8 +117,7 @@ pub(crate) fn first_recursive(
     }
 }
 
-/// The name of the first module that the top reaches and that instantiates itself, directly or through others. The lists of the
-/// modules that the top does not reach are emptied.
+/// Empties the lists of the modules that the top does not reach.
 pub(crate) fn recursive_module(
     alloc: Global,
     checked: &Checked,
@@ -131,8 +126,8 @@ pub(crate) fn recursive_module(
 ) -> Result<Option<Name>, NoMemory>
     requires called { map (λ list. list.items) called.old ≡ map (callees (map syntax checked.now)) (map syntax checked.now) }
     requires top { top < length checked.now }
-    ensures some { IfOk result (λ found. IfSome found (λ n. (t : PlainModule) → slice_get (map syntax checked.now) top ≡ Some t → IsTold (design_on (map syntax checked.now) t) Recursion n)) }
-    ensures none { IfOk result (λ found. IfNone found ((t : PlainModule) → slice_get (map syntax checked.now) top ≡ Some t → IsAbsent (design_on (map syntax checked.now) t) Recursion)) }
+    ensures some { IfOk result (λ found. IfSome found (λ n. (t : PlainModule) → slice_get (map syntax checked.now) top ≡ Some t → IsReportedOfDesign (design_on (map syntax checked.now) t) Recursion n)) }
+    ensures none { IfOk result (λ found. IfNone found ((t : PlainModule) → slice_get (map syntax checked.now) top ≡ Some t → IsAbsentInDesign (design_on (map syntax checked.now) t) Recursion)) }
 {
     laws_of_designs();
     let modules = checked.modules();

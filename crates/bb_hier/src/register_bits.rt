@@ -1,7 +1,7 @@
 //! How many bits of a module are registers.
 //!
-//! A bit may be stored to at several places and counts once, so bits are marked, net by net; the bits of a net that nothing
-//! stores to take no room.
+//! A bit may be stored to at several places, which is a fault found later, and counts once. So bits are marked, net by
+//! net; a net to which nothing stores takes no room.
 
 ghost use Rattle.std.specs.Prelude.{◌≡◌, ◌⊎◌, ◌+◌, ◌<◌, ◌≤◌, ◌&&◌, ◌||◌, ◌++◌, [], false, true, ℕ, Bool, List, map, length, filter, replicate, nat_le, nat_lt, sum_by, IfOk, OnOk, slice_index_or};
 ghost use Rattle.std.specs.List.{flat_map};
@@ -20,7 +20,7 @@ use bb_expr::laws::net_names_differ;
 use bb_names::CheckedModule;
 use std::alloc::Global;
 
-/// How many bits a net with this range has.
+/// 1 without a range.
 pub(crate) fn width_of(range: Option<Range>) -> usize
     ensures width { result ≡ range_width range }
 {
@@ -30,7 +30,7 @@ pub(crate) fn width_of(range: Option<Range>) -> usize
     }
 }
 
-// The place of an index of a net among its bits, from the leftmost on.
+// Counted from the leftmost bit, in ranges of either direction.
 fn first_place(range: Option<Range>, index: u32) -> usize
     ensures place { result ≡ place_of range index }
 {
@@ -40,7 +40,7 @@ fn first_place(range: Option<Range>, index: u32) -> usize
     }
 }
 
-// Makes room for the marks of so many bits.
+// Only at the first mark of the net.
 fn make_room(alloc: Global, marks: &mut Vec<bool>, width: usize) -> Result<(), NoMemory>
     requires whole { (length marks.old.items ≡ 0) ⊎ (length marks.old.items ≡ width) }
     ensures whole { OnOk result (length marks.new.items ≡ width) }
@@ -52,7 +52,6 @@ fn make_room(alloc: Global, marks: &mut Vec<bool>, width: usize) -> Result<(), N
     Ok(())
 }
 
-// Marks the bits from one place up to another.
 fn mark_from(marks: &mut [bool], first: usize, end: usize)
     requires end { end ≤ length marks.old }
     ensures long { length marks.new ≡ length marks.old }
@@ -63,7 +62,7 @@ fn mark_from(marks: &mut [bool], first: usize, end: usize)
     }
 }
 
-// Marks these bits of a net, or all of them.
+// `part` has the indices of a select, left one first; None means all bits.
 fn mark_net(
     alloc: Global,
     marks: &mut Vec<bool>,
@@ -88,14 +87,12 @@ fn mark_net(
     Ok(())
 }
 
-// The place of the net of that name.
 fn place_of(scope: &CheckedModule, name: &Name) -> Option<u32>
     ensures place { result ≡ lookup (same_name name.now) scope.now.index.entries }
 {
     scope.index.get(name).copied()
 }
 
-// Marks these bits of the net of that name, or all of them.
 fn mark_named(
     alloc: Global,
     scope: &CheckedModule,
@@ -117,7 +114,7 @@ fn mark_named(
     Ok(())
 }
 
-/// Marks the bits on a written side.
+/// Recursion goes as deep as concatenations nest.
 #[cycle(marking)]
 fn mark_written(
     alloc: Global,
@@ -141,7 +138,6 @@ fn mark_written(
     }
 }
 
-/// Marks the bits on written sides that stand side by side.
 #[cycle(marking)]
 fn mark_all(
     alloc: Global,
@@ -160,7 +156,6 @@ fn mark_all(
     Ok(())
 }
 
-// Marks the bits to which an item stores.
 fn mark_item(
     alloc: Global,
     scope: &CheckedModule,
@@ -178,7 +173,6 @@ fn mark_item(
     }
 }
 
-// Marks the bits to which these items store.
 fn mark_items(
     alloc: Global,
     scope: &CheckedModule,
@@ -196,14 +190,12 @@ fn mark_items(
     Ok(())
 }
 
-// How many are marked.
 fn count_marked(marks: &[bool]) -> u64
     ensures count { result ≡ length (filter (λ mark. mark) marks.now) }
 {
     marks.iter().filter(|mark| **mark).count() as u64
 }
 
-// How many are marked in all.
 fn count_all(marks: &[Vec<bool>]) -> u64
     ensures count { result ≡ capped (sum_by (λ row. length (filter (λ mark. mark) row)) (map (λ row. row.items) marks.now)) }
 {
@@ -214,7 +206,7 @@ fn count_all(marks: &[Vec<bool>]) -> u64
     total
 }
 
-// For each net marks that take no room yet.
+// Empty marks take no memory until a net is stored to.
 fn no_marks(alloc: Global, count: usize) -> Result<Vec<Vec<bool>>, NoMemory>
     ensures none { IfOk result (λ marks. map (λ row. row.items) marks.items ≡ replicate count []) }
 {
@@ -225,7 +217,7 @@ fn no_marks(alloc: Global, count: usize) -> Result<Vec<Vec<bool>>, NoMemory>
     Ok(marks)
 }
 
-/// How many bits of a scope of the module are stored to, or 2^64 - 1 where there are more.
+/// Saturates at 2^64 - 1.
 pub(crate) fn registers_in(alloc: Global, scope: &CheckedModule) -> Result<u64, NoMemory>
     requires nets { HasNets (module_facts scope.now) }
     ensures count { IfOk result (λ count. count ≡ capped (register_count (syntax (module_facts scope.now)))) }

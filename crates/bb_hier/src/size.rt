@@ -1,14 +1,14 @@
-//! Whether a design is too large.
+//! Whether a design is too large, found without building a scope.
 //!
-//! What a scope adds is counted once for each module. Then rounds over the lists of callees sum up what all instances below a
-//! module add, however many there are: no scope is built. Sums stop at the greatest number of 64 bits.
+//! What one scope adds is counted once a module. Rounds over the lists of callees then sum up what all instances below
+//! a module add, so the time goes by the text even where the scopes are exponentially many. Sums saturate at 2^64 - 1.
 
 ghost use Rattle.std.specs.Prelude.{◌≡◌, ◌+◌, ◌<◌, ◌≤◌, [], false, true, ℕ, All, Some, filter, if◌then◌else◌, length, map, nat_lt, slice_get, slice_index_or, sum_by, IfOk};
 ghost use Rattle.bb_ast.specs.Syntax.{PlainModule};
 ghost use Rattle.bb_names.specs.Inside.Checked.{syntax};
 ghost use Rattle.bb_expr.specs.Inside.Shares.{capped};
 ghost use Rattle.bb_design.specs.Inside.Callees.{callees};
-ghost use Rattle.bb_design.specs.Refusals.{IsTold, IsAbsent, Size, design_on, most_bits, most_cells};
+ghost use Rattle.bb_design.specs.Refusals.{IsReportedOfDesign, IsAbsentInDesign, Size, design_on, most_bits, most_cells};
 ghost use Rattle.bb_design.specs.Sizes.{cells_in, bits_and_instances};
 ghost use Rattle.bb_hier.specs.Inside.Weights.{bit_count, construct_cells, instance_cells, is_input_net, is_output_net, net_width, total_below};
 
@@ -28,7 +28,6 @@ const MOST_BITS: u64 = 1_000_000;
 
 const MOST_CELLS: u64 = 2_000_000;
 
-// The bits of all nets.
 fn net_bits(nets: &[NetInfo]) -> u64
     ensures bits { result ≡ capped (sum_by net_width nets.now) }
 {
@@ -39,7 +38,6 @@ fn net_bits(nets: &[NetInfo]) -> u64
     total
 }
 
-// The bits of a net that is an input port, or else an output port.
 fn port_width(net: &NetInfo, inputs: bool) -> u64
     ensures width { result ≡ (if (if inputs then is_input_net net.now else is_output_net net.now) then net_width net.now else 0) }
 {
@@ -50,7 +48,6 @@ fn port_width(net: &NetInfo, inputs: bool) -> u64
     }
 }
 
-// The bits of the input ports, or else of the output ports.
 fn port_bits(nets: &[NetInfo], inputs: bool) -> u64
     ensures bits { result ≡ capped (sum_by net_width (filter (λ net. if inputs then is_input_net net else is_output_net net) nets.now)) }
 {
@@ -61,7 +58,7 @@ fn port_bits(nets: &[NetInfo], inputs: bool) -> u64
     total
 }
 
-// For each module the bits of a scope of it, and one for the instance.
+// An instance counts as one bit, so that scopes without nets are bounded too.
 fn bit_weights(alloc: Global, checked: &Checked) -> Result<Vec<u64>, NoMemory>
     ensures weights { IfOk result (λ weights. weights.items ≡ map (λ m. capped (bit_count m + 1)) (map syntax checked.now)) }
 {
@@ -73,7 +70,6 @@ fn bit_weights(alloc: Global, checked: &Checked) -> Result<Vec<u64>, NoMemory>
     Ok(weights)
 }
 
-// The cells of the operators and the registers of the module at a place.
 fn construct_cells(alloc: Global, checked: &Checked, place: usize) -> Result<u64, NoMemory>
     requires place { place < length checked.now }
     ensures cells { IfOk result (λ cells. (m : PlainModule) → slice_get (map syntax checked.now) place ≡ Some m → cells ≡ capped (construct_cells m)) }
@@ -85,7 +81,8 @@ fn construct_cells(alloc: Global, checked: &Checked, place: usize) -> Result<u64
     Ok(operators.saturating_add(registers_in(alloc, scope)?))
 }
 
-// The same for each module, but for those with so many bits that no instance of them may be there.
+// Modules with more bits than a design may have are passed over: no instance of them is left when these weights are
+// used, and their widths need not be bounded.
 fn construct_weights(alloc: Global, checked: &Checked, bits: &[u64]) -> Result<Vec<u64>, NoMemory>
     requires long { length bits.now ≡ length checked.now }
     ensures long { IfOk result (λ weights. length weights.items ≡ length checked.now) }
@@ -104,7 +101,7 @@ fn construct_weights(alloc: Global, checked: &Checked, bits: &[u64]) -> Result<V
     Ok(weights)
 }
 
-// The cells of an instance of a module, where those of its constructs are so many.
+// A box has a cell for each bit of its output ports, and no constructs.
 fn instance_cells(checked: &Checked, place: usize, constructs: u64) -> u64
     requires place { place < length checked.now }
     ensures cells { (m : PlainModule) → slice_get (map syntax checked.now) place ≡ Some m → constructs ≡ capped (construct_cells m) → result ≡ capped (instance_cells m) }
@@ -116,7 +113,6 @@ fn instance_cells(checked: &Checked, place: usize, constructs: u64) -> u64
     constructs
 }
 
-// The same for each module.
 fn instance_weights(
     alloc: Global,
     checked: &Checked,
@@ -134,7 +130,6 @@ fn instance_weights(
     Ok(weights)
 }
 
-// What these instances add, and those below them.
 fn total_of(called: &[usize], own: &[u64], totals: &[u64]) -> u64
     requires own { All (λ k. k < length own.now) called.now }
     requires totals { All (λ k. k < length totals.now) called.now }
@@ -147,7 +142,6 @@ fn total_of(called: &[usize], own: &[u64], totals: &[u64]) -> u64
     total
 }
 
-// The totals after one more round.
 fn next_totals(
     alloc: Global,
     callees: &[Vec<usize>],
@@ -165,7 +159,7 @@ fn next_totals(
     Ok(next)
 }
 
-// For each module what all instances below it add, down to the first level that is too low.
+// After `n` rounds `n` levels are counted; 64 reach every instance, as deeper designs are refused before.
 fn totals(alloc: Global, callees: &[Vec<usize>], own: &[u64]) -> Result<Vec<u64>, NoMemory>
     requires long { length own.now ≡ length callees.now }
     requires there { All (All (λ k. k < length callees.now)) (map (λ list. list.items) callees.now) }
@@ -179,7 +173,7 @@ fn totals(alloc: Global, callees: &[Vec<usize>], own: &[u64]) -> Result<Vec<u64>
     Ok(totals)
 }
 
-// Whether there are too many bits and instances.
+// The top counts itself as an instance, which the bound allows for.
 fn has_many_bits(
     alloc: Global,
     checked: &Checked,
@@ -198,7 +192,7 @@ fn has_many_bits(
     Ok(bits[top].saturating_add(below[top]) > MOST_BITS + 1)
 }
 
-// Whether there are too many cells, where the bits and instances are not too many.
+// Inputs of the top, and the two constants, are cells too.
 fn has_many_cells(
     alloc: Global,
     checked: &Checked,
@@ -226,7 +220,7 @@ fn has_many_cells(
     Ok(own.saturating_add(below[top]) > MOST_CELLS)
 }
 
-/// Whether there are too many bits of nets and instances, or too many cells.
+/// Bits are looked at first: the count of cells presupposes that they are few.
 pub(crate) fn is_too_large(
     alloc: Global,
     checked: &Checked,
@@ -235,8 +229,8 @@ pub(crate) fn is_too_large(
 ) -> Result<bool, NoMemory>
     requires called { map (λ list. list.items) called.now ≡ map (callees (map syntax checked.now)) (map syntax checked.now) }
     requires top { top < length checked.now }
-    ensures large { IfOk result (λ large. large ≡ true → (t : PlainModule) → slice_get (map syntax checked.now) top ≡ Some t → IsTold (design_on (map syntax checked.now) t) Size []) }
-    ensures small { IfOk result (λ large. large ≡ false → (t : PlainModule) → slice_get (map syntax checked.now) top ≡ Some t → IsAbsent (design_on (map syntax checked.now) t) Size) }
+    ensures large { IfOk result (λ large. large ≡ true → (t : PlainModule) → slice_get (map syntax checked.now) top ≡ Some t → IsReportedOfDesign (design_on (map syntax checked.now) t) Size []) }
+    ensures small { IfOk result (λ large. large ≡ false → (t : PlainModule) → slice_get (map syntax checked.now) top ≡ Some t → IsAbsentInDesign (design_on (map syntax checked.now) t) Size) }
 {
     let bits = bit_weights(alloc, checked)?;
     if has_many_bits(alloc, checked, called, &bits, top)? {

@@ -1,4 +1,5 @@
-//! The module on top of a design.
+//! The top module: the named one, or the only module that no module instantiates. With several such modules there is no
+//! default, since any choice would silently leave a design unchecked.
 
 ghost use Rattle.std.specs.Prelude.{◌≡◌, ◌||◌, ◌<◌, ℕ, List, not, map, length, filter, slice_get, IfOk, IfSome, OnOk, option_copied};
 ghost use Rattle.std.specs.List.{list_any};
@@ -6,7 +7,7 @@ ghost use Rattle.std.specs.Option.{option_and_then};
 ghost use Rattle.bb_bits.specs.Names.{same_name};
 ghost use Rattle.bb_ast.specs.Inside.Views.{body_view, item_view};
 ghost use Rattle.bb_names.specs.Inside.Checked.{module_facts, syntax};
-ghost use Rattle.bb_names.specs.Spots.{module_named};
+ghost use Rattle.bb_names.specs.Sites.{module_named};
 ghost use Rattle.bb_design.specs.Hierarchy.{instances_in, instances_of, is_instantiated, roots, the_only, top_of};
 
 use bb_ast::{Body, Item};
@@ -15,7 +16,6 @@ use bb_names::{Checked, CheckedModule};
 use indexmap::IndexSet;
 use std::alloc::Global;
 
-// Puts the name of the module that is instantiated in an item, if one is, into a set.
 fn add_target(item: &Item, targets: &mut IndexSet<Name>) -> Result<(), NoMemory>
     ensures ok { OnOk result ((n : List ℕ) → list_any (same_name n) targets.new.keys
         ≡ (list_any (same_name n) targets.old.keys || list_any (λ i. same_name i.target n) (instances_in (body_view item.now.body)))) }
@@ -29,7 +29,6 @@ fn add_target(item: &Item, targets: &mut IndexSet<Name>) -> Result<(), NoMemory>
     Ok(())
 }
 
-// Puts the names of the modules that are instantiated among these items into a set.
 fn add_targets(items: &[Item], targets: &mut IndexSet<Name>) -> Result<(), NoMemory>
     ensures ok { OnOk result ((n : List ℕ) → list_any (same_name n) targets.new.keys
         ≡ (list_any (same_name n) targets.old.keys || list_any (λ item. list_any (λ i. same_name i.target n) (instances_in item.body)) (map item_view items.now))) }
@@ -40,7 +39,6 @@ fn add_targets(items: &[Item], targets: &mut IndexSet<Name>) -> Result<(), NoMem
     Ok(())
 }
 
-// The names of the modules that are instantiated.
 fn targets(alloc: Global, modules: &[CheckedModule]) -> Result<IndexSet<Name>, NoMemory>
     ensures ok { IfOk result (λ targets. (n : List ℕ) → list_any (same_name n) targets.keys ≡ is_instantiated (map syntax (map module_facts modules.now)) n) }
 {
@@ -51,7 +49,6 @@ fn targets(alloc: Global, modules: &[CheckedModule]) -> Result<IndexSet<Name>, N
     Ok(targets)
 }
 
-// The place of the first module of that name.
 fn place_named(modules: &[CheckedModule], name: &[u8]) -> Option<usize>
     ensures there { IfSome result (λ k. k < length modules.now) }
     ensures place { option_and_then (slice_get (map syntax (map module_facts modules.now))) result ≡ module_named (map syntax (map module_facts modules.now)) name.now }
@@ -64,7 +61,7 @@ fn place_named(modules: &[CheckedModule], name: &[u8]) -> Option<usize>
     None
 }
 
-// The place of the one module whose name is not in a set.
+// None where there is no such module or a second one.
 fn place_outside(modules: &[CheckedModule], targets: &IndexSet<Name>) -> Option<usize>
     ensures there { IfSome result (λ k. k < length modules.now) }
     ensures place { option_and_then (slice_get (map syntax (map module_facts modules.now))) result
@@ -82,7 +79,6 @@ fn place_outside(modules: &[CheckedModule], targets: &IndexSet<Name>) -> Option<
     found
 }
 
-// The place of the one module that no module instantiates.
 fn root(alloc: Global, modules: &[CheckedModule]) -> Result<Option<usize>, NoMemory>
     ensures there { IfOk result (λ found. IfSome found (λ k. k < length modules.now)) }
     ensures place { IfOk result (λ found. option_and_then (slice_get (map syntax (map module_facts modules.now))) found ≡ the_only (roots (map syntax (map module_facts modules.now)))) }
@@ -91,8 +87,8 @@ fn root(alloc: Global, modules: &[CheckedModule]) -> Result<Option<usize>, NoMem
     Ok(place_outside(modules, &targets))
 }
 
-/// The place of the top among the modules, if there is one: of the module of the given name, or without a name of the one
-/// module that no module instantiates.
+/// None where no module has the given name; or, without a name, where no module or more than one is instantiated
+/// nowhere.
 pub fn place_of_top(
     alloc: Global,
     checked: &Checked,

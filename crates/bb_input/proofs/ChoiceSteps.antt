@@ -10,16 +10,16 @@ use Rattle.bb_uniq.specs.declared.store.Ref.{Ref}
 use Rattle.bb_uniq.specs.Inside.Nodes.{NodeStore}
 use Rattle.bb_uniq.specs.Inside.Meaning.{truth_of, Keeps}
 use Rattle.bb_sym.specs.Laws.{MakingLaws}
-use Rattle.bb_sym.specs.Inside.Made.{Makes, AreTooMany, StandsFor, ref_at}
+use Rattle.bb_sym.specs.Inside.Made.{Makes, AreTooMany, Represents, ref_at}
 use Rattle.bb_sym.specs.Plain.{block_functions}
 use Rattle.bb_input.specs.InputFunctions.{outs_quantified, box_quantified, boxes_quantified, box_functions, boxes_functions}
 use Rattle.bb_input.proofs.OrderLemmas.{count_more}
 
 -- a box: the two blocks after one another
 module _ (laws : MakingLaws) (start first : ℕ) (box : Pins) (from : start ≡ first + length box.ins) (old mid : NodeStore) (t : Truth) (r : Ref)
-    (made : Makes old mid (block_functions ◌&&◌ start (length box.outs) t)) (stand : StandsFor mid (quantified_block ◌&&◌ start (length box.outs) t) r) where
+    (made : Makes old mid (block_functions ◌&&◌ start (length box.outs) t)) (occur : Represents mid (quantified_block ◌&&◌ start (length box.outs) t) r) where
   middle : truth_of mid r.0 ≡ outs_quantified first box t
-  middle = stand.table ∙ ap (λ k. quantified_block ◌&&◌ k (length box.outs) t) from
+  middle = occur.table ∙ ap (λ k. quantified_block ◌&&◌ k (length box.outs) t) from
 
   outs_made : Makes old mid (block_functions ◌&&◌ (first + length box.ins) (length box.outs) t)
   outs_made = subst (λ k. Makes old mid (block_functions ◌&&◌ k (length box.outs) t)) from made
@@ -34,8 +34,8 @@ module _ (laws : MakingLaws) (start first : ℕ) (box : Pins) (from : start ≡ 
       laws.then old mid new (block_functions ◌&&◌ (first + length box.ins) (length box.outs) t) (block_functions ◌||◌ first (length box.ins) (outs_quantified first box t)) outs_made
       (subst (λ u. Makes mid new (block_functions ◌||◌ first (length box.ins) u)) middle also)
 
-  pub box_stands : (new : NodeStore) (q : Ref) → StandsFor new (quantified_block ◌||◌ first (length box.ins) (truth_of mid r.0)) q → StandsFor new (box_quantified first box t) q
-  box_stands new q h = record { ref = h.ref; table = h.table ∙ ap (quantified_block ◌||◌ first (length box.ins)) middle }
+  pub box_occurs : (new : NodeStore) (q : Ref) → Represents new (quantified_block ◌||◌ first (length box.ins) (truth_of mid r.0)) q → Represents new (box_quantified first box t) q
+  box_occurs new q h = record { ref = h.ref; table = h.table ∙ ap (quantified_block ◌||◌ first (length box.ins)) middle }
 
 pub box_refused_first : MakingLaws → (start first : ℕ) (box : Pins) → start ≡ first + length box.ins → (old : NodeStore) (t : Truth) → AreTooMany old (block_functions ◌&&◌ start (length box.outs) t) → AreTooMany old (box_functions first box t)
 box_refused_first laws start first box from old t many =
@@ -85,18 +85,18 @@ later_within laws boxes t (suc i) l b h =
     (inl (subst (λ k. IsBeadOfAny (functions_from boxes t k) b) (let e : suc i ≡ i + 1 = omega arith in e) h))))
 
 -- one more box
-module _ (laws : MakingLaws) (start old : NodeStore) (boxes : List Pins) (t : Truth) (i : ℕ) (l : i < length boxes) (r : Ref) (stand : StandsFor old (from_box boxes t (i + 1)) r) (made : Makes start old (functions_from boxes t (i + 1)))
+module _ (laws : MakingLaws) (start old : NodeStore) (boxes : List Pins) (t : Truth) (i : ℕ) (l : i < length boxes) (r : Ref) (occur : Represents old (from_box boxes t (i + 1)) r) (made : Makes start old (functions_from boxes t (i + 1)))
     (first : ℕ) (f : first ≡ pin_count (take i boxes)) where
   own_is : box_functions first (box_at boxes i) (truth_of old r.0) ≡ box_functions (pin_count (take i boxes)) (box_at boxes i) (from_box boxes t (i + 1))
-  own_is = ap₂ (λ k v. box_functions k (box_at boxes i) v) f stand.table
+  own_is = ap₂ (λ k v. box_functions k (box_at boxes i) v) f occur.table
 
   pub boxes_made : (new : NodeStore) → Makes old new (box_functions first (box_at boxes i) (truth_of old r.0)) → Makes start new (functions_from boxes t i)
   boxes_made new also =
       subst (Makes start new) (sym (functions_earlier boxes t i l))
       (laws.then start old new (functions_from boxes t (i + 1)) (box_functions (pin_count (take i boxes)) (box_at boxes i) (from_box boxes t (i + 1))) made (subst (Makes old new) own_is also))
 
-  pub boxes_stand : (new : NodeStore) (q : Ref) → StandsFor new (box_quantified first (box_at boxes i) (truth_of old r.0)) q → StandsFor new (from_box boxes t i) q
-  boxes_stand new q h = record { ref = h.ref; table = h.table ∙ (ap₂ (λ k u. box_quantified k (box_at boxes i) u) f stand.table ∙ sym (from_earlier boxes t i l)) }
+  pub boxes_occur : (new : NodeStore) (q : Ref) → Represents new (box_quantified first (box_at boxes i) (truth_of old r.0)) q → Represents new (from_box boxes t i) q
+  boxes_occur new q h = record { ref = h.ref; table = h.table ∙ (ap₂ (λ k u. box_quantified k (box_at boxes i) u) f occur.table ∙ sym (from_earlier boxes t i l)) }
 
   pub boxes_refused : AreTooMany old (box_functions first (box_at boxes i) (truth_of old r.0)) → AreTooMany start (functions_from boxes t 0)
   boxes_refused many =
@@ -106,20 +106,20 @@ module _ (laws : MakingLaws) (start old : NodeStore) (boxes : List Pins) (t : Tr
 
 -- what the boxes from a number on were quantified in
 abbrev pub AreNoted : NodeStore → List Pins → Truth → ℕ → List Ref → Type 0
-AreNoted s boxes t i noted = (b : ℕ) → i ≤ b → b < length boxes → StandsFor s (from_box boxes t (b + 1)) (ref_at noted b)
+AreNoted s boxes t i noted = (b : ℕ) → i ≤ b → b < length boxes → Represents s (from_box boxes t (b + 1)) (ref_at noted b)
 
 -- one more, where a box was quantified since
 pub noted_more : MakingLaws → (old new : NodeStore) → Keeps old new → (boxes : List Pins) (t : Truth) (k : ℕ) → k < length boxes → (noted : List Ref) → length noted ≡ length boxes → (r : Ref)
-    → StandsFor old (from_box boxes t (k + 1)) r → AreNoted old boxes t (k + 1) noted → AreNoted new boxes t k (slice_set noted k r)
-noted_more laws old new kept boxes t k l noted whole r stand before b from there =
+    → Represents old (from_box boxes t (k + 1)) r → AreNoted old boxes t (k + 1) noted → AreNoted new boxes t k (slice_set noted k r)
+noted_more laws old new kept boxes t k l noted whole r occur before b from there =
     elim (cases_eq b k) [
       | inl e ↦
           let here : ref_at (slice_set noted k r) b ≡ r = ap (ref_at (slice_set noted k r)) e ∙ get_or-set_same noted k r (record { 0 = 0 }) (omega (arith, l, whole)) in
-          subst (StandsFor new (from_box boxes t (b + 1))) (sym here)
-          (subst (λ i. StandsFor new (from_box boxes t (i + 1)) r) (sym e) (laws.stands_still old new (from_box boxes t (k + 1)) r kept stand))
+          subst (Represents new (from_box boxes t (b + 1))) (sym here)
+          (subst (λ i. Represents new (from_box boxes t (i + 1)) r) (sym e) (laws.occurs_still old new (from_box boxes t (k + 1)) r kept occur))
       | inr other ↦
-          subst (StandsFor new (from_box boxes t (b + 1))) (sym (get_or-set_other noted k b r (record { 0 = 0 }) other))
-          (laws.stands_still old new (from_box boxes t (b + 1)) (ref_at noted b) kept (before b (later b from other) there))
+          subst (Represents new (from_box boxes t (b + 1))) (sym (get_or-set_other noted k b r (record { 0 = 0 }) other))
+          (laws.occurs_still old new (from_box boxes t (b + 1)) (ref_at noted b) kept (before b (later b from other) there))
     ]
   where
     later : (b : ℕ) → k ≤ b → (b ≡ k → ⊥) → k + 1 ≤ b

@@ -8,11 +8,11 @@ use Rattle.bb_uniq.specs.declared.store.Ref.{Ref}
 use Rattle.bb_uniq.specs.Inside.Nodes.{NodeStore}
 use Rattle.bb_uniq.specs.Inside.Meaning.{truth_of}
 use Rattle.bb_sym.specs.Laws.{MakingLaws}
-use Rattle.bb_sym.specs.Inside.Made.{Makes, AreTooMany, StandsFor, StandForAll, HaveCells, ref_at}
+use Rattle.bb_sym.specs.Inside.Made.{Makes, AreTooMany, Represents, RepresentAll, HaveCells, ref_at}
 use Rattle.bb_sym.specs.Plain.{cell_bit, table, tables, plain_functions_at, block_functions}
 use Rattle.bb_input.specs.InputFunctions.{pins_and_inputs, boxes_first, leads, refutes, refuted, lost, stage, pin_places, wrong_functions, missed_functions, quantified_functions, boxes_quantified, boxes_functions, input_functions}
 use Rattle.bb_input.proofs.PinLemmas.{pins_there}
-use Rattle.bb_input.proofs.RefutingParts.{front_refused}
+use Rattle.bb_input.proofs.RefutingParts.{prefix_refused}
 
 pub few_pins : (p : NetPair) → IsPair p → pin_count p.imp.boxes ≤ 2048
 few_pins p pair = omega (arith, pair.small.pins)
@@ -41,31 +41,31 @@ module _ (making : MakingLaws) (spec imp : Netlist) (a : NodeStore) where
       ∙ ap (λ ts. wrong_functions spec imp ++ ts) (append_assoc (missed_functions imp) last (quantified_functions spec imp)))
 
   pub refused_plain : AreTooMany a plain_part → AreTooMany a (input_functions spec imp)
-  refused_plain many = subst (AreTooMany a) parts_are (front_refused making a plain_part (refuting_part ++ (inputs_part ++ boxes_part)) many)
+  refused_plain many = subst (AreTooMany a) parts_are (prefix_refused making a plain_part (refuting_part ++ (inputs_part ++ boxes_part)) many)
 
   module _ (b : NodeStore) (plain : Makes a b plain_part) where
     later : AreTooMany b (refuting_part ++ (inputs_part ++ boxes_part)) → AreTooMany a (input_functions spec imp)
     later many = subst (AreTooMany a) parts_are (making.refused_then a b plain_part (refuting_part ++ (inputs_part ++ boxes_part)) plain many)
 
     pub refused_refuting : AreTooMany b refuting_part → AreTooMany a (input_functions spec imp)
-    refused_refuting many = later (front_refused making b refuting_part (inputs_part ++ boxes_part) many)
+    refused_refuting many = later (prefix_refused making b refuting_part (inputs_part ++ boxes_part) many)
 
-    module _ (c : NodeStore) (both : Makes b c refuting_part) (x : Ref) (stand : StandsFor c (table (pins_and_inputs imp) (refutes spec imp)) x) (pins inputs : ℕ) (ep : pins ≡ pin_count imp.boxes) (ei : inputs ≡ imp.inputs) where
+    module _ (c : NodeStore) (both : Makes b c refuting_part) (x : Ref) (occur : Represents c (table (pins_and_inputs imp) (refutes spec imp)) x) (pins inputs : ℕ) (ep : pins ≡ pin_count imp.boxes) (ei : inputs ≡ imp.inputs) where
       inputs_are : block_functions ◌||◌ pins inputs (truth_of c x.0) ≡ inputs_part
-      inputs_are = ap (block_functions ◌||◌ pins inputs) stand.table ∙ ap₂ (λ k m. block_functions ◌||◌ k m (table (pins_and_inputs imp) (refutes spec imp))) ep ei
+      inputs_are = ap (block_functions ◌||◌ pins inputs) occur.table ∙ ap₂ (λ k m. block_functions ◌||◌ k m (table (pins_and_inputs imp) (refutes spec imp))) ep ei
 
       pub refused_inputs : AreTooMany c (block_functions ◌||◌ pins inputs (truth_of c x.0)) → AreTooMany a (input_functions spec imp)
-      refused_inputs many = later (making.refused_then b c refuting_part (inputs_part ++ boxes_part) both (front_refused making c inputs_part boxes_part (subst (AreTooMany c) inputs_are many)))
+      refused_inputs many = later (making.refused_then b c refuting_part (inputs_part ++ boxes_part) both (prefix_refused making c inputs_part boxes_part (subst (AreTooMany c) inputs_are many)))
 
-      module _ (d : NodeStore) (made : Makes c d (block_functions ◌||◌ pins inputs (truth_of c x.0))) (y : Ref) (left : StandsFor d (quantified_block ◌||◌ pins inputs (truth_of c x.0)) y) (boxes : List Pins) (eb : boxes ≡ imp.boxes) where
+      module _ (d : NodeStore) (made : Makes c d (block_functions ◌||◌ pins inputs (truth_of c x.0))) (y : Ref) (left : Represents d (quantified_block ◌||◌ pins inputs (truth_of c x.0)) y) (boxes : List Pins) (eb : boxes ≡ imp.boxes) where
         inputs_made : Makes c d inputs_part
         inputs_made = subst (Makes c d) inputs_are made
 
-        pub refuted_stands : StandsFor d (refuted spec imp) y
-        refuted_stands = record { ref = left.ref; table = left.table ∙ (ap (quantified_block ◌||◌ pins inputs) stand.table ∙ ap₂ (λ k m. quantified_block ◌||◌ k m (table (pins_and_inputs imp) (refutes spec imp))) ep ei) }
+        pub refuted_occurs : Represents d (refuted spec imp) y
+        refuted_occurs = record { ref = left.ref; table = left.table ∙ (ap (quantified_block ◌||◌ pins inputs) occur.table ∙ ap₂ (λ k m. quantified_block ◌||◌ k m (table (pins_and_inputs imp) (refutes spec imp))) ep ei) }
 
         boxes_are : boxes_functions 0 boxes (truth_of d y.0) ≡ boxes_part
-        boxes_are = ap₂ (λ (k : List Pins) t. boxes_functions 0 k t) eb refuted_stands.table
+        boxes_are = ap₂ (λ (k : List Pins) t. boxes_functions 0 k t) eb refuted_occurs.table
 
         pub refused_boxes : AreTooMany d (boxes_functions 0 boxes (truth_of d y.0)) → AreTooMany a (input_functions spec imp)
         refused_boxes many =
@@ -78,21 +78,21 @@ module _ (making : MakingLaws) (spec imp : Netlist) (a : NodeStore) where
               (making.then a b e plain_part (refuting_part ++ (inputs_part ++ boxes_part)) plain
               (making.then b c e refuting_part (inputs_part ++ boxes_part) both (making.then c d e inputs_part boxes_part inputs_made (subst (Makes d e) boxes_are last))))
 
-          pub lost_stands : (q : Ref) → StandsFor e (boxes_quantified 0 boxes (truth_of d y.0)) q → StandsFor e (lost spec imp) q
-          lost_stands q h = record { ref = h.ref; table = h.table ∙ ap₂ (λ (k : List Pins) t. boxes_quantified 0 k t) eb refuted_stands.table }
+          pub lost_occurs : (q : Ref) → Represents e (boxes_quantified 0 boxes (truth_of d y.0)) q → Represents e (lost spec imp) q
+          lost_occurs q h = record { ref = h.ref; table = h.table ∙ ap₂ (λ (k : List Pins) t. boxes_quantified 0 k t) eb refuted_occurs.table }
 
-          pub stage_stands : (b : ℕ) (q : Ref) → StandsFor e (boxes_quantified (pin_count (take (b + 1) boxes)) (drop (b + 1) boxes) (truth_of d y.0)) q → StandsFor e (stage spec imp b) q
-          stage_stands b q h = record {
+          pub stage_occurs : (b : ℕ) (q : Ref) → Represents e (boxes_quantified (pin_count (take (b + 1) boxes)) (drop (b + 1) boxes) (truth_of d y.0)) q → Represents e (stage spec imp b) q
+          stage_occurs b q h = record {
             ref = h.ref;
-            table = h.table ∙ ap₂ (λ (k : List Pins) t. boxes_quantified (pin_count (take (b + 1) k)) (drop (b + 1) k) t) eb refuted_stands.table;
+            table = h.table ∙ ap₂ (λ (k : List Pins) t. boxes_quantified (pin_count (take (b + 1) k)) (drop (b + 1) k) t) eb refuted_occurs.table;
           }
 
           -- since the cells were made, Refs are kept
-          pub pins_stand : (v : a.vars ≡ pins_and_inputs imp) → IsNetlist imp → (of_spec of_imp refs : List Ref) → HaveCells b (boxes_first imp) spec imp of_spec of_imp → refs ≡ map (ref_at of_imp) (pin_places imp.boxes)
-              → StandForAll e (λ q. table (pins_and_inputs imp) (cell_bit (boxes_first imp) imp (slice_index (pin_places imp.boxes) q))) refs
-          pins_stand v kept of_spec of_imp refs have picks =
+          pub pins_occur : (v : a.vars ≡ pins_and_inputs imp) → IsNetlist imp → (of_spec of_imp refs : List Ref) → HaveCells b (boxes_first imp) spec imp of_spec of_imp → refs ≡ map (ref_at of_imp) (pin_places imp.boxes)
+              → RepresentAll e (λ q. table (pins_and_inputs imp) (cell_bit (boxes_first imp) imp (slice_index (pin_places imp.boxes) q))) refs
+          pins_occur v kept of_spec of_imp refs have picks =
               let since = making.then b c e refuting_part (inputs_part ++ boxes_part) both (making.then c d e inputs_part boxes_part inputs_made (subst (Makes d e) boxes_are last)) in
               let still = making.cells_still b e (boxes_first imp) spec imp of_spec of_imp since.kept have in
               let there = subst (λ n. All (λ place. place < n) (pin_places imp.boxes)) (sym have.imp_whole) (pins_there imp kept) in
-              subst₂ (λ n (rs : List Ref). StandForAll e (λ q. table n (cell_bit (boxes_first imp) imp (slice_index (pin_places imp.boxes) q))) rs) (all_made.kept.vars ∙ v) (sym picks)
-              (making.picked_stand e (λ place. table e.vars (cell_bit (boxes_first imp) imp place)) of_imp (pin_places imp.boxes) still.imp_cells there)
+              subst₂ (λ n (rs : List Ref). RepresentAll e (λ q. table n (cell_bit (boxes_first imp) imp (slice_index (pin_places imp.boxes) q))) rs) (all_made.kept.vars ∙ v) (sym picks)
+              (making.picked_occur e (λ place. table e.vars (cell_bit (boxes_first imp) imp place)) of_imp (pin_places imp.boxes) still.imp_cells there)

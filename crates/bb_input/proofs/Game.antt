@@ -1,7 +1,7 @@
 -- the boxes quantified, as choices one after another
 use Rattle.std.proofs.Common.{◌≡◌, ℕ, zero, suc, ◌+◌, Bool, true, false, ◌&&◌, ◌||◌, List, [], ◌∷◌, ◌++◌, length, take, drop, refl, sym, ap, ◌∙◌, subst, arith, length-append, length-take, length-drop, append-nil, append_assoc, take-append-drop}
 use Rattle.std.proofs.lemmas.List.Sums.{sum_by-append, sum_by-cons}
-use Rattle.bb_lists.proofs.Bits.{never_both}
+use Rattle.bb_lemmas.proofs.Bits.{never_both}
 use Rattle.bb_bits.specs.Truth.{Truth, IsTruthTable, truth_at, quantified_block}
 use Rattle.bb_bits.specs.Laws.TruthLaws.{QuantifierLaws, TableLaws}
 use Rattle.bb_net.specs.Conditions.{Suit, Wins, SomeChoicesSuit, NoChoicesSuit}
@@ -34,7 +34,7 @@ module _ (quantifiers : QuantifierLaws) (tables : TableLaws) (functions : Functi
       let inner = boxes_size boxes (first + (length box.ins + length box.outs)) in
       block_size first (length box.ins) ◌||◌ _ (block_size (first + length box.ins) (length box.outs) ◌&&◌ _ inner)
 
-  -- one box, behind the bits before it
+  -- one box, after the bits before it
   module _ (first : ℕ) (box : Pins) (u : Truth) (size : IsTruthTable n u) (pre i z v : List Bool) (e : length pre ≡ first) (ei : length i ≡ length box.ins) (ez : length z ≡ length box.outs) (whole : n ≡ first + (length box.ins + (length box.outs + length v))) where
     outer_size : IsTruthTable (first + (length box.ins + length (z ++ v))) (outs_quantified first box u)
     outer_size =
@@ -63,7 +63,7 @@ module _ (quantifiers : QuantifierLaws) (tables : TableLaws) (functions : Functi
           (quantifiers.all_true (first + length box.ins) (length box.outs) u (pre ++ found.0) z v (long found.0 found.1) ez inner_size).0 (sym (shifted (outs_quantified first box u) found.0) ∙ found.2),
         )
 
-  -- the bits of the next boxes, behind those of one more
+  -- the bits of the next boxes, after those of one more
   next_point : (u : Truth) (pre ins outs v : List Bool) → truth_at u ((pre ++ ins) ++ (outs ++ v)) ≡ truth_at u ((pre ++ (ins ++ outs)) ++ v)
   next_point u pre ins outs v = ap (truth_at u) (sym (append_assoc (pre ++ ins) outs v) ∙ ap (λ (w : List Bool). w ++ v) (append_assoc pre ins outs))
 
@@ -121,8 +121,8 @@ module _ (quantifiers : QuantifierLaws) (tables : TableLaws) (functions : Functi
       (subst (Wins (Suit spec imp) rest) (sym (bits_push done box pre ins reply.0 e against.1 reply.1)) reply.2)
 
   -- at any point, the last function says whether choices suit
-  pub lost_says : (p : List Bool) → length p ≡ n → truth_at (lost spec imp) p ≡ true → NoChoicesSuit spec imp
-  lost_says p e some choices = lost_game imp.boxes [] refl [] p refl e some choices
+  pub lost_reports : (p : List Bool) → length p ≡ n → truth_at (lost spec imp) p ≡ true → NoChoicesSuit spec imp
+  lost_reports p e some choices = lost_game imp.boxes [] refl [] p refl e some choices
 
-  pub won_says : (p : List Bool) → length p ≡ n → truth_at (lost spec imp) p ≡ false → SomeChoicesSuit spec imp
-  won_says p e none = won imp.boxes [] refl [] p refl e none
+  pub won_reports : (p : List Bool) → length p ≡ n → truth_at (lost spec imp) p ≡ false → SomeChoicesSuit spec imp
+  won_reports p e none = won imp.boxes [] refl [] p refl e none

@@ -29,8 +29,8 @@ pub rows_more : ((bits : List Bool) → bits_of (length bits) (number_of bits) �
 rows_more spelled n t old new row first inputs outputs so_far long number here others ins width below =
     elim (cases_lt (number_of ins) row) [
       | inl before ↦ subst₂ (λ m outs. IsLeastRow n t m ins outs) (sym outputs) (sym (others (number_of ins) before)) (so_far ins (width ∙ inputs) before)
-      | inr behind ↦
-          let e : number_of ins ≡ row = omega (arith, below, behind) in
+      | inr after ↦
+          let e : number_of ins ≡ row = omega (arith, below, after) in
           let same : ins ≡ first = sym (spelled ins) ∙ (ap (λ k. bits_of k (number_of ins)) (width ∙ sym long) ∙ (ap (bits_of (length first)) (e ∙ sym number) ∙ spelled first)) in
           subst₂ (λ (is : List Bool) k. IsLeastRow n t new.outputs is (row_of new k)) (sym same) (sym e) here
     ]

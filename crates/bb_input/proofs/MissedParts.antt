@@ -10,7 +10,7 @@ use Rattle.bb_net.specs.Values.{bit_of}
 use Rattle.bb_uniq.specs.declared.store.Ref.{Ref}
 use Rattle.bb_uniq.specs.Inside.Nodes.{NodeStore}
 use Rattle.bb_sym.specs.Laws.{FunctionLaws, MakingLaws}
-use Rattle.bb_sym.specs.Inside.Made.{AreRefs, StandForAll, StandsFor, HaveCells, ref_at}
+use Rattle.bb_sym.specs.Inside.Made.{AreRefs, RepresentAll, Represents, HaveCells, ref_at}
 use Rattle.bb_sym.specs.Plain.{Function, cell_bit, table}
 use Rattle.bb_input.specs.InputFunctions.{pins_and_inputs, boxes_first, given_ins, in_places}
 use Rattle.bb_input.specs.Inside.Order.{in_variables}
@@ -22,7 +22,7 @@ places_within [] n there = λ k d l. absurd (omega (arith, l))
 places_within (box ∷ boxes) n there = All-append (λ place. place < n) box.ins (in_places boxes) (there 0) (places_within boxes n (λ b. there (suc b)))
 
 module _ (functions : FunctionLaws) (making : MakingLaws) (s : NodeStore) (p : NetPair) (pair : IsPair p) (v : pins_and_inputs p.imp ≡ s.vars) (vars of_spec of_imp : List Ref) (count : length vars ≡ s.vars)
-    (stand : StandForAll s (variable s.vars) vars) (have : HaveCells s (boxes_first p.imp) p.spec p.imp of_spec of_imp) where
+    (occur : RepresentAll s (variable s.vars) vars) (have : HaveCells s (boxes_first p.imp) p.spec p.imp of_spec of_imp) where
   abbrev pub bits : ℕ → Function
   bits q = λ w. bit_of (given_ins p.imp w) q
 
@@ -44,20 +44,20 @@ module _ (functions : FunctionLaws) (making : MakingLaws) (s : NodeStore) (p : N
       ∙ functions.same s.vars (λ w. bit_of w at) (bits q) (λ w e. sym (ap (λ (k : List Bool). bit_of k q) (ins_read p.imp.boxes 0 w (omega (arith, e, v))) ∙ get_or-map (bit_of w) (in_variables 0 p.imp.boxes) q 0 false l))
 
   module _ (fs gs : List Ref) (given : fs ≡ map (ref_at vars) (in_variables 0 p.imp.boxes)) (there : gs ≡ map (ref_at of_imp) (in_places p.imp.boxes)) where
-    pub given_stand : StandForAll s (λ q. table s.vars (bits q)) fs
-    given_stand = λ q l.
+    pub given_occur : RepresentAll s (λ q. table s.vars (bits q)) fs
+    given_occur = λ q l.
         let here : q < length (in_variables 0 p.imp.boxes) = omega (arith, l, ap length given, length-map (in_variables 0 p.imp.boxes) (ref_at vars)) in
-        let h = making.picked_stand s (variable s.vars) vars (in_variables 0 p.imp.boxes) stand variables_there q (omega (arith, here, length-map (in_variables 0 p.imp.boxes) (ref_at vars))) in
-        subst₂ (λ (t : Truth) (refs : List Ref). StandsFor s t (ref_at refs q)) (variable_is q here) (sym given) h
+        let h = making.picked_occur s (variable s.vars) vars (in_variables 0 p.imp.boxes) occur variables_there q (omega (arith, here, length-map (in_variables 0 p.imp.boxes) (ref_at vars))) in
+        subst₂ (λ (t : Truth) (refs : List Ref). Represents s t (ref_at refs q)) (variable_is q here) (sym given) h
 
-    pub there_stand : StandForAll s (λ q. table s.vars (cells q)) gs
-    there_stand = subst (StandForAll s (λ q. table s.vars (cells q))) (sym there) (making.picked_stand s (λ place. table s.vars (cell_bit (boxes_first p.imp) p.imp place)) of_imp (in_places p.imp.boxes) have.imp_cells places_there)
+    pub there_occur : RepresentAll s (λ q. table s.vars (cells q)) gs
+    there_occur = subst (RepresentAll s (λ q. table s.vars (cells q))) (sym there) (making.picked_occur s (λ place. table s.vars (cell_bit (boxes_first p.imp) p.imp place)) of_imp (in_places p.imp.boxes) have.imp_cells places_there)
 
     pub given_refs : AreRefs s fs
-    given_refs = λ q l. (given_stand q l).ref
+    given_refs = λ q l. (given_occur q l).ref
 
     pub there_refs : AreRefs s gs
-    there_refs = λ q l. (there_stand q l).ref
+    there_refs = λ q l. (there_occur q l).ref
 
     pub pin_count_is : length fs ≡ length (in_places p.imp.boxes)
     pin_count_is = ap length given ∙ (length-map (in_variables 0 p.imp.boxes) (ref_at vars) ∙ variables_count p.imp.boxes 0)

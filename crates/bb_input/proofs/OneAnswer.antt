@@ -5,7 +5,7 @@ use Rattle.std.proofs.lemmas.List.FromFn.{fill_by_all, length-map-range_with_len
 use Rattle.bb_bits.specs.Numbers.{number_of, bits_of}
 use Rattle.bb_bits.specs.Laws.RowLaws.{RowsFixTable}
 use Rattle.bb_bits.specs.Tables.{TableBits, row_of, rows_of}
-use Rattle.bb_net.specs.Conditions.{NoChoicesSuit, NoTablesAgree}
+use Rattle.bb_net.specs.Conditions.{NoChoicesSuit, NoTablesMakeEquivalent}
 use Rattle.bb_net.specs.Netlists.{Netlist, IsNetlist, box_at}
 use Rattle.bb_net.specs.Values.{FitBoxes, table_at}
 use Rattle.bb_input.specs.declared.InputAnswer.{InputAnswer}
@@ -65,7 +65,7 @@ module _ (once : (bits : List Bool) → bits_of (length bits) (number_of bits) �
     same_tables (t ∷ []) (u ∷ x ∷ us) one a c = let f = c.completion.fit.count in absurd (omega (arith, f, one))
 
     -- answers
-    module _ (kept : IsNetlist imp) (excludes : NoChoicesSuit spec imp → NoTablesAgree spec imp) where
+    module _ (kept : IsNetlist imp) (excludes : NoChoicesSuit spec imp → NoTablesMakeEquivalent spec imp) where
       no_tables : NoChoicesSuit spec imp → (ts : List TableBits) → AreLeastTables spec imp ts → ⊥
       no_tables none ts a = excludes none ts a.completion.fit a.completion.agree
 

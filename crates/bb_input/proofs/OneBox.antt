@@ -8,13 +8,13 @@ use Rattle.bb_bits.specs.Numbers.{number_of}
 use Rattle.bb_bits.specs.Tables.{TableBits, HasAllBits, row_of, table_bit}
 use Rattle.bb_bits.specs.Truth.{Truth, truth_at}
 use Rattle.bb_bits.specs.Laws.TruthLaws.{QuantifierLaws}
-use Rattle.bb_net.specs.Agreement.{AllRight, TablesAgree}
+use Rattle.bb_net.specs.Equivalence.{AllRight, TablesMakeEquivalent}
 use Rattle.bb_net.specs.Conditions.{all_outs, all_ins, Suit, Wins, SomeChoicesSuit}
 use Rattle.bb_net.specs.Netlists.{Netlist, Pins, IsNetlist, box_at}
 use Rattle.bb_net.specs.Pairs.{pin_count}
 use Rattle.bb_net.specs.Values.{bit_of, flat, flat_with, free_bit, tabled_bit, table_at, output_pins, FitBoxes, ValueGoesByBoxes}
 use Rattle.bb_quant.specs.Inside.LeastPoints.{BeginsAs}
-use Rattle.bb_sym.specs.Inside.Made.{StandsFor, ref_at}
+use Rattle.bb_sym.specs.Inside.Made.{Represents, ref_at}
 use Rattle.bb_sym.specs.Laws.{FunctionLaws, PointLaws}
 use Rattle.bb_uniq.specs.declared.store.Ref.{Ref}
 use Rattle.bb_input.specs.Inside.Answers.{AreLeastOutputs, AreLeastTables}
@@ -45,14 +45,14 @@ module _ (quantifiers : QuantifierLaws) (functions : FunctionLaws) (points : Poi
   chosen_is : (ins outs : List Bool) → length ins ≡ k → length outs ≡ m → pin_bits imp.boxes (ins ++ outs) ≡ record { ins = ins; outs = outs } ∷ []
   chosen_is ins outs f g = ap (λ (boxes : List Pins). pin_bits boxes (ins ++ outs)) one ∙ bits_push [] box [] ins outs refl f g
 
-  front : (ins outs : List Bool) → length ins ≡ k → length outs ≡ m → length (ins ++ outs) ≡ pin_count imp.boxes
-  front ins outs f g = omega (arith, length-append ins outs, f, g, pins_are)
+  prefix : (ins outs : List Bool) → length ins ≡ k → length outs ≡ m → length (ins ++ outs) ≡ pin_count imp.boxes
+  prefix ins outs f g = omega (arith, length-append ins outs, f, g, pins_are)
 
   suit_of_zero : (ins outs w : List Bool) → length ins ≡ k → length outs ≡ m → length w ≡ imp.inputs → truth_at t ((ins ++ outs) ++ w) ≡ false → Suit spec imp (record { ins = ins; outs = outs } ∷ [])
-  suit_of_zero ins outs w f g l none = subst (Suit spec imp) (chosen_is ins outs f g) (suits_of_false quantifiers functions spec imp (ins ++ outs) w (front ins outs f g) l none)
+  suit_of_zero ins outs w f g l none = subst (Suit spec imp) (chosen_is ins outs f g) (suits_of_false quantifiers functions spec imp (ins ++ outs) w (prefix ins outs f g) l none)
 
   zero_of_suit : (ins outs w : List Bool) → length ins ≡ k → length outs ≡ m → length w ≡ imp.inputs → Suit spec imp (record { ins = ins; outs = outs } ∷ []) → truth_at t ((ins ++ outs) ++ w) ≡ false
-  zero_of_suit ins outs w f g l suit = false_of_suits quantifiers functions spec imp (ins ++ outs) w (front ins outs f g) l (subst (Suit spec imp) (sym (chosen_is ins outs f g)) suit)
+  zero_of_suit ins outs w f g l suit = false_of_suits quantifiers functions spec imp (ins ++ outs) w (prefix ins outs f g) l (subst (Suit spec imp) (sym (chosen_is ins outs f g)) suit)
 
   answer : SomeChoicesSuit spec imp → (ins : List Bool) → length ins ≡ k → (outs : List Bool) × (length outs ≡ m) × Suit spec imp (record { ins = ins; outs = outs } ∷ [])
   answer choices = subst (λ (boxes : List Pins). Wins (Suit spec imp) boxes []) one choices
@@ -65,7 +65,7 @@ module _ (quantifiers : QuantifierLaws) (functions : FunctionLaws) (points : Poi
       let lw : length w ≡ imp.inputs = length-replicate imp.inputs false in
       let q = (ins ++ found.0) ++ w in (
         q,
-        omega (arith, length-append (ins ++ found.0) w, front ins found.0 f found.1, lw, v),
+        omega (arith, length-append (ins ++ found.0) w, prefix ins found.0 f found.1, lw, v),
         take-append-le k (ins ++ found.0) w (omega (arith, length-append ins found.0, f)) ∙ (ap (λ j. take j (ins ++ found.0)) (sym f) ∙ take-append_seam ins found.0),
         zero_of_suit ins found.0 w f found.1 lw found.2,
       )
@@ -92,7 +92,7 @@ module _ (quantifiers : QuantifierLaws) (functions : FunctionLaws) (points : Poi
             let same : take k q ≡ ins =
             take-append-le k (ins ++ others) z (omega (arith, length-append ins others, f)) ∙ (ap (λ j. take j (ins ++ others)) (sym f) ∙ take-append_seam ins others) in
             let there : BeginsAs (length ins) p q = (
-              omega (arith, length-append (ins ++ others) z, front ins others f g, lz, row.whole, v),
+              omega (arith, length-append (ins ++ others) z, prefix ins others f g, lz, row.whole, v),
               ap (λ j. take j q) f ∙ (same ∙ sym row.begins),
             ) in
             let le = row.least.least q there (zero_of_suit ins others z f g lz suit) in
@@ -138,7 +138,7 @@ module _ (quantifiers : QuantifierLaws) (functions : FunctionLaws) (points : Poi
       whole = at_zero (λ b. HasAllBits (table_at (table ∷ []) b)) whole;
     }
 
-    agrees : TablesAgree spec imp (table ∷ [])
+    agrees : TablesMakeEquivalent spec imp (table ∷ [])
     agrees x vector =
         let bits = flat_with imp x (table ∷ []) in
         let ins = map (bit_of bits) box.ins in
@@ -221,8 +221,8 @@ module _ (quantifiers : QuantifierLaws) (functions : FunctionLaws) (points : Poi
       ]
 
 -- with one box the function of its stage is the one from which the quantification starts
-pub only_stage : (spec imp : Netlist) (made : Prefix) → IsPrefix spec imp made → (box : Pins) → imp.boxes ≡ box ∷ [] → (r : Ref) → r ≡ get_or made.stages.items 0 r → StandsFor made.diagrams.store (refuted spec imp) r
+pub only_stage : (spec imp : Netlist) (made : Prefix) → IsPrefix spec imp made → (box : Pins) → imp.boxes ≡ box ∷ [] → (r : Ref) → r ≡ get_or made.stages.items 0 r → Represents made.diagrams.store (refuted spec imp) r
 only_stage spec imp made is box one r at =
     let there : 0 < length imp.boxes = omega (arith, ap length one) in
     let here : ref_at made.stages.items 0 ≡ r = sym (at ∙ get_or_default made.stages.items 0 r (record { 0 = 0 }) (omega (arith, there, is.count))) in
-    subst₂ (StandsFor made.diagrams.store) (ap (λ (boxes : List Pins). boxes_quantified (pin_count (take 1 boxes)) (drop 1 boxes) (refuted spec imp)) one) here (is.stages 0 there)
+    subst₂ (Represents made.diagrams.store) (ap (λ (boxes : List Pins). boxes_quantified (pin_count (take 1 boxes)) (drop 1 boxes) (refuted spec imp)) one) here (is.stages 0 there)

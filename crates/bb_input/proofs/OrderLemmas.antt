@@ -1,8 +1,8 @@
--- one more box behind the first ones
+-- one more box after the first ones
 use Rattle.std.proofs.Common.{◌≡◌, ◌<◌, ◌≤◌, ℕ, zero, suc, ◌+◌, List, [], ◌∷◌, ◌++◌, length, take, sym, ap, ◌∙◌, arith, append_assoc, append-nil}
 use Rattle.std.specs.List.{range_with_len}
 use Rattle.std.proofs.lemmas.List.Sums.{sum_by-cons}
-use Rattle.bb_lists.proofs.Orders.{plus_one}
+use Rattle.bb_lemmas.proofs.Orders.{plus_one}
 use Rattle.bb_net.specs.Netlists.{Pins, box_at}
 use Rattle.bb_net.specs.Pairs.{pin_count}
 use Rattle.bb_input.specs.InputFunctions.{in_places}

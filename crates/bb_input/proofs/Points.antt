@@ -12,24 +12,24 @@ use Rattle.bb_input.specs.InputFunctions.{pin_bits, in_places}
 use Rattle.bb_input.proofs.OrderLemmas.{pins_of}
 
 -- what follows the pins does not matter
-pub bits_front : (boxes : List Pins) (pre x : List Bool) → pin_count boxes ≤ length pre → pin_bits boxes (pre ++ x) ≡ pin_bits boxes pre
-bits_front [] pre x l = refl
-bits_front (box ∷ boxes) pre x l =
+pub bits_prefix : (boxes : List Pins) (pre x : List Bool) → pin_count boxes ≤ length pre → pin_bits boxes (pre ++ x) ≡ pin_bits boxes pre
+bits_prefix [] pre x l = refl
+bits_prefix (box ∷ boxes) pre x l =
     let k = length box.ins in
     let m = length box.outs in
     let sums = sum_by-cons pins_of box boxes in
     let ins = take-append-le k pre x (omega (arith, l, sums)) in
     let outs = ap (take m) (drop-append-le k pre x (omega (arith, l, sums))) ∙ take-append-le m (drop k pre) x (omega (arith, l, sums, length-drop k pre)) in
     ap₂ (λ (c : PinBits) (cs : List PinBits). c ∷ cs) (ap₂ (λ v w. record { ins = v; outs = w }) ins outs)
-    (ap (pin_bits boxes) (drop-append-le (k + m) pre x (omega (arith, l, sums))) ∙ bits_front boxes (drop (k + m) pre) x (omega (arith, l, sums, length-drop (k + m) pre)))
+    (ap (pin_bits boxes) (drop-append-le (k + m) pre x (omega (arith, l, sums))) ∙ bits_prefix boxes (drop (k + m) pre) x (omega (arith, l, sums, length-drop (k + m) pre)))
 
 -- the bits of one more box
 pub bits_push : (done : List Pins) (box : Pins) (pre ins outs : List Bool) → length pre ≡ pin_count done → length ins ≡ length box.ins → length outs ≡ length box.outs →
     pin_bits (done ++ box ∷ []) (pre ++ (ins ++ outs)) ≡ pin_bits done pre ++ record { ins = ins; outs = outs } ∷ []
 bits_push [] box [] ins outs e f g =
-    let front : take (length box.ins) (ins ++ outs) ≡ ins = ap (λ k. take k (ins ++ outs)) (sym f) ∙ take-append_seam ins outs in
-    let behind : drop (length box.ins) (ins ++ outs) ≡ outs = ap (λ k. drop k (ins ++ outs)) (sym f) ∙ drop-append_seam ins outs in
-    ap₂ (λ v w. record { ins = v; outs = w } ∷ []) front (ap (take (length box.outs)) behind ∙ take_all (length box.outs) outs (omega (arith, g)))
+    let prefix : take (length box.ins) (ins ++ outs) ≡ ins = ap (λ k. take k (ins ++ outs)) (sym f) ∙ take-append_seam ins outs in
+    let after : drop (length box.ins) (ins ++ outs) ≡ outs = ap (λ k. drop k (ins ++ outs)) (sym f) ∙ drop-append_seam ins outs in
+    ap₂ (λ v w. record { ins = v; outs = w } ∷ []) prefix (ap (take (length box.outs)) after ∙ take_all (length box.outs) outs (omega (arith, g)))
 bits_push [] box (b ∷ pre) ins outs e f g = absurd (omega (arith, e))
 bits_push (first ∷ done) box pre ins outs e f g =
     let k = length first.ins in

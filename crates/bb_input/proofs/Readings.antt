@@ -100,9 +100,9 @@ variables_within (box ∷ boxes) first n fit j d l =
           let e = get_or_append_left own rest d j (omega (arith, here, long)) in
           let f = get_or-range_with_len first k j d here in
           omega (arith, e, f, here, fit, sums)
-      | inr behind ↦
-          let e = get_or-append_right own rest k j d long behind in
-          let f = variables_within boxes (first + pins_of box) n (omega (arith, fit, sums)) (j - k) d (omega (arith, l, behind, long, length-append own rest)) in
+      | inr after ↦
+          let e = get_or-append_right own rest k j d long after in
+          let f = variables_within boxes (first + pins_of box) n (omega (arith, fit, sums)) (j - k) d (omega (arith, l, after, long, length-append own rest)) in
           omega (arith, e, f)
     ]
 

@@ -9,9 +9,9 @@ use Rattle.bb_bits.specs.Numbers.{number_of, bits_of}
 use Rattle.bb_bits.specs.Laws.RowLaws.{RowsHaveTable, RowsAreChosen}
 use Rattle.bb_bits.specs.Tables.{TableBits, row_of}
 use Rattle.bb_bits.specs.Laws.TruthLaws.{QuantifierLaws}
-use Rattle.bb_lists.proofs.Chosen.{choose}
-use Rattle.bb_lists.proofs.LeastBits.{Below, least_or_none}
-use Rattle.bb_lists.proofs.Vectors.{vec_of}
+use Rattle.bb_lemmas.proofs.Chosen.{choose}
+use Rattle.bb_lemmas.proofs.LeastBits.{Below, least_or_none}
+use Rattle.bb_lemmas.proofs.Vectors.{vec_of}
 use Rattle.bb_net.specs.Completions.{table_bits}
 use Rattle.bb_net.specs.Conditions.{PinBits, Suit, Wins, SomeChoicesSuit, NoChoicesSuit}
 use Rattle.bb_net.specs.Netlists.{Netlist, Pins, IsNetlist}

@@ -9,7 +9,7 @@ use Rattle.bb_input.specs.InputFunctions.{pins_and_inputs, boxes_first, input_fu
 use Rattle.bb_input.specs.Inside.Prefixes.{cell_functions}
 use Rattle.bb_sym.specs.Plain.{tables}
 
--- the inputs stand behind the pins of all boxes
+-- the inputs follow the pins of all boxes
 inputs_read : (imp : Netlist) → ReadsInputs (pins_and_inputs imp) (pin_count imp.boxes) imp.inputs (boxes_first imp)
 inputs_read imp = record {
   within = omega arith;

@@ -6,7 +6,7 @@ use Rattle.std.proofs.Math.Seq.{drop-append_seam}
 use Rattle.bb_bits.specs.Bits.{xor}
 use Rattle.bb_bits.specs.Truth.{IsTruthTable, truth_at}
 use Rattle.bb_bits.specs.Laws.TruthLaws.{QuantifierLaws}
-use Rattle.bb_net.specs.Agreement.{AllRight, out_bit, wanted_bit}
+use Rattle.bb_net.specs.Equivalence.{AllRight, out_bit, wanted_bit}
 use Rattle.bb_net.specs.Conditions.{PinBits, all_outs, all_ins, Suit}
 use Rattle.bb_net.specs.Netlists.{Netlist}
 use Rattle.bb_net.specs.Pairs.{pin_count}
@@ -14,7 +14,7 @@ use Rattle.bb_net.specs.Values.{bit_of, flat}
 use Rattle.bb_sym.specs.Laws.{FunctionLaws}
 use Rattle.bb_sym.specs.Plain.{table, one_of}
 use Rattle.bb_input.specs.InputFunctions.{pins_and_inputs, pin_bits, given_ins, in_places, is_missed, is_wrong_output, has_wrong, refutes, refuted}
-use Rattle.bb_input.proofs.Points.{bits_front, ins_joined, ins_split, ins_count}
+use Rattle.bb_input.proofs.Points.{bits_prefix, ins_joined, ins_split, ins_count}
 
 xor_same : (a b : Bool) → xor a b ≡ false → a ≡ b
 xor_same true true e = refl
@@ -50,7 +50,7 @@ module _ (functions : FunctionLaws) (spec imp : Netlist) (pre x : List Bool) (e 
   inputs_is = ap (λ k. drop k p) (sym e) ∙ drop-append_seam pre x
 
   pins_is : pin_bits imp.boxes p ≡ pin_bits imp.boxes pre
-  pins_is = bits_front imp.boxes pre x (omega (arith, e))
+  pins_is = bits_prefix imp.boxes pre x (omega (arith, e))
 
   value_is : flat imp (drop (pin_count imp.boxes) p) (all_outs (pin_bits imp.boxes p)) ≡ bits
   value_is = ap₂ (λ (v : List Bool) (cs : List PinBits). flat imp v (all_outs cs)) inputs_is pins_is

@@ -1,6 +1,7 @@
--- The Boolean functions that the check by choices makes, as truth tables; it holds exactly their beads (Knuth, The Art of Computer
--- Programming, volume 4A, 7.1.4). The variables are the pins of the boxes, box after box, each box's input pins and then its output
--- pins, and behind them the inputs. Each variable is one of the functions. Of what a report says they count for `nodes` alone.
+-- The Boolean functions that the check by choices makes, as truth tables; it holds exactly their beads (Knuth, The Art
+-- of Computer Programming, volume 4A, 7.1.4). The variables are the pins of the boxes, box after box, each box's input
+-- pins and then its output pins, and after them the inputs. Each variable is one of the functions. In a report they
+-- matter for `nodes` only.
 use Rattle.std.specs.Prelude.{ℕ, ◌+◌, Bool, not, ◌&&◌, ◌||◌, List, [], ◌∷◌, ◌++◌, length, map, take, drop, slice_index}
 use Rattle.std.specs.List.{flat_map, range_with_len}
 use Rattle.bb_bits.specs.Truth.{Truth, quantified_block}
@@ -63,7 +64,8 @@ refutes spec imp = λ p. has_wrong spec imp p && leads imp p
 abbrev pub refuted : Netlist → Netlist → Truth
 refuted spec imp = quantified_block ◌||◌ (pin_count imp.boxes) imp.inputs (table (pins_and_inputs imp) (refutes spec imp))
 
--- a table with the output pins of a box quantified by "for all" and then its input pins by "exists", the first variable given
+-- a table with the output pins of a box quantified by "for all" and then its input pins by "exists", the first variable
+-- given
 abbrev pub outs_quantified : ℕ → Pins → Truth → Truth
 outs_quantified first box t = quantified_block ◌&&◌ (first + length box.ins) (length box.outs) t
 
@@ -90,7 +92,7 @@ boxes_functions first (box ∷ boxes) t =
 abbrev pub lost : Netlist → Netlist → Truth
 lost spec imp = boxes_quantified 0 imp.boxes (refuted spec imp)
 
--- 1 where no choices suit for the boxes behind box b, the pins up to its own having the bits of the point
+-- 1 where no choices suit for the boxes after box b, the pins up to its own having the bits of the point
 abbrev pub stage : Netlist → Netlist → ℕ → Truth
 stage spec imp b = boxes_quantified (pin_count (take (b + 1) imp.boxes)) (drop (b + 1) imp.boxes) (refuted spec imp)
 

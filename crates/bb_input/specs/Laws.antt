@@ -24,12 +24,12 @@ OneAnswer = (spec imp : Netlist) → IsNetlist imp → (a b : InputAnswer) → I
 abbrev pub AnswersExist : Type 0
 AnswersExist = (spec imp : Netlist) → IsNetlist imp → (a : InputAnswer) × IsAnswer spec imp a
 
--- the function of a stage is 0 at a point exactly where the boxes behind can be filled, with the bits that the point gives to the pins of
--- those before
+-- the function of a stage is 0 at a point exactly where the boxes after it can be filled, with the bits that the point
+-- gives to the pins of those before
 abbrev pub StagesSay : Type 0
 StagesSay = (spec imp : Netlist) (b : ℕ) → b < length imp.boxes → (p : List Bool) → length p ≡ pins_and_inputs imp
     → (truth_at (stage spec imp b) p ≡ false) ↔ Wins (Suit spec imp) (drop (b + 1) imp.boxes) (pin_bits (take (b + 1) imp.boxes) p)
 
 -- and the last one where all can be
-abbrev pub LastSays : Type 0
-LastSays = (spec imp : Netlist) (p : List Bool) → length p ≡ pins_and_inputs imp → (truth_at (lost spec imp) p ≡ false) ↔ SomeChoicesSuit spec imp
+abbrev pub LastReports : Type 0
+LastReports = (spec imp : Netlist) (p : List Bool) → length p ≡ pins_and_inputs imp → (truth_at (lost spec imp) p ≡ false) ↔ SomeChoicesSuit spec imp

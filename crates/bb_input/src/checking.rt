@@ -1,4 +1,6 @@
-//! Choices for the inputs of the boxes, one box after another, and the table of one box.
+//! The verdict from the quantified diagrams. With at most one box the table is read from the last diagram before that
+//! box was quantified; `bb_nest` does the same for several nested boxes, and by a law both answer alike where there is
+//! one box.
 
 ghost use Rattle.std.specs.Prelude.{◌≡◌, ◌≤◌, false, replicate, IfOk, OnOk, IsErrOf};
 ghost use Rattle.bb_bits.specs.Truth.{IsBeadOfAny};
@@ -17,8 +19,8 @@ use bb_net::{Pair, value_goes_by_boxes};
 use bb_sym::{RungFault, laws};
 use std::alloc::Global;
 
-/// Whether boxes can be filled so that what they give depends on their inputs alone and every output is right: one box after
-/// another, for each list of bits at its input pins one at its output pins. With one box they are its table, which is told.
+/// Can boxes be filled, one after another, each by its own input pins and those of earlier boxes? With one box the
+/// answer has its table.
 ///
 /// # Errors
 ///
@@ -34,12 +36,12 @@ pub fn input(alloc: Global, pair: &Pair, nodes: u32, cache: u32) -> Result<Input
     let made = make_prefix(alloc, pair, nodes, cache)?;
     let vars = count_pins(pair.imp().boxes()) + pair.imp().inputs();
     let mut point = vec![in alloc; false; vars as usize]?;
-    let answer = told(alloc, pair, &made, &mut point)?;
+    let answer = reported(alloc, pair, &made, &mut point)?;
     Ok(answer)
 }
 
-/// What the diagrams say. The bits of `point` are all 0.
-fn told(
+/// `point` has zeros only.
+fn reported(
     alloc: Global,
     pair: &Pair,
     made: &Prefix,
@@ -66,7 +68,7 @@ fn told(
     Ok(InputAnswer::Repair(tables))
 }
 
-/// The tables of the boxes, of which there is at most one.
+/// Without a box the empty list is the answer: the outputs are right as they are.
 fn least_tables(
     alloc: Global,
     pair: &Pair,

@@ -1,11 +1,13 @@
-//! The boxes quantified, from the last to the first: for all bits at the output pins, for some bits at the input pins.
+//! The quantifiers of the check: input pins for all, output pins for some, from the last box to the first, so that the
+//! choice for a box may depend on everything before it. The functions are 1 where no choices suit, so the quantifiers
+//! are the opposite ones.
 
 ghost use Rattle.std.specs.Prelude.{◌≡◌, ◌+◌, ◌-◌, ◌<◌, ◌≤◌, ℕ, length, take, drop, IfOk, OnOk, IsErrOf, slice_index_or};
 ghost use Rattle.bb_net.specs.Netlists.{box_at};
 ghost use Rattle.bb_net.specs.Pairs.{pin_count};
 ghost use Rattle.bb_uniq.specs.Inside.Nodes.{IsRef};
 ghost use Rattle.bb_uniq.specs.Inside.Meaning.{truth_of};
-ghost use Rattle.bb_sym.specs.Inside.Made.{Makes, AreTooMany, StandsFor, ref_at};
+ghost use Rattle.bb_sym.specs.Inside.Made.{Makes, AreTooMany, Represents, ref_at};
 ghost use Rattle.bb_input.specs.Inside.Order.{AreStarts};
 ghost use Rattle.bb_input.specs.Inside.Prefixes.{boxes_after};
 ghost use Rattle.bb_input.specs.InputFunctions.{box_quantified, boxes_quantified, box_functions, boxes_functions};
@@ -16,8 +18,8 @@ use bb_sym::plain::quantify_block;
 use bb_sym::{RungFault, laws};
 use std::alloc::Global;
 
-/// The boxes quantified, the last one first. Each has its output pins from its entry of `starts` on, and its input pins before.
-/// What a box was quantified in is noted at its entry of `stages`.
+/// `stages[b]` is the function before box `b` is quantified: from it the rows of that box are read. Output pins of box
+/// `b` begin at `starts[b]`, and its input pins are right before them.
 pub(crate) fn quantify_boxes(
     alloc: Global,
     d: &mut Diagrams,
@@ -34,8 +36,8 @@ pub(crate) fn quantify_boxes(
     requires stages { length stages.old ≡ length boxes.now }
     ensures count { length stages.new ≡ length boxes.now }
     ensures stages { OnOk result ((b : ℕ) → b < length boxes.now
-        → StandsFor d.new.store (boxes_after (b + 1) boxes.now (truth_of d.old.store f.0)) (ref_at stages.new b)) }
-    ensures result { IfOk result (StandsFor d.new.store (boxes_quantified 0 boxes.now (truth_of d.old.store f.0))) }
+        → Represents d.new.store (boxes_after (b + 1) boxes.now (truth_of d.old.store f.0)) (ref_at stages.new b)) }
+    ensures result { IfOk result (Represents d.new.store (boxes_quantified 0 boxes.now (truth_of d.old.store f.0))) }
     ensures makes { OnOk result (Makes d.old.store d.new.store (boxes_functions 0 boxes.now (truth_of d.old.store f.0))) }
     ensures nodes { IsErrOf result RungFault.Nodes → AreTooMany d.old.store (boxes_functions 0 boxes.now (truth_of d.old.store f.0)) }
 {
@@ -50,7 +52,7 @@ pub(crate) fn quantify_boxes(
     Ok(r)
 }
 
-/// A box quantified: its output pins from `start` on, and then its input pins before them.
+/// "For all outputs", then "for some inputs": the result is 1 where some row has no outputs that suit.
 fn quantify_box(
     alloc: Global,
     d: &mut Diagrams,
@@ -62,7 +64,7 @@ fn quantify_box(
     requires before { length pins.now.ins ≤ start }
     requires vars { start + length pins.now.outs ≤ d.old.store.vars }
     requires few { d.old.store.vars ≤ 2048 }
-    ensures result { IfOk result (StandsFor d.new.store (box_quantified (start - length pins.now.ins) pins.now (truth_of d.old.store f.0))) }
+    ensures result { IfOk result (Represents d.new.store (box_quantified (start - length pins.now.ins) pins.now (truth_of d.old.store f.0))) }
     ensures makes { OnOk result (Makes d.old.store d.new.store (box_functions (start - length pins.now.ins) pins.now (truth_of d.old.store f.0))) }
     ensures nodes { IsErrOf result RungFault.Nodes → AreTooMany d.old.store (box_functions (start - length pins.now.ins) pins.now (truth_of d.old.store f.0)) }
 {

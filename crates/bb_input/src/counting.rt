@@ -1,9 +1,9 @@
-//! Bits that count, in place.
+//! Rows in counting order, in place, so that no row is spelled anew.
 
 ghost use Rattle.std.specs.Prelude.{◌≡◌, ◌+◌, ◌<◌, ◌^◌, length};
 ghost use Rattle.bb_bits.specs.Numbers.{number_of};
 
-/// The bits of the next number, the first one most significant. Behind the last number comes 0.
+/// Adds 1, the first bit most significant; wraps to 0 after the last number.
 pub(crate) fn count_up(bits: &mut [bool])
     ensures len { length bits.new ≡ length bits.old }
     ensures next { number_of bits.old + 1 < 2 ^ length bits.old → number_of bits.new ≡ number_of bits.old + 1 }

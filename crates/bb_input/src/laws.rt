@@ -1,9 +1,9 @@
-//! Laws of the answers and of the functions on the way. The definitions are in the specifications; each function here has a law as
-//! its contract and does nothing.
+//! Laws of the answers and of the stages, as contracts of empty functions: crates above call a function and cite no
+//! proof of this one.
 
 ghost use Rattle.bb_sym.specs.Laws.{HoldsSpecification};
 ghost use Rattle.bb_input.specs.InputFunctions.{input_functions};
-ghost use Rattle.bb_input.specs.Laws.{OneAnswer, AnswersExist, StagesSay, LastSays};
+ghost use Rattle.bb_input.specs.Laws.{OneAnswer, AnswersExist, StagesSay, LastReports};
 
 use bb_bits::{
     number_is_below, number_spelled, number_spelled_once, rows_are_chosen, rows_are_tables, truth,
@@ -11,7 +11,7 @@ use bb_bits::{
 use bb_net::{conditions_hold_or_not, conditions_weaken, value_goes_by_boxes, vectors_hold_or_not};
 use bb_sym::laws;
 
-/// A pair has one answer: an error excludes tables, and each row of a table is the only least one.
+/// An error excludes tables, and each row is the only least one; so two calls on one pair agree.
 pub fn answers_are_one()
     ensures { OneAnswer }
 {
@@ -21,7 +21,7 @@ pub fn answers_are_one()
     conditions_weaken();
 }
 
-/// And each pair has an answer.
+/// Every pair has an answer, without a bound on nodes.
 pub fn answers_exist()
     ensures { AnswersExist }
 {
@@ -38,7 +38,8 @@ pub fn answers_exist()
     conditions_hold_or_not();
 }
 
-/// At each point the function of a stage says whether the boxes behind it can be filled.
+/// The stage of box `b` is 0 exactly where the boxes after `b` can be filled, the pins up to its own having the bits of
+/// the point.
 pub fn stages_say()
     ensures { StagesSay }
 {
@@ -47,16 +48,16 @@ pub fn stages_say()
     laws::functions();
 }
 
-/// And the last one whether all can.
-pub fn last_says()
-    ensures { LastSays }
+/// The last stage has no pins left: it is constant.
+pub fn last_reports()
+    ensures { LastReports }
 {
     truth::quantifiers();
     truth::tables();
     laws::functions();
 }
 
-/// The functions of the check have at least as many beads as the cells of the specification alone.
+/// So the shortcut of `bb_sym::specification_exceeds` is sound for this check too.
 pub fn specification_counts()
     ensures { HoldsSpecification input_functions }
 {

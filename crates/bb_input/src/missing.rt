@@ -1,9 +1,10 @@
-//! Where inputs do not lead to the bits that a point gives to the input pins of the boxes.
+//! The condition that the point's bits at the input pins are those that the inputs produce. Input pins are variables of
+//! their own here, so that a box can be quantified by its pins; this ties them to the cells.
 
 ghost use Rattle.std.specs.Prelude.{◌≡◌, length, IfOk, OnOk, IsErrOf};
 ghost use Rattle.bb_bits.specs.Truth.{variable};
 ghost use Rattle.bb_sym.specs.Plain.{table, one_of};
-ghost use Rattle.bb_sym.specs.Inside.Made.{Makes, AreTooMany, StandsFor, StandForAll, HaveCells};
+ghost use Rattle.bb_sym.specs.Inside.Made.{Makes, AreTooMany, Represents, RepresentAll, HaveCells};
 ghost use Rattle.bb_input.specs.InputFunctions.{pins_and_inputs, boxes_first, in_places, is_missed, missed_functions};
 
 use crate::order::{input_places, input_variables};
@@ -13,7 +14,7 @@ use bb_sym::plain::{PlainCells, picked, some_differ};
 use bb_sym::{RungFault, laws};
 use std::alloc::Global;
 
-/// Makes, input pin by input pin, where it has not the bit of its cell, and then the disjunction of these, which is given.
+/// Also makes the difference at each pin, in order; they count as beads.
 pub(crate) fn some_missed(
     alloc: Global,
     d: &mut Diagrams,
@@ -21,11 +22,11 @@ pub(crate) fn some_missed(
     made: &PlainCells,
 ) -> Result<Ref, RungFault>
     requires vars { pins_and_inputs pair.now.imp ≡ d.old.store.vars }
-    requires variables { StandForAll d.old.store (variable d.old.store.vars) made.now.variables.items }
+    requires variables { RepresentAll d.old.store (variable d.old.store.vars) made.now.variables.items }
     requires count { length made.now.variables.items ≡ d.old.store.vars }
     requires cells { HaveCells d.old.store (boxes_first pair.now.imp) pair.now.spec pair.now.imp made.now.spec.items made.now.imp.items }
     ensures result { IfOk result
-        (StandsFor d.new.store (table (pins_and_inputs pair.now.imp) (one_of (is_missed pair.now.imp) (length (in_places pair.now.imp.boxes))))) }
+        (Represents d.new.store (table (pins_and_inputs pair.now.imp) (one_of (is_missed pair.now.imp) (length (in_places pair.now.imp.boxes))))) }
     ensures makes { OnOk result (Makes d.old.store d.new.store (missed_functions pair.now.imp)) }
     ensures nodes { IsErrOf result RungFault.Nodes → AreTooMany d.old.store (missed_functions pair.now.imp) }
 {

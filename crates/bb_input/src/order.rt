@@ -1,4 +1,5 @@
-//! Where the variables of the pins stand: box after box, each box's input pins and then its output pins.
+//! The variable order of this check: box after box, input pins before output pins, then the inputs. Inputs are
+//! quantified first, so they are last. A box's pins are adjacent, so each box is two blocks.
 
 ghost use Rattle.std.specs.Prelude.{◌≡◌, ◌+◌, ◌++◌, ◌<◌, ◌≤◌, ℕ, length, take, IfOk, OnOk, slice_index_or};
 ghost use Rattle.std.specs.List.{range_with_len};
@@ -11,7 +12,6 @@ use bb_bits::NoMemory;
 use bb_net::BoxPins;
 use std::alloc::Global;
 
-/// How many pins boxes have.
 #[tactic(auto, using(crate::proofs::OrderLemmas::count_more, crate::proofs::OrderLemmas::fits_more))]
 pub(crate) fn count_pins(boxes: &[BoxPins]) -> u32
     requires { pin_count boxes.now ≤ 2048 }
@@ -24,7 +24,7 @@ pub(crate) fn count_pins(boxes: &[BoxPins]) -> u32
     count
 }
 
-/// The variable of the first output pin of each box.
+/// Entry `b` is for box `b`; its input pins are right before.
 #[tactic(auto, using(crate::proofs::OrderLemmas::count_more, crate::proofs::OrderLemmas::fits_more))]
 pub(crate) fn first_outputs(alloc: Global, boxes: &[BoxPins]) -> Result<Vec<u32>, NoMemory>
     requires { pin_count boxes.now ≤ 2048 }
@@ -41,7 +41,7 @@ pub(crate) fn first_outputs(alloc: Global, boxes: &[BoxPins]) -> Result<Vec<u32>
     Ok(starts)
 }
 
-/// The variables of the input pins, box after box.
+/// In the same order as `input_places`.
 #[tactic(auto, using(crate::proofs::OrderLemmas::count_more, crate::proofs::OrderLemmas::fits_more, crate::proofs::OrderLemmas::variables_more))]
 pub(crate) fn input_variables(alloc: Global, boxes: &[BoxPins]) -> Result<Vec<u32>, NoMemory>
     requires { pin_count boxes.now ≤ 2048 }
@@ -57,7 +57,6 @@ pub(crate) fn input_variables(alloc: Global, boxes: &[BoxPins]) -> Result<Vec<u3
     Ok(variables)
 }
 
-/// Adds so many numbers, from the first on.
 fn push_range(into: &mut Vec<u32>, first: u32, count: u32) -> Result<(), NoMemory>
     requires { first + count ≤ 2048 }
     ensures { OnOk result (into.new.items ≡ into.old.items ++ range_with_len first count) }
@@ -68,7 +67,7 @@ fn push_range(into: &mut Vec<u32>, first: u32, count: u32) -> Result<(), NoMemor
     Ok(())
 }
 
-/// The cells at the input pins, box after box.
+/// In the same order as `input_variables`, so both lists are compared entry by entry.
 #[tactic(auto, using(crate::proofs::OrderLemmas::places_more))]
 pub(crate) fn input_places(alloc: Global, boxes: &[BoxPins]) -> Result<Vec<u32>, NoMemory>
     ensures { IfOk result (λ places. places.items ≡ in_places boxes.now) }
@@ -80,7 +79,7 @@ pub(crate) fn input_places(alloc: Global, boxes: &[BoxPins]) -> Result<Vec<u32>,
     Ok(places)
 }
 
-/// The cells at all pins, box after box, each box's input pins and then its output pins.
+/// In the order of the pins' variables.
 #[tactic(auto, using(crate::proofs::PinLemmas::pins_more))]
 pub(crate) fn all_places(alloc: Global, boxes: &[BoxPins]) -> Result<Vec<u32>, NoMemory>
     ensures { IfOk result (λ places. places.items ≡ pin_places boxes.now) }

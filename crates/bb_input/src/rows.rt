@@ -1,4 +1,5 @@
-//! The table of a box, row by row the least one that suits.
+//! A table from a diagram over the pins of its box. The least row is taken, so the answer is one; rows that no choice
+//! suits are 0, as nothing reaches them and 0 is what a table begins with.
 
 ghost use Rattle.std.specs.Prelude.{◌≡◌, ◌+◌, ◌*◌, ◌^◌, ◌<◌, ◌≤◌, ℕ, length, take, IfOk};
 ghost use Rattle.bb_bits.specs.Numbers.{number_of};
@@ -13,7 +14,7 @@ use bb_dd::{Diagrams, Ref};
 use bb_quant::least;
 use std::alloc::Global;
 
-/// The table of a box whose pins are the first variables: each row is the least at which `f` is 0. The bits of `point` are all 0.
+/// `point` has zeros at first. Its first bits spell the row, and those after it get the outputs.
 pub(crate) fn least_table(
     alloc: Global,
     d: &Diagrams,
@@ -39,7 +40,7 @@ pub(crate) fn least_table(
     Ok(table)
 }
 
-/// Fills a table, each row by the least point that begins with the bits of its number.
+/// Counting up changes few bits a row, and spelling each row anew changes all.
 fn fill_rows(d: &Diagrams, f: Ref, table: &mut Table, point: &mut [bool])
     requires f { IsRef d.now.store f.0 }
     requires outputs { 0 < table.old.outputs }
@@ -60,7 +61,7 @@ fn fill_rows(d: &Diagrams, f: Ref, table: &mut Table, point: &mut [bool])
     }
 }
 
-/// Fills the row whose number the first bits of the point spell.
+/// Where no outputs suit, the bits after the row stay 0.
 fn fill_row(d: &Diagrams, f: Ref, table: &mut Table, row: u32, point: &mut [bool])
     requires f { IsRef d.now.store f.0 }
     requires point { length point.old ≡ d.now.store.vars }
@@ -80,7 +81,7 @@ fn fill_row(d: &Diagrams, f: Ref, table: &mut Table, row: u32, point: &mut [bool
     write_row(table, row, &point[inputs..]);
 }
 
-/// Writes a row of a table: the first of some bits.
+/// Takes the first bits of `bits`, one for each output pin.
 pub fn write_row(table: &mut Table, row: u32, bits: &[bool])
     requires row { row < 2 ^ table.old.inputs }
     requires bits { table.old.outputs ≤ length bits.now }

@@ -1,4 +1,6 @@
-//! The diagrams of the check by choices, for this check and for the one of nested boxes.
+//! All diagrams of the check, made before any is looked at, so `Nodes` does not depend on the answer. `bb_nest`
+//! continues from them, which is why they are one public value. The call has its name since a type and a call may not
+//! differ in the case of one letter only.
 
 ghost use Rattle.std.specs.Prelude.{◌≡◌, ◌≤◌, ◌+◌, length, map, IfOk, OnOk, IsErrOf};
 ghost use Rattle.bb_bits.specs.Truth.{IsBeadOfAny};
@@ -18,21 +20,21 @@ use bb_sym::plain::{PlainCells, picked, quantify_block};
 use bb_sym::{RungFault, laws};
 use std::alloc::Global;
 
-/// The functions that the check makes on the way. The variables are the pins of the boxes, box after box, each box's input pins and then
-/// its output pins, and behind them the inputs.
+/// Stages of the check. Variables: the pins, box after box, input pins before output pins, then the inputs.
 #[derive(Drop)]
 pub struct Prefix {
-    /// The store of the diagrams.
+    /// The store; further diagrams may be made in it.
     pub diagrams: Diagrams,
-    /// For each box a function: 1 where no choices suit for the boxes behind it, the pins up to its own having the bits of the point.
+    /// `stages[b]` is 1 where no choices suit for the boxes after `b`, the pins up to its own having the bits of the
+    /// point.
     pub stages: Vec<Ref>,
     /// 1 everywhere where no choices suit at all, else 0 everywhere.
     pub last: Ref,
-    /// The bit of the cell at each pin, in the order of the variables.
+    /// The cell at each pin, in the order of the variables.
     pub pins: Vec<Ref>,
 }
 
-/// Makes all functions of the check.
+/// Makes all functions of the check, the inputs quantified before the boxes.
 ///
 /// # Errors
 ///
@@ -54,7 +56,6 @@ pub fn make_prefix(alloc: Global, pair: &Pair, nodes: u32, cache: u32) -> Result
     Ok(made)
 }
 
-/// Makes the functions one after another.
 fn input_diagrams(
     alloc: Global,
     mut d: Diagrams,
@@ -93,7 +94,6 @@ fn input_diagrams(
     })
 }
 
-/// The cells at all pins, in the order of their variables.
 fn cells_at_pins(alloc: Global, pair: &Pair, made: &PlainCells) -> Result<Vec<Ref>, NoMemory>
     requires { length made.now.imp.items ≡ length pair.now.imp.cells }
     ensures { IfOk result (λ refs. refs.items ≡ map (ref_at made.now.imp.items) (pin_places pair.now.imp.boxes)) }

@@ -1,22 +1,22 @@
--- Status 2 tells the first refusal of the call, and a call that has one is told it, unless a read failed.
+-- Status 2 says the first refusal of the call, and a call that has one is reported it, unless a read failed.
 use Rattle.std.proofs.Common.{◌≡◌, ◌<◌, ◌≤◌, ℕ, List, length, Option, Some, None, arith, refl, sym, ◌∙◌, ap, subst}
 use Rattle.std.specs.Prelude.{codes}
 use Rattle.bb_outside.specs.Counts.{IsRead, Reads}
-use Rattle.bb_texts.specs.declared.limit.TheConstants.{READ_LIMIT}
+use Rattle.bb_frontend.specs.declared.limit.TheConstants.{READ_LIMIT}
 use Rattle.bb_make.specs.Adders.{made_imp, made_spec}
-use Rattle.bb_words.specs.Asked.{MadePair, Refutation, made_asked, rup_asked}
-use Rattle.bb_words.specs.Laws.{WordsAskOnce}
+use Rattle.bb_args.specs.Requests.{MadePair, Refutation, requested_made_pair, requested_refutation}
+use Rattle.bb_args.specs.Laws.{WordsRequestOnce}
 use Rattle.bb_ladder.specs.Calls.{Call}
-use Rattle.bb_verdict.specs.declared.asked.Asked.{Asked as TextsAsked}
-use Rattle.bb_ladder.specs.Answers.{Question, AfterSpec, ImpUnread, ImpLong, BothRead, OfFiles, SpecUnread, SpecLong, SpecRead, MayAnswer, Usage, Asked, Making, Refuting, Gives, question_of}
-use Rattle.bb_ladder.specs.MadePairs.{asked_of}
-use Rattle.bb_ladder.specs.CallRefusals.{IsCallRefusal, OfWords, OfComparison, OfMadePair, OfRefutation, IsFilesRefusal, OfSpecLength, OfImpLength, OfTexts, AreTold, AreToldOf, CallRefusalsAreOne, RefusalsAreTold, RefusedCallsAreTold}
-use Rattle.bb_texts.specs.RefusalLines.{refusal_line}
+use Rattle.bb_verdict.specs.declared.requested.TextComparison.{TextComparison}
+use Rattle.bb_ladder.specs.Answers.{PairRequest, AfterSpec, ImpUnread, ImpLong, BothRead, OfFiles, SpecUnread, SpecLong, SpecRead, MayAnswer, Usage, Comparing, Making, Refuting, AreHeldBytes, pair_request_of}
+use Rattle.bb_ladder.specs.MadePairs.{request_for}
+use Rattle.bb_ladder.specs.CallRefusals.{IsCallRefusal, OfWords, OfComparison, OfMadePair, OfRefutation, IsFilesRefusal, OfSpecLength, OfImpLength, OfTexts, AreReported, AreReportedOf, CallRefusalsAreOne, RefusalsAreReported, RefusedCallsAreReported}
+use Rattle.bb_frontend.specs.RefusalLines.{refusal_line}
 use Rattle.bb_ladder.specs.Refutations.{CheckLaws, Checks, Faulty, IsCheckRefusal}
-use Rattle.bb_ladder.specs.Sources.{AreBytes, IsFirst, MayHaveFailed, Source}
+use Rattle.bb_ladder.specs.Sources.{AreBytes, IsFirstFile, MayHaveFailed, TextSource}
 use Rattle.bb_verdict.specs.TextAnswers.{Judges, JudgedRefusalsAreFirst, RefusedAreAnsweredOnce}
 use Rattle.bb_verdict.specs.TextPairs.{IsPairRefusal, RefusalsAreOne}
-use Rattle.bb_ladder.proofs.HeadlineLemmas.{alone_at_two, asks_no_comparison, asks_no_pair, asks_no_refutation, never_both, never_files_and_made, same_pair, same_question, same_refutation}
+use Rattle.bb_ladder.proofs.HeadlineLemmas.{alone_at_two, requests_no_comparison, requests_no_pair, requests_no_refutation, never_both, never_files_and_made, same_pair, same_question, same_refutation}
 use Rattle.bb_ladder.proofs.SourceLemmas.{both_whole, failed_alone, failed_second, first_of_both, first_once, given_alone, given_first, given_long, given_never_long, given_never_short, given_second, given_whole, second_once}
 
 apart : (a b : List ℕ) → a ≡ b → READ_LIMIT ≤ length a → length b < READ_LIMIT → ⊥
@@ -25,12 +25,12 @@ apart a b same long short = far (length a) (length b) READ_LIMIT (ap length same
     far : (m n limit : ℕ) → m ≡ n → limit ≤ m → n < limit → ⊥
     far m n limit e low high = omega (arith, e, low, high)
 
--- status 2 tells the first refusal of two files, whatever is judged of their texts
+-- status 2 says the first refusal of two files, whatever is judged of their texts
 
 module _ (judged : List ℕ → List ℕ → ℕ → List ℕ → Type 0) (refuses : List ℕ → List ℕ → List ℕ → Type 0)
     (first_refusal : (spec imp : List ℕ) (status : ℕ) (text : List ℕ) → judged spec imp status text → status ≡ 2 → refuses spec imp text)
-    (from : Source) (holds : List ℕ → Option (List ℕ)) (first second : List ℕ) (before after : Reads) (line : List ℕ) where
-  imp_refusal : (between : Reads) (spec imp bytes : List ℕ) → AreBytes from holds before after first second spec imp → length spec < READ_LIMIT → Gives (holds first) bytes → length bytes < READ_LIMIT → IsRead before between first READ_LIMIT (Some (Some bytes))
+    (from : TextSource) (holds : List ℕ → Option (List ℕ)) (first second : List ℕ) (before after : Reads) (line : List ℕ) where
+  imp_refusal : (between : Reads) (spec imp bytes : List ℕ) → AreBytes from holds before after first second spec imp → length spec < READ_LIMIT → AreHeldBytes (holds first) bytes → length bytes < READ_LIMIT → IsRead before between first READ_LIMIT (Some (Some bytes))
       → AfterSpec judged (holds second) second between after bytes 2 line → IsFilesRefusal refuses from holds before after first second line
   imp_refusal between spec imp bytes both spec_short g short c (ImpUnread d s t) = absurd (omega (arith, s))
   imp_refusal between spec imp bytes both spec_short g short c (ImpLong other h full d s t) =
@@ -40,13 +40,13 @@ module _ (judged : List ℕ → List ℕ → ℕ → List ℕ → Type 0) (refus
       let texts = subst (λ z. judged z imp 2 line) whole.0 (subst (λ z. judged bytes z 2 line) whole.1 is) in
       OfTexts spec imp both spec_short (subst (λ z. length z < READ_LIMIT) whole.1 low) (first_refusal spec imp 2 line texts refl)
 
-  spec_refusal : (between : Reads) (spec bytes : List ℕ) (gave : Option (List ℕ)) → IsFirst from holds before after first spec → Gives (holds first) bytes → length bytes < READ_LIMIT → IsRead before between first READ_LIMIT (Some (Some bytes))
+  spec_refusal : (between : Reads) (spec bytes : List ℕ) (gave : Option (List ℕ)) → IsFirstFile from holds before after first spec → AreHeldBytes (holds first) bytes → length bytes < READ_LIMIT → IsRead before between first READ_LIMIT (Some (Some bytes))
       → IsRead between after second READ_LIMIT (Some gave) → length spec < READ_LIMIT
   spec_refusal between spec bytes gave there g short c d =
       subst (λ z. length z < READ_LIMIT) (given_whole from bytes spec (given_first holds first second from before between after spec bytes gave there g c d) short) short
 
-  pub files_refusal : AreToldOf from holds before after first second → OfFiles judged holds first second before after 2 line → IsFilesRefusal refuses from holds before after first second line
-  files_refusal told (SpecUnread c s t) = absurd (omega (arith, s))
+  pub files_refusal : AreReportedOf from holds before after first second → OfFiles judged holds first second before after 2 line → IsFilesRefusal refuses from holds before after first second line
+  files_refusal reported (SpecUnread c s t) = absurd (omega (arith, s))
   files_refusal (spec, there, rest) (SpecLong bytes g full c s t) = OfSpecLength spec there (given_long from bytes spec (given_alone holds first second from before after spec bytes there g c) full) t
   files_refusal (spec, there, rest) (SpecRead bytes between g short c (ImpUnread d s t)) = absurd (omega (arith, s))
   files_refusal (spec, there, rest) (SpecRead bytes between g short c (ImpLong other h full d s t)) =
@@ -56,27 +56,27 @@ module _ (judged : List ℕ → List ℕ → ℕ → List ℕ → Type 0) (refus
       let low = spec_refusal between spec bytes (Some other) there g short c d in
       imp_refusal between spec (rest low).0 bytes (rest low).1 low g short c (BothRead other h less d is)
 
-pub refusals_are_told : JudgedRefusalsAreFirst → CheckLaws → RefusalsAreTold
-refusals_are_told pairs laws call from line (Usage none no_pair neither same s t) told = OfWords none no_pair neither t
-refusals_are_told pairs laws call from line (Asked q asks files) told =
-    OfComparison q asks (files_refusal (Judges q.asked) (IsPairRefusal q.asked) (pairs q.asked) from call.holds q.spec q.imp call.before call.after line (told.comparison q asks) files)
-refusals_are_told pairs laws call from line (Making m makes quiet judges) told =
-    let first = pairs (asked_of m.fill m.options) (made_spec m.n) (made_imp m.n) 2 judges.0 judges.1 refl in
+pub refusals_are_reported : JudgedRefusalsAreFirst → CheckLaws → RefusalsAreReported
+refusals_are_reported pairs laws call from line (Usage none no_pair neither same s t) reported = OfWords none no_pair neither t
+refusals_are_reported pairs laws call from line (Comparing q requests files) reported =
+    OfComparison q requests (files_refusal (Judges q.requested) (IsPairRefusal q.requested) (pairs q.requested) from call.holds q.spec q.imp call.before call.after line (reported.comparison q requests) files)
+refusals_are_reported pairs laws call from line (Making m makes quiet judges) reported =
+    let first = pairs (request_for m.fill m.options) (made_spec m.n) (made_imp m.n) 2 judges.0 judges.1 refl in
     OfMadePair m makes (first.0, first.1, alone_at_two m.n 2 judges.0 line refl judges.2 ∙ first.2)
-refusals_are_told pairs laws call from line (Refuting f asks files) told =
-    OfRefutation f asks (files_refusal Checks IsCheckRefusal laws.refused from call.holds f.cnf f.adds call.before call.after line (told.refutation f asks) files)
+refusals_are_reported pairs laws call from line (Refuting f requests files) reported =
+    OfRefutation f requests (files_refusal Checks IsCheckRefusal laws.refused from call.holds f.cnf f.adds call.before call.after line (reported.refutation f requests) files)
 
 -- the same of a status that is 2
-pub told_at_two : RefusalsAreTold → (call : Call) (from : Source) (status : ℕ) (line : List ℕ)
-    → MayAnswer call status line → status ≡ 2 → AreTold call from → IsCallRefusal call from line
-told_at_two law call from status line may two told = law call from line (subst (λ n. MayAnswer call n line) two may) told
+pub reported_at_two : RefusalsAreReported → (call : Call) (from : TextSource) (status : ℕ) (line : List ℕ)
+    → MayAnswer call status line → status ≡ 2 → AreReported call from → IsCallRefusal call from line
+reported_at_two law call from status line may two reported = law call from line (subst (λ n. MayAnswer call n line) two may) reported
 
 -- two refusals of the same files are one
 
 module _ (refuses : List ℕ → List ℕ → List ℕ → Type 0) (one : (spec imp line other : List ℕ) → refuses spec imp line → refuses spec imp other → line ≡ other)
-    (from : Source) (holds : List ℕ → Option (List ℕ)) (first second : List ℕ) (before after : Reads) where
+    (from : TextSource) (holds : List ℕ → Option (List ℕ)) (first second : List ℕ) (before after : Reads) where
   -- the first text with what is known of the second, and without
-  alone : (spec imp : List ℕ) → AreBytes from holds before after first second spec imp → IsFirst from holds before after first spec
+  alone : (spec imp : List ℕ) → AreBytes from holds before after first second spec imp → IsFirstFile from holds before after first spec
   alone = first_of_both holds first second from before after
 
   same_first : (spec imp other more : List ℕ) → AreBytes from holds before after first second spec imp → AreBytes from holds before after first second other more → spec ≡ other
@@ -101,59 +101,59 @@ module _ (refuses : List ℕ → List ℕ → List ℕ → Type 0) (one : (spec 
       one spec imp line other is (subst (λ z. refuses z imp other) (same_first spec2 imp2 spec imp x2 x)
       (subst (λ z. refuses spec2 z other) (second_once holds first second from before after spec2 imp2 spec imp x2 x) is2))
 
--- and it is told
+-- and it is reported
 
 module _ (judged : List ℕ → List ℕ → ℕ → List ℕ → Type 0) (refuses : List ℕ → List ℕ → List ℕ → Type 0)
     (once : (spec imp line : List ℕ) (status : ℕ) (text : List ℕ) → judged spec imp status text → refuses spec imp line → (status ≡ 2) × (text ≡ line))
-    (from : Source) (holds : List ℕ → Option (List ℕ)) (first second : List ℕ) (before after : Reads) (line : List ℕ) (status : ℕ) (text : List ℕ) (calm : MayHaveFailed from before after → ⊥) where
-  abbrev IsTold : Type 0
-  IsTold = (status ≡ 2) × (text ≡ line)
+    (from : TextSource) (holds : List ℕ → Option (List ℕ)) (first second : List ℕ) (before after : Reads) (line : List ℕ) (status : ℕ) (text : List ℕ) (calm : MayHaveFailed from before after → ⊥) where
+  abbrev IsReported : Type 0
+  IsReported = (status ≡ 2) × (text ≡ line)
 
   -- the first read gave less than the limit
-  after_told : (between : Reads) (bytes : List ℕ) → Gives (holds first) bytes → length bytes < READ_LIMIT → IsRead before between first READ_LIMIT (Some (Some bytes))
-      → IsFilesRefusal refuses from holds before after first second line → AfterSpec judged (holds second) second between after bytes status text → IsTold
-  after_told between bytes g short c (OfSpecLength spec x long is) (ImpUnread d s t) =
+  after_reported : (between : Reads) (bytes : List ℕ) → AreHeldBytes (holds first) bytes → length bytes < READ_LIMIT → IsRead before between first READ_LIMIT (Some (Some bytes))
+      → IsFilesRefusal refuses from holds before after first second line → AfterSpec judged (holds second) second between after bytes status text → IsReported
+  after_reported between bytes g short c (OfSpecLength spec x long is) (ImpUnread d s t) =
       absurd (given_never_short from bytes spec (given_first holds first second from before between after spec bytes None x g c d) short long)
-  after_told between bytes g short c (OfSpecLength spec x long is) (ImpLong other h full d s t) =
+  after_reported between bytes g short c (OfSpecLength spec x long is) (ImpLong other h full d s t) =
       absurd (given_never_short from bytes spec (given_first holds first second from before between after spec bytes (Some other) x g c d) short long)
-  after_told between bytes g short c (OfSpecLength spec x long is) (BothRead other h low d j) =
+  after_reported between bytes g short c (OfSpecLength spec x long is) (BothRead other h low d j) =
       absurd (given_never_short from bytes spec (given_first holds first second from before between after spec bytes (Some other) x g c d) short long)
-  after_told between bytes g short c (OfImpLength spec imp x low long is) (ImpUnread d s t) = absurd (calm (failed_second holds first second from before between after spec imp (Some bytes) x c d))
-  after_told between bytes g short c (OfImpLength spec imp x low long is) (ImpLong other h full d s t) = (s, t ∙ sym is)
-  after_told between bytes g short c (OfImpLength spec imp x low long is) (BothRead other h less d j) =
+  after_reported between bytes g short c (OfImpLength spec imp x low long is) (ImpUnread d s t) = absurd (calm (failed_second holds first second from before between after spec imp (Some bytes) x c d))
+  after_reported between bytes g short c (OfImpLength spec imp x low long is) (ImpLong other h full d s t) = (s, t ∙ sym is)
+  after_reported between bytes g short c (OfImpLength spec imp x low long is) (BothRead other h less d j) =
       absurd (given_never_short from other imp (given_second holds first second from before between after spec imp other (Some bytes) x h c d) less long)
-  after_told between bytes g short c (OfTexts spec imp x low less is) (ImpUnread d s t) = absurd (calm (failed_second holds first second from before between after spec imp (Some bytes) x c d))
-  after_told between bytes g short c (OfTexts spec imp x low less is) (ImpLong other h full d s t) =
+  after_reported between bytes g short c (OfTexts spec imp x low less is) (ImpUnread d s t) = absurd (calm (failed_second holds first second from before between after spec imp (Some bytes) x c d))
+  after_reported between bytes g short c (OfTexts spec imp x low less is) (ImpLong other h full d s t) =
       absurd (given_never_long from other imp (given_second holds first second from before between after spec imp other (Some bytes) x h c d) full less)
-  after_told between bytes g short c (OfTexts spec imp x low less is) (BothRead other h few d j) =
+  after_reported between bytes g short c (OfTexts spec imp x low less is) (BothRead other h few d j) =
       let whole = both_whole holds first second from before between after spec imp bytes other x g short c h few d in
       once spec imp line status text (subst (λ z. judged z imp status text) whole.0 (subst (λ z. judged bytes z status text) whole.1 j)) is
 
   -- whichever refusal there is, the first file has bytes
-  first_there : IsFilesRefusal refuses from holds before after first second line → (spec : List ℕ) × IsFirst from holds before after first spec
+  first_there : IsFilesRefusal refuses from holds before after first second line → (spec : List ℕ) × IsFirstFile from holds before after first spec
   first_there (OfSpecLength spec x long is) = (spec, x)
   first_there (OfImpLength spec imp x low long is) = (spec, first_of_both holds first second from before after spec imp x)
   first_there (OfTexts spec imp x low less is) = (spec, first_of_both holds first second from before after spec imp x)
 
   -- the first read gave as much as the limit
-  long_told : (bytes : List ℕ) → Gives (holds first) bytes → length bytes ≡ READ_LIMIT → IsRead before after first READ_LIMIT (Some (Some bytes)) → status ≡ 2 → text ≡ codes "refused spec toolong\n"
-      → IsFilesRefusal refuses from holds before after first second line → IsTold
-  long_told bytes g full c s t (OfSpecLength spec x long is) = (s, t ∙ sym is)
-  long_told bytes g full c s t (OfImpLength spec imp x low long is) =
+  long_reported : (bytes : List ℕ) → AreHeldBytes (holds first) bytes → length bytes ≡ READ_LIMIT → IsRead before after first READ_LIMIT (Some (Some bytes)) → status ≡ 2 → text ≡ codes "refused spec toolong\n"
+      → IsFilesRefusal refuses from holds before after first second line → IsReported
+  long_reported bytes g full c s t (OfSpecLength spec x long is) = (s, t ∙ sym is)
+  long_reported bytes g full c s t (OfImpLength spec imp x low long is) =
       absurd (given_never_long from bytes spec (given_alone holds first second from before after spec bytes (first_of_both holds first second from before after spec imp x) g c) full low)
-  long_told bytes g full c s t (OfTexts spec imp x low less is) =
+  long_reported bytes g full c s t (OfTexts spec imp x low less is) =
       absurd (given_never_long from bytes spec (given_alone holds first second from before after spec bytes (first_of_both holds first second from before after spec imp x) g c) full low)
 
-  pub files_told : IsFilesRefusal refuses from holds before after first second line → OfFiles judged holds first second before after status text → IsTold
-  files_told refusal (SpecUnread c s t) = let there = first_there refusal in absurd (calm (failed_alone holds first second from before after there.0 there.1 c))
-  files_told refusal (SpecLong bytes g full c s t) = long_told bytes g full c s t refusal
-  files_told refusal (SpecRead bytes between g short c next) = after_told between bytes g short c refusal next
+  pub files_reported : IsFilesRefusal refuses from holds before after first second line → OfFiles judged holds first second before after status text → IsReported
+  files_reported refusal (SpecUnread c s t) = let there = first_there refusal in absurd (calm (failed_alone holds first second from before after there.0 there.1 c))
+  files_reported refusal (SpecLong bytes g full c s t) = long_reported bytes g full c s t refusal
+  files_reported refusal (SpecRead bytes between g short c next) = after_reported between bytes g short c refusal next
 
-pair_told : RefusedAreAnsweredOnce → (asked : TextsAsked) (spec imp line : List ℕ) (status : ℕ) (text : List ℕ) → Judges asked spec imp status text → IsPairRefusal asked spec imp line → (status ≡ 2) × (text ≡ line)
-pair_told once asked spec imp line status text judged (refusal, is, t) = let answer = once asked spec imp refusal status text is judged in (answer.0, answer.1 ∙ sym t)
+pair_reported : RefusedAreAnsweredOnce → (requested : TextComparison) (spec imp line : List ℕ) (status : ℕ) (text : List ℕ) → Judges requested spec imp status text → IsPairRefusal requested spec imp line → (status ≡ 2) × (text ≡ line)
+pair_reported once requested spec imp line status text judged (refusal, is, t) = let answer = once requested spec imp refusal status text is judged in (answer.0, answer.1 ∙ sym t)
 
-pair_one : RefusalsAreOne → (asked : TextsAsked) (spec imp line other : List ℕ) → IsPairRefusal asked spec imp line → IsPairRefusal asked spec imp other → line ≡ other
-pair_one one asked spec imp line other (r, is, t) (q, also, u) = t ∙ ap refusal_line (one asked spec imp r q is also) ∙ sym u
+pair_one : RefusalsAreOne → (requested : TextComparison) (spec imp line other : List ℕ) → IsPairRefusal requested spec imp line → IsPairRefusal requested spec imp other → line ≡ other
+pair_one one requested spec imp line other (r, is, t) (q, also, u) = t ∙ ap refusal_line (one requested spec imp r q is also) ∙ sym u
 
 -- two lines that refuse a formula and additions are one, since each is the answer
 check_one : CheckLaws → (first second line other : List ℕ) → IsCheckRefusal first second line → IsCheckRefusal first second other → line ≡ other
@@ -161,51 +161,51 @@ check_one laws first second line other is also = (laws.stays_refused first secon
 
 -- the refusal of words that ask nothing, or for a comparison of files, a made pair or a refutation
 
-module _ (once : WordsAskOnce) (call : Call) (from : Source) (line : List ℕ) where
-  words_refused : question_of call.words ≡ None → made_asked call.words ≡ None → rup_asked call.words ≡ None → IsCallRefusal call from line → line ≡ codes "refused usage\n"
+module _ (once : WordsRequestOnce) (call : Call) (from : TextSource) (line : List ℕ) where
+  words_refused : pair_request_of call.words ≡ None → requested_made_pair call.words ≡ None → requested_refutation call.words ≡ None → IsCallRefusal call from line → line ≡ codes "refused usage\n"
   words_refused none no_pair neither (OfWords also unmade nor is) = is
-  words_refused none no_pair neither (OfComparison q asks refusal) = absurd (asks_no_comparison q (question_of call.words) none asks)
-  words_refused none no_pair neither (OfMadePair m makes refusal) = absurd (asks_no_pair m (made_asked call.words) no_pair makes)
-  words_refused none no_pair neither (OfRefutation f asks refusal) = absurd (asks_no_refutation f (rup_asked call.words) neither asks)
+  words_refused none no_pair neither (OfComparison q requests refusal) = absurd (requests_no_comparison q (pair_request_of call.words) none requests)
+  words_refused none no_pair neither (OfMadePair m makes refusal) = absurd (requests_no_pair m (requested_made_pair call.words) no_pair makes)
+  words_refused none no_pair neither (OfRefutation f requests refusal) = absurd (requests_no_refutation f (requested_refutation call.words) neither requests)
 
-  comparison_refused : (q : Question) → question_of call.words ≡ Some q → IsCallRefusal call from line → IsFilesRefusal (IsPairRefusal q.asked) from call.holds call.before call.after q.spec q.imp line
-  comparison_refused q asks (OfWords none unmade nor is) = absurd (asks_no_comparison q (question_of call.words) none asks)
-  comparison_refused q asks (OfComparison p also refusal) =
-      subst (λ (z : Question). IsFilesRefusal (IsPairRefusal z.asked) from call.holds call.before call.after z.spec z.imp line) (same_question p q (sym also ∙ asks)) refusal
-  comparison_refused q asks (OfMadePair m makes refusal) = absurd (never_files_and_made once call.words q m asks makes)
-  comparison_refused q asks (OfRefutation f also refusal) = absurd (never_both once call.words q f asks also)
+  comparison_refused : (q : PairRequest) → pair_request_of call.words ≡ Some q → IsCallRefusal call from line → IsFilesRefusal (IsPairRefusal q.requested) from call.holds call.before call.after q.spec q.imp line
+  comparison_refused q requests (OfWords none unmade nor is) = absurd (requests_no_comparison q (pair_request_of call.words) none requests)
+  comparison_refused q requests (OfComparison p also refusal) =
+      subst (λ (z : PairRequest). IsFilesRefusal (IsPairRefusal z.requested) from call.holds call.before call.after z.spec z.imp line) (same_question p q (sym also ∙ requests)) refusal
+  comparison_refused q requests (OfMadePair m makes refusal) = absurd (never_files_and_made once call.words q m requests makes)
+  comparison_refused q requests (OfRefutation f also refusal) = absurd (never_both once call.words q f requests also)
 
-  made_refused : (m : MadePair) → made_asked call.words ≡ Some m → IsCallRefusal call from line → IsPairRefusal (asked_of m.fill m.options) (made_spec m.n) (made_imp m.n) line
-  made_refused m makes (OfWords none unmade nor is) = absurd (asks_no_pair m (made_asked call.words) unmade makes)
-  made_refused m makes (OfComparison q asks refusal) = absurd (never_files_and_made once call.words q m asks makes)
-  made_refused m makes (OfMadePair p also refusal) = subst (λ (z : MadePair). IsPairRefusal (asked_of z.fill z.options) (made_spec z.n) (made_imp z.n) line) (same_pair p m (sym also ∙ makes)) refusal
-  made_refused m makes (OfRefutation f asks refusal) = absurd (once.not_made_and_refuted call.words m f makes asks)
+  made_refused : (m : MadePair) → requested_made_pair call.words ≡ Some m → IsCallRefusal call from line → IsPairRefusal (request_for m.fill m.options) (made_spec m.n) (made_imp m.n) line
+  made_refused m makes (OfWords none unmade nor is) = absurd (requests_no_pair m (requested_made_pair call.words) unmade makes)
+  made_refused m makes (OfComparison q requests refusal) = absurd (never_files_and_made once call.words q m requests makes)
+  made_refused m makes (OfMadePair p also refusal) = subst (λ (z : MadePair). IsPairRefusal (request_for z.fill z.options) (made_spec z.n) (made_imp z.n) line) (same_pair p m (sym also ∙ makes)) refusal
+  made_refused m makes (OfRefutation f requests refusal) = absurd (once.not_made_and_refuted call.words m f makes requests)
 
-  refutation_refused : (f : Refutation) → rup_asked call.words ≡ Some f → IsCallRefusal call from line → IsFilesRefusal IsCheckRefusal from call.holds call.before call.after f.cnf f.adds line
-  refutation_refused f asks (OfWords none unmade nor is) = absurd (asks_no_refutation f (rup_asked call.words) nor asks)
-  refutation_refused f asks (OfComparison q also refusal) = absurd (never_both once call.words q f also asks)
-  refutation_refused f asks (OfMadePair m makes refusal) = absurd (once.not_made_and_refuted call.words m f makes asks)
-  refutation_refused f asks (OfRefutation g also refusal) =
-      subst (λ (z : Refutation). IsFilesRefusal IsCheckRefusal from call.holds call.before call.after z.cnf z.adds line) (same_refutation g f (sym also ∙ asks)) refusal
+  refutation_refused : (f : Refutation) → requested_refutation call.words ≡ Some f → IsCallRefusal call from line → IsFilesRefusal IsCheckRefusal from call.holds call.before call.after f.cnf f.adds line
+  refutation_refused f requests (OfWords none unmade nor is) = absurd (requests_no_refutation f (requested_refutation call.words) nor requests)
+  refutation_refused f requests (OfComparison q also refusal) = absurd (never_both once call.words q f also requests)
+  refutation_refused f requests (OfMadePair m makes refusal) = absurd (once.not_made_and_refuted call.words m f makes requests)
+  refutation_refused f requests (OfRefutation g also refusal) =
+      subst (λ (z : Refutation). IsFilesRefusal IsCheckRefusal from call.holds call.before call.after z.cnf z.adds line) (same_refutation g f (sym also ∙ requests)) refusal
 
-pub refused_calls_are_told : WordsAskOnce → CheckLaws → RefusedAreAnsweredOnce → RefusedCallsAreTold
-refused_calls_are_told once laws answered call from status text line (Usage none no_pair neither same s t) refused calm = (s, t ∙ sym (words_refused once call from line none no_pair neither refused))
-refused_calls_are_told once laws answered call from status text line (Asked q asks files) refused calm =
-    files_told (Judges q.asked) (IsPairRefusal q.asked) (pair_told answered q.asked) from call.holds q.spec q.imp call.before call.after line status text calm (comparison_refused once call from line q asks refused) files
-refused_calls_are_told once laws answered call from status text line (Making m makes quiet judges) refused calm =
-    let told = pair_told answered (asked_of m.fill m.options) (made_spec m.n) (made_imp m.n) line status judges.0 judges.1 (made_refused once call from line m makes refused) in
-    (told.0, alone_at_two m.n status judges.0 text told.0 judges.2 ∙ told.1)
-refused_calls_are_told once laws answered call from status text line (Refuting f asks files) refused calm =
-    files_told Checks IsCheckRefusal (λ first second told n said checks is. laws.stays_refused first second n said told checks is) from call.holds f.cnf f.adds call.before call.after line status text calm (refutation_refused once call from line f asks refused) files
+pub refused_calls_are_reported : WordsRequestOnce → CheckLaws → RefusedAreAnsweredOnce → RefusedCallsAreReported
+refused_calls_are_reported once laws answered call from status text line (Usage none no_pair neither same s t) refused calm = (s, t ∙ sym (words_refused once call from line none no_pair neither refused))
+refused_calls_are_reported once laws answered call from status text line (Comparing q requests files) refused calm =
+    files_reported (Judges q.requested) (IsPairRefusal q.requested) (pair_reported answered q.requested) from call.holds q.spec q.imp call.before call.after line status text calm (comparison_refused once call from line q requests refused) files
+refused_calls_are_reported once laws answered call from status text line (Making m makes quiet judges) refused calm =
+    let reported = pair_reported answered (request_for m.fill m.options) (made_spec m.n) (made_imp m.n) line status judges.0 judges.1 (made_refused once call from line m makes refused) in
+    (reported.0, alone_at_two m.n status judges.0 text reported.0 judges.2 ∙ reported.1)
+refused_calls_are_reported once laws answered call from status text line (Refuting f requests files) refused calm =
+    files_reported Checks IsCheckRefusal (λ first second reported n check_result checks is. laws.stays_refused first second n check_result reported checks is) from call.holds f.cnf f.adds call.before call.after line status text calm (refutation_refused once call from line f requests refused) files
 
-pub call_refusals_are_one : WordsAskOnce → CheckLaws → RefusalsAreOne → CallRefusalsAreOne
-call_refusals_are_one once laws one call from line other refused also = by (question_of call.words) refl (made_asked call.words) refl (rup_asked call.words) refl
+pub call_refusals_are_one : WordsRequestOnce → CheckLaws → RefusalsAreOne → CallRefusalsAreOne
+call_refusals_are_one once laws one call from line other refused also = by (pair_request_of call.words) refl (requested_made_pair call.words) refl (requested_refutation call.words) refl
   where
-    by : (o : Option Question) → question_of call.words ≡ o → (p : Option MadePair) → made_asked call.words ≡ p → (r : Option Refutation) → rup_asked call.words ≡ r → line ≡ other
+    by : (o : Option PairRequest) → pair_request_of call.words ≡ o → (p : Option MadePair) → requested_made_pair call.words ≡ p → (r : Option Refutation) → requested_refutation call.words ≡ r → line ≡ other
     by None e None h None g = words_refused once call from line e h g refused ∙ sym (words_refused once call from other e h g also)
-    by (Some q) e p h r g = same_line (IsPairRefusal q.asked) (pair_one one q.asked) from call.holds q.spec q.imp call.before call.after line other
+    by (Some q) e p h r g = same_line (IsPairRefusal q.requested) (pair_one one q.requested) from call.holds q.spec q.imp call.before call.after line other
         (comparison_refused once call from line q e refused) (comparison_refused once call from other q e also)
-    by None e (Some m) h r g = pair_one one (asked_of m.fill m.options) (made_spec m.n) (made_imp m.n) line other
+    by None e (Some m) h r g = pair_one one (request_for m.fill m.options) (made_spec m.n) (made_imp m.n) line other
         (made_refused once call from line m h refused) (made_refused once call from other m h also)
     by None e None h (Some f) g = same_line IsCheckRefusal (check_one laws) from call.holds f.cnf f.adds call.before call.after line other
         (refutation_refused once call from line f g refused) (refutation_refused once call from other f g also)

@@ -2,28 +2,28 @@
 -- question open, and whether a refutation follows.
 use Rattle.std.proofs.Common.{◌≡◌, ◌<◌, ◌⊎◌, ℕ, List, length, Option, Some, sym, ◌∙◌, subst}
 use Rattle.bb_outside.specs.Counts.{IsRead, Reads}
-use Rattle.bb_texts.specs.declared.limit.TheConstants.{READ_LIMIT}
+use Rattle.bb_frontend.specs.declared.limit.TheConstants.{READ_LIMIT}
 use Rattle.bb_ladder.specs.Calls.{Call}
-use Rattle.bb_verdict.specs.declared.asked.Asked.{Asked as TextsAsked}
+use Rattle.bb_verdict.specs.declared.requested.TextComparison.{TextComparison}
 use Rattle.bb_cnf.specs.Clauses.{Formula}
 use Rattle.bb_cnf.specs.declared.clauses.Lit.{Lit}
 use Rattle.bb_make.specs.Adders.{made_imp, made_spec}
-use Rattle.bb_words.specs.Asked.{Refutation, made_asked, rup_asked}
-use Rattle.bb_words.specs.Laws.{WordsAskOnce}
-use Rattle.bb_ladder.specs.Answers.{Question, AfterSpec, ImpUnread, ImpLong, BothRead, OfFiles, SpecUnread, SpecLong, SpecRead, MayAnswer, Usage, Asked, Making, Refuting, AreRefutationTexts, AreTexts, FileTexts, MadeTexts, Gives, question_of}
-use Rattle.bb_ladder.specs.MadePairs.{JudgesMade, asked_of}
-use Rattle.bb_ladder.specs.Refutations.{AreRead, CheckLaws, Checks, SaysWhether}
-use Rattle.bb_ladder.specs.Sources.{AreBytes, MayHaveFailed, Source}
+use Rattle.bb_args.specs.Requests.{Refutation, requested_made_pair, requested_refutation}
+use Rattle.bb_args.specs.Laws.{WordsRequestOnce}
+use Rattle.bb_ladder.specs.Answers.{PairRequest, AfterSpec, ImpUnread, ImpLong, BothRead, OfFiles, SpecUnread, SpecLong, SpecRead, MayAnswer, Usage, Comparing, Making, Refuting, AreRefutationTexts, AreTexts, FileTexts, MadeTexts, AreHeldBytes, pair_request_of}
+use Rattle.bb_ladder.specs.MadePairs.{JudgesMade, request_for}
+use Rattle.bb_ladder.specs.Refutations.{AreRead, CheckLaws, Checks, ReportsWhether}
+use Rattle.bb_ladder.specs.Sources.{AreBytes, MayHaveFailed, TextSource}
 use Rattle.bb_verdict.specs.TextAnswers.{Judges, DecidedAreAnswered, StayingOpenAreAnswered}
 use Rattle.bb_verdict.specs.TextPairs.{AreStayingOpen, AreDecided}
 use Rattle.bb_ladder.proofs.SourceLemmas.{both_whole, failed_alone, failed_second, first_of_both, given_alone, given_never_long, given_second}
-use Rattle.bb_ladder.proofs.HeadlineLemmas.{asks_no_comparison, asks_no_pair, asks_no_refutation, never_both, never_files_and_made, same_pair, same_question, same_refutation}
+use Rattle.bb_ladder.proofs.HeadlineLemmas.{requests_no_comparison, requests_no_pair, requests_no_refutation, never_both, never_files_and_made, same_pair, same_question, same_refutation}
 
 -- what is answered to two texts within the limit, where no read failed
 module _ (judged : List ℕ → List ℕ → ℕ → List ℕ → Type 0) (spec imp : List ℕ) (S : ℕ → Type 0) (answered : (status : ℕ) (text : List ℕ) → judged spec imp status text → S status)
-    (spec_short : length spec < READ_LIMIT) (imp_short : length imp < READ_LIMIT) (from : Source) (holds : List ℕ → Option (List ℕ)) (first second : List ℕ) (before after : Reads)
+    (spec_short : length spec < READ_LIMIT) (imp_short : length imp < READ_LIMIT) (from : TextSource) (holds : List ℕ → Option (List ℕ)) (first second : List ℕ) (before after : Reads)
     (both : AreBytes from holds before after first second spec imp) (calm : MayHaveFailed from before after → ⊥) where
-  after_answered : (between : Reads) (bytes : List ℕ) (status : ℕ) (text : List ℕ) → Gives (holds first) bytes → length bytes < READ_LIMIT → IsRead before between first READ_LIMIT (Some (Some bytes))
+  after_answered : (between : Reads) (bytes : List ℕ) (status : ℕ) (text : List ℕ) → AreHeldBytes (holds first) bytes → length bytes < READ_LIMIT → IsRead before between first READ_LIMIT (Some (Some bytes))
       → AfterSpec judged (holds second) second between after bytes status text → S status
   after_answered between bytes status text g short c (ImpUnread d s t) = absurd (calm (failed_second holds first second from before between after spec imp (Some bytes) both c d))
   after_answered between bytes status text g short c (ImpLong long h l d s t) =
@@ -40,40 +40,40 @@ module _ (judged : List ℕ → List ℕ → ℕ → List ℕ → Type 0) (spec 
   files_answered status text (SpecRead bytes between g short c a) = after_answered between bytes status text g short c a
 
 -- the same of a comparison
-module _ (once : WordsAskOnce) (P : TextsAsked → List ℕ → List ℕ → Type 0) (S : ℕ → Type 0) (answered : (asked : TextsAsked) (spec imp : List ℕ) (status : ℕ) (text : List ℕ) → Judges asked spec imp status text → P asked spec imp → S status)
-    (asked : TextsAsked) (spec imp : List ℕ) (spec_short : length spec < READ_LIMIT) (imp_short : length imp < READ_LIMIT) (is : P asked spec imp) where
-  words_answered : (call : Call) (from : Source) (status : ℕ) (text : List ℕ) → AreTexts call from asked spec imp → (MayHaveFailed from call.before call.after → ⊥)
+module _ (once : WordsRequestOnce) (P : TextComparison → List ℕ → List ℕ → Type 0) (S : ℕ → Type 0) (answered : (requested : TextComparison) (spec imp : List ℕ) (status : ℕ) (text : List ℕ) → Judges requested spec imp status text → P requested spec imp → S status)
+    (requested : TextComparison) (spec imp : List ℕ) (spec_short : length spec < READ_LIMIT) (imp_short : length imp < READ_LIMIT) (is : P requested spec imp) where
+  words_answered : (call : Call) (from : TextSource) (status : ℕ) (text : List ℕ) → AreTexts call from requested spec imp → (MayHaveFailed from call.before call.after → ⊥)
       → MayAnswer call status text → S status
-  words_answered call from status text (FileTexts q asks same both) calm (Usage none no_pair neither c s t) = absurd (asks_no_comparison q (question_of call.words) none asks)
-  words_answered call from status text (FileTexts q asks same both) calm (Asked known e files) =
-      files_answered (Judges q.asked) spec imp S (λ n line j. answered q.asked spec imp n line j (subst (λ z. P z spec imp) same is)) spec_short imp_short from call.holds q.spec q.imp call.before call.after both calm status text
-      (subst (λ (z : Question). OfFiles (Judges z.asked) call.holds z.spec z.imp call.before call.after status text) (same_question known q (sym e ∙ asks)) files)
-  words_answered call from status text (FileTexts q asks same both) calm (Making m e quiet judges) = absurd (never_files_and_made once call.words q m asks e)
-  words_answered call from status text (FileTexts q asks same both) calm (Refuting f e files) = absurd (never_both once call.words q f asks e)
-  words_answered call from status text (MadeTexts m makes a x y) calm (Usage none no_pair neither c s t) = absurd (asks_no_pair m (made_asked call.words) no_pair makes)
-  words_answered call from status text (MadeTexts m makes a x y) calm (Asked q e files) = absurd (never_files_and_made once call.words q m e makes)
+  words_answered call from status text (FileTexts q requests same both) calm (Usage none no_pair neither c s t) = absurd (requests_no_comparison q (pair_request_of call.words) none requests)
+  words_answered call from status text (FileTexts q requests same both) calm (Comparing known e files) =
+      files_answered (Judges q.requested) spec imp S (λ n line j. answered q.requested spec imp n line j (subst (λ z. P z spec imp) same is)) spec_short imp_short from call.holds q.spec q.imp call.before call.after both calm status text
+      (subst (λ (z : PairRequest). OfFiles (Judges z.requested) call.holds z.spec z.imp call.before call.after status text) (same_question known q (sym e ∙ requests)) files)
+  words_answered call from status text (FileTexts q requests same both) calm (Making m e quiet judges) = absurd (never_files_and_made once call.words q m requests e)
+  words_answered call from status text (FileTexts q requests same both) calm (Refuting f e files) = absurd (never_both once call.words q f requests e)
+  words_answered call from status text (MadeTexts m makes a x y) calm (Usage none no_pair neither c s t) = absurd (requests_no_pair m (requested_made_pair call.words) no_pair makes)
+  words_answered call from status text (MadeTexts m makes a x y) calm (Comparing q e files) = absurd (never_files_and_made once call.words q m e makes)
   words_answered call from status text (MadeTexts m makes a x y) calm (Making known e quiet judges) =
       let of_m = subst (λ z. JudgesMade z status text) (same_pair known m (sym e ∙ makes)) judges in
-      answered (asked_of m.fill m.options) (made_spec m.n) (made_imp m.n) status of_m.0 of_m.1 (subst (λ z. P (asked_of m.fill m.options) (made_spec m.n) z) y (subst (λ z. P (asked_of m.fill m.options) z imp) x (subst (λ z. P z spec imp) a is)))
+      answered (request_for m.fill m.options) (made_spec m.n) (made_imp m.n) status of_m.0 of_m.1 (subst (λ z. P (request_for m.fill m.options) (made_spec m.n) z) y (subst (λ z. P (request_for m.fill m.options) z imp) x (subst (λ z. P z spec imp) a is)))
   words_answered call from status text (MadeTexts m makes a x y) calm (Refuting f e files) = absurd (once.not_made_and_refuted call.words m f makes e)
 
-pub decided_sound : WordsAskOnce → DecidedAreAnswered → (asked : TextsAsked) (spec imp : List ℕ) → length spec < READ_LIMIT → length imp < READ_LIMIT → AreDecided asked spec imp
-    → (call : Call) (from : Source) (status : ℕ) (text : List ℕ) → AreTexts call from asked spec imp → (MayHaveFailed from call.before call.after → ⊥)
+pub decided_sound : WordsRequestOnce → DecidedAreAnswered → (requested : TextComparison) (spec imp : List ℕ) → length spec < READ_LIMIT → length imp < READ_LIMIT → AreDecided requested spec imp
+    → (call : Call) (from : TextSource) (status : ℕ) (text : List ℕ) → AreTexts call from requested spec imp → (MayHaveFailed from call.before call.after → ⊥)
     → MayAnswer call status text → (status ≡ 0) ⊎ (status ≡ 1)
 decided_sound once = words_answered once AreDecided (λ status. (status ≡ 0) ⊎ (status ≡ 1))
 
-pub open_complete : WordsAskOnce → StayingOpenAreAnswered → (asked : TextsAsked) (spec imp : List ℕ) → length spec < READ_LIMIT → length imp < READ_LIMIT → AreStayingOpen asked spec imp
-    → (call : Call) (from : Source) (status : ℕ) (text : List ℕ) → AreTexts call from asked spec imp → (MayHaveFailed from call.before call.after → ⊥)
+pub open_complete : WordsRequestOnce → StayingOpenAreAnswered → (requested : TextComparison) (spec imp : List ℕ) → length spec < READ_LIMIT → length imp < READ_LIMIT → AreStayingOpen requested spec imp
+    → (call : Call) (from : TextSource) (status : ℕ) (text : List ℕ) → AreTexts call from requested spec imp → (MayHaveFailed from call.before call.after → ⊥)
     → MayAnswer call status text → status ≡ 3
 open_complete once = words_answered once AreStayingOpen (λ status. status ≡ 3)
 
 -- and of a refutation
-pub refuted_sound : WordsAskOnce → CheckLaws → (f : Refutation) (first second : List ℕ) (formula : Formula) (adds : List (List Lit)) → length first < READ_LIMIT → length second < READ_LIMIT → AreRead first second formula adds
-    → (call : Call) (from : Source) (status : ℕ) (text : List ℕ) → AreRefutationTexts call from f first second → (MayHaveFailed from call.before call.after → ⊥)
-    → MayAnswer call status text → SaysWhether formula adds status
-refuted_sound once laws f first second formula adds short also read call from status text texts calm (Usage none no_pair neither c s t) = absurd (asks_no_refutation f (rup_asked call.words) neither texts.asks)
-refuted_sound once laws f first second formula adds short also read call from status text texts calm (Asked q e files) = absurd (never_both once call.words q f e texts.asks)
-refuted_sound once laws f first second formula adds short also read call from status text texts calm (Making m e quiet judges) = absurd (once.not_made_and_refuted call.words m f e texts.asks)
+pub refuted_sound : WordsRequestOnce → CheckLaws → (f : Refutation) (first second : List ℕ) (formula : Formula) (adds : List (List Lit)) → length first < READ_LIMIT → length second < READ_LIMIT → AreRead first second formula adds
+    → (call : Call) (from : TextSource) (status : ℕ) (text : List ℕ) → AreRefutationTexts call from f first second → (MayHaveFailed from call.before call.after → ⊥)
+    → MayAnswer call status text → ReportsWhether formula adds status
+refuted_sound once laws f first second formula adds short also read call from status text texts calm (Usage none no_pair neither c s t) = absurd (requests_no_refutation f (requested_refutation call.words) neither texts.requests)
+refuted_sound once laws f first second formula adds short also read call from status text texts calm (Comparing q e files) = absurd (never_both once call.words q f e texts.requests)
+refuted_sound once laws f first second formula adds short also read call from status text texts calm (Making m e quiet judges) = absurd (once.not_made_and_refuted call.words m f e texts.requests)
 refuted_sound once laws f first second formula adds short also read call from status text texts calm (Refuting known e files) =
-    files_answered Checks first second (SaysWhether formula adds) (λ n line checks. laws.decided first second formula adds n line read checks) short also from call.holds f.cnf f.adds call.before call.after texts.bytes calm status text
-    (subst (λ (z : Refutation). OfFiles Checks call.holds z.cnf z.adds call.before call.after status text) (same_refutation known f (sym e ∙ texts.asks)) files)
+    files_answered Checks first second (ReportsWhether formula adds) (λ n line checks. laws.decided first second formula adds n line read checks) short also from call.holds f.cnf f.adds call.before call.after texts.bytes calm status text
+    (subst (λ (z : Refutation). OfFiles Checks call.holds z.cnf z.adds call.before call.after status text) (same_refutation known f (sym e ∙ texts.requests)) files)

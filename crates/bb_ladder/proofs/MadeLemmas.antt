@@ -2,20 +2,20 @@
 use Rattle.std.proofs.Common.{◌≡◌, ◌∙◌, ℕ, List, ap, subst, sym}
 use Rattle.std.specs.Prelude.{IfOk, Result, Ok, Err}
 use Rattle.bb_make.specs.Adders.{made_imp, made_spec}
-use Rattle.bb_words.specs.Asked.{MadePair}
+use Rattle.bb_args.specs.Requests.{MadePair}
 use Rattle.bb_verdict.specs.declared.answer.Answer.{Answer}
-use Rattle.bb_verdict.specs.declared.asked.Asked.{Asked as TextsAsked}
-use Rattle.bb_ladder.specs.MadePairs.{JudgesMade, asked_of, made_text}
+use Rattle.bb_verdict.specs.declared.requested.TextComparison.{TextComparison}
+use Rattle.bb_ladder.specs.MadePairs.{JudgesMade, request_for, made_text}
 use Rattle.bb_verdict.specs.TextAnswers.{Judges}
 
 module _ {E : Type 0} (m : MadePair) where
-  pub judged_made : (asked : TextsAsked) (spec imp : List ℕ) (a : Answer) (r : Result Answer E) → asked ≡ asked_of m.fill m.options → spec ≡ made_spec m.n → imp ≡ made_imp m.n
-      → Judges asked spec imp a.status a.report.items → IfOk r (λ h. h.status ≡ a.status) → IfOk r (λ h. h.report.items ≡ made_text m.n a.status a.report.items)
+  pub judged_made : (requested : TextComparison) (spec imp : List ℕ) (a : Answer) (r : Result Answer E) → requested ≡ request_for m.fill m.options → spec ≡ made_spec m.n → imp ≡ made_imp m.n
+      → Judges requested spec imp a.status a.report.items → IfOk r (λ h. h.status ≡ a.status) → IfOk r (λ h. h.report.items ≡ made_text m.n a.status a.report.items)
       → IfOk r (λ h. JudgesMade m h.status h.report.items)
-  judged_made asked spec imp a (Err e) x y z judges status text = tt
-  judged_made asked spec imp a (Ok h) x y z judges status text =
-      let of_asked = subst (λ q. Judges q spec imp a.status a.report.items) x judges in
-      let of_spec = subst (λ s. Judges (asked_of m.fill m.options) s imp a.status a.report.items) y of_asked in
-      let of_imp = subst (λ i. Judges (asked_of m.fill m.options) (made_spec m.n) i a.status a.report.items) z of_spec in
-      let of_status = subst (λ n. Judges (asked_of m.fill m.options) (made_spec m.n) (made_imp m.n) n a.report.items) (sym status) of_imp in
+  judged_made requested spec imp a (Err e) x y z judges status text = tt
+  judged_made requested spec imp a (Ok h) x y z judges status text =
+      let of_requested = subst (λ q. Judges q spec imp a.status a.report.items) x judges in
+      let of_spec = subst (λ s. Judges (request_for m.fill m.options) s imp a.status a.report.items) y of_requested in
+      let of_imp = subst (λ i. Judges (request_for m.fill m.options) (made_spec m.n) i a.status a.report.items) z of_spec in
+      let of_status = subst (λ n. Judges (request_for m.fill m.options) (made_spec m.n) (made_imp m.n) n a.report.items) (sym status) of_imp in
       (a.report.items, of_status, text ∙ ap (λ n. made_text m.n n a.report.items) (sym status))

@@ -1,25 +1,25 @@
--- Files that never fail and tell what they hold.
+-- Files that never fail and say what they hold.
 use Rattle.std.proofs.Common.{◌≡◌, ◌⊎◌, ℕ, List, refl, arith, inl, inr}
 use Rattle.bb_outside.specs.Counts.{Reads, Rose}
 use Rattle.bb_outside.specs.Inside.QuietFiles.{ReadFiles, holds_of}
 use Rattle.bb_outside.specs.Inside.MemFiles.{text_under}
-use Rattle.bb_ladder.specs.CallRefusals.{AreTold}
-use Rattle.bb_ladder.specs.Sources.{Given, Held, MayHaveFailed, Source}
+use Rattle.bb_ladder.specs.CallRefusals.{AreReported}
+use Rattle.bb_ladder.specs.Sources.{Given, Held, MayHaveFailed, TextSource}
 
 -- a count that stays 0 did not rise
 pub never_rose : Rose 0 0 → ⊥
 never_rose rose = omega (arith, rose)
 
-pub never_failed : (from : Source) (before after : Reads) → before.faults ≡ 0 → after.faults ≡ 0 → MayHaveFailed from before after → ⊥
+pub never_failed : (from : TextSource) (before after : Reads) → before.faults ≡ 0 → after.faults ≡ 0 → MayHaveFailed from before after → ⊥
 never_failed Held before after zero still rose = omega (arith, zero, still, rose)
 never_failed Given before after zero still failed = failed
 
--- it is told what is held of any file
+-- it is known what is held of any file
 pub all_held : (words : List (List ℕ)) (files : ReadFiles) (before after : Reads)
-    → AreTold (record { words = words; holds = holds_of files; before = before; after = after }) Held
+    → AreReported (record { words = words; holds = holds_of files; before = before; after = after }) Held
 all_held words files before after = record {
-  comparison = λ q asks. (text_under files.files q.spec, refl, λ short. (text_under files.files q.imp, (refl, refl)));
-  refutation = λ f asks. (text_under files.files f.cnf, refl, λ short. (text_under files.files f.adds, (refl, refl)));
+  comparison = λ q requests. (text_under files.files q.spec, refl, λ short. (text_under files.files q.imp, (refl, refl)));
+  refutation = λ f requests. (text_under files.files f.cnf, refl, λ short. (text_under files.files f.adds, (refl, refl)));
 }
 
 -- of two facts or another, the first or the other

@@ -8,9 +8,9 @@ use Rattle.bb_rup.specs.Dimacs.{additions_of, dimacs_of}
 use Rattle.bb_rup.specs.Laws.{AdditionsLaws}
 use Rattle.bb_rup.specs.declared.fault.RupFault.{RupFault}
 use Rattle.bb_rup.specs.declared.fault.RupFault.TheVariants.{NoMemory}
-use Rattle.bb_texts.specs.Refusals.{refusal}
+use Rattle.bb_frontend.specs.Refusals.{refusal}
 use Rattle.bb_verdict.specs.declared.answer.Answer.{Answer}
-use Rattle.bb_ladder.specs.Refutations.{rup_words, no_line, AreRead, IsCheckRefusal, OfFormula, OfAdditions, Tells, Yes, No, Checks, Faulty, Checked, Refutes, FailsAt, SaysWhether, CheckLaws}
+use Rattle.bb_ladder.specs.Refutations.{rup_words, no_line, AreRead, IsCheckRefusal, OfFormula, OfAdditions, IsRefutationReport, Yes, No, Checks, Faulty, Checked, Refutes, FailsAt, ReportsWhether, CheckLaws}
 
 -- a text is read once
 ok_same : {A : Type 0} (a b : A) (r : Result A RupFault) → r ≡ Ok a → r ≡ Ok b → a ≡ b
@@ -27,10 +27,10 @@ ok_err a b r x y = no (sym x ∙ y)
 
 -- texts that are read are not refused
 read_unrefused : (first second line : List ℕ) (formula : Formula) (adds : List (List Lit)) → AreRead first second formula adds → IsCheckRefusal first second line → ⊥
-read_unrefused first second line formula adds read (OfFormula fault says t) = ok_err formula fault (dimacs_of first) read.says_formula says
-read_unrefused first second line formula adds read (OfAdditions other fault says wrong t) =
-    let same : other ≡ formula = ok_same other formula (dimacs_of first) says read.says_formula in
-    ok_err adds fault (additions_of second formula.vars) read.says_additions (subst (λ (z : Formula). additions_of second z.vars ≡ Err fault) same wrong)
+read_unrefused first second line formula adds read (OfFormula fault reports t) = ok_err formula fault (dimacs_of first) read.reports_formula reports
+read_unrefused first second line formula adds read (OfAdditions other fault reports wrong t) =
+    let same : other ≡ formula = ok_same other formula (dimacs_of first) reports read.reports_formula in
+    ok_err adds fault (additions_of second formula.vars) read.reports_additions (subst (λ (z : Formula). additions_of second z.vars ≡ Err fault) same wrong)
 
 -- they have one refusal
 one_refusal : (first second line other : List ℕ) → IsCheckRefusal first second line → IsCheckRefusal first second other → line ≡ other
@@ -44,33 +44,33 @@ one_refusal first second line other (OfAdditions f a x w t) (OfAdditions g b y v
 
 -- and are read once
 same_formula : (first second : List ℕ) (f g : Formula) (a b : List (List Lit)) → AreRead first second f a → AreRead first second g b → f ≡ g
-same_formula first second f g a b x y = ok_same f g (dimacs_of first) x.says_formula y.says_formula
+same_formula first second f g a b x y = ok_same f g (dimacs_of first) x.reports_formula y.reports_formula
 
 same_adds : (first second : List ℕ) (f g : Formula) (a b : List (List Lit)) → AreRead first second f a → AreRead first second g b → a ≡ b
 same_adds first second f g a b x y =
-    ok_same a b (additions_of second f.vars) x.says_additions (subst (λ (z : Formula). additions_of second z.vars ≡ Ok b) (sym (same_formula first second f g a b x y)) y.says_additions)
+    ok_same a b (additions_of second f.vars) x.reports_additions (subst (λ (z : Formula). additions_of second z.vars ≡ Ok b) (sym (same_formula first second f g a b x y)) y.reports_additions)
 
 module _ (laws : AdditionsLaws) where
-  -- what is told of additions is one
-  tells_one : (clauses adds : List (List Lit)) (status other : ℕ) (text told : List ℕ) → Tells clauses adds status text → Tells clauses adds other told → (status ≡ other) × (text ≡ told)
-  tells_one clauses adds status other text told (Yes x s t) (Yes y u v) = (s ∙ sym u, t ∙ sym v)
-  tells_one clauses adds status other text told (Yes x s t) (No n y u v) = absurd (laws.not_both clauses adds n x y)
-  tells_one clauses adds status other text told (No n x s t) (Yes y u v) = absurd (laws.not_both clauses adds n y x)
-  tells_one clauses adds status other text told (No n x s t) (No m y u v) = (s ∙ sym u, t ∙ ap no_line (laws.one_number clauses adds n m x y) ∙ sym v)
+  -- what is reported of additions is one
+  reports_one : (clauses adds : List (List Lit)) (status other : ℕ) (text reported : List ℕ) → IsRefutationReport clauses adds status text → IsRefutationReport clauses adds other reported → (status ≡ other) × (text ≡ reported)
+  reports_one clauses adds status other text reported (Yes x s t) (Yes y u v) = (s ∙ sym u, t ∙ sym v)
+  reports_one clauses adds status other text reported (Yes x s t) (No n y u v) = absurd (laws.not_both clauses adds n x y)
+  reports_one clauses adds status other text reported (No n x s t) (Yes y u v) = absurd (laws.not_both clauses adds n y x)
+  reports_one clauses adds status other text reported (No n x s t) (No m y u v) = (s ∙ sym u, t ∙ ap no_line (laws.one_number clauses adds n m x y) ∙ sym v)
 
-  moved : (first second : List ℕ) (f g : Formula) (a b : List (List Lit)) (status : ℕ) (text : List ℕ) → AreRead first second f a → AreRead first second g b → Tells g.clauses b status text → Tells f.clauses a status text
-  moved first second f g a b status text x y tells =
-      subst (λ (z : Formula). Tells z.clauses a status text) (sym (same_formula first second f g a b x y)) (subst (λ z. Tells g.clauses z status text) (sym (same_adds first second f g a b x y)) tells)
+  moved : (first second : List ℕ) (f g : Formula) (a b : List (List Lit)) (status : ℕ) (text : List ℕ) → AreRead first second f a → AreRead first second g b → IsRefutationReport g.clauses b status text → IsRefutationReport f.clauses a status text
+  moved first second f g a b status text x y is_report =
+      subst (λ (z : Formula). IsRefutationReport z.clauses a status text) (sym (same_formula first second f g a b x y)) (subst (λ z. IsRefutationReport g.clauses z status text) (sym (same_adds first second f g a b x y)) is_report)
 
-  one : (first second : List ℕ) (status other : ℕ) (text told : List ℕ) → Checks first second status text → Checks first second other told → (status ≡ other) × (text ≡ told)
-  one first second status other text told (Faulty r s) (Faulty q u) = (s ∙ sym u, one_refusal first second text told r q)
-  one first second status other text told (Faulty r s) (Checked g b y v) = absurd (read_unrefused first second text g b y r)
-  one first second status other text told (Checked f a x t) (Faulty q u) = absurd (read_unrefused first second told f a x q)
-  one first second status other text told (Checked f a x t) (Checked g b y v) =
-      tells_one f.clauses a status other text told t (moved first second f g a b other told x y v)
+  one : (first second : List ℕ) (status other : ℕ) (text reported : List ℕ) → Checks first second status text → Checks first second other reported → (status ≡ other) × (text ≡ reported)
+  one first second status other text reported (Faulty r s) (Faulty q u) = (s ∙ sym u, one_refusal first second text reported r q)
+  one first second status other text reported (Faulty r s) (Checked g b y v) = absurd (read_unrefused first second text g b y r)
+  one first second status other text reported (Checked f a x t) (Faulty q u) = absurd (read_unrefused first second reported f a x q)
+  one first second status other text reported (Checked f a x t) (Checked g b y v) =
+      reports_one f.clauses a status other text reported t (moved first second f g a b other reported x y v)
 
-  tells_some : (clauses adds : List (List Lit)) → (status : ℕ) × (text : List ℕ) × Tells clauses adds status text
-  tells_some clauses adds = elim (laws.either clauses adds) [
+  reports_some : (clauses adds : List (List Lit)) → (status : ℕ) × (text : List ℕ) × IsRefutationReport clauses adds status text
+  reports_some clauses adds = elim (laws.either clauses adds) [
     | inl good ↦ (0, codes "rup yes\n", Yes good refl refl)
     | inr bad ↦ (1, no_line bad.0, No bad.0 bad.1 refl refl)
   ]
@@ -81,7 +81,7 @@ module _ (laws : AdditionsLaws) where
       with_formula : (formula : Formula) → dimacs_of first ≡ Ok formula → (r : Result (List (List Lit)) RupFault) → additions_of second formula.vars ≡ r → (status : ℕ) × (text : List ℕ) × Checks first second status text
       with_formula formula e (Err fault) g = (2, refusal (codes "rup") (rup_words fault), Faulty (OfAdditions formula fault e g refl) refl)
       with_formula formula e (Ok adds) g =
-          let t = tells_some formula.clauses adds in (t.0, t.1, Checked formula adds (record { says_formula = e; says_additions = g }) t.2)
+          let t = reports_some formula.clauses adds in (t.0, t.1, Checked formula adds (record { reports_formula = e; reports_additions = g }) t.2)
 
       by : (r : Result Formula RupFault) → dimacs_of first ≡ r → (status : ℕ) × (text : List ℕ) × Checks first second status text
       by (Err fault) e = (2, refusal (codes "cnf") (rup_words fault), Faulty (OfFormula fault e refl) refl)
@@ -106,11 +106,11 @@ module _ (laws : AdditionsLaws) where
   stays_refused first second status text line (Faulty r s) is = (s, one_refusal first second text line r is)
   stays_refused first second status text line (Checked f a x t) is = absurd (read_unrefused first second line f a x is)
 
-  decided : (first second : List ℕ) (formula : Formula) (adds : List (List Lit)) (status : ℕ) (text : List ℕ) → AreRead first second formula adds → Checks first second status text → SaysWhether formula adds status
+  decided : (first second : List ℕ) (formula : Formula) (adds : List (List Lit)) (status : ℕ) (text : List ℕ) → AreRead first second formula adds → Checks first second status text → ReportsWhether formula adds status
   decided first second formula adds status text read (Faulty r s) = absurd (read_unrefused first second text formula adds read r)
   decided first second formula adds status text read (Checked f a x t) = by (moved first second formula f adds a status text read x t)
     where
-      by : Tells formula.clauses adds status text → SaysWhether formula adds status
+      by : IsRefutationReport formula.clauses adds status text → ReportsWhether formula adds status
       by (Yes y s u) = inl (s, y)
       by (No n y s u) = inr (s, (λ succeed. laws.not_both formula.clauses adds n succeed y))
 
@@ -134,15 +134,15 @@ pub additions_refused : {E : Type 0} (formula : Formula) (second : List ℕ) (fa
     → IfOk result (λ a. a.status ≡ 2) → IfOk result (λ a. a.report.items ≡ refusal (codes "rup") (rup_words fault)) → IfOk result (λ a. fault ≡ NoMemory → ⊥)
     → IfOk result (λ a. (first : List ℕ) → dimacs_of first ≡ Ok formula → Checks first second a.status a.report.items)
 additions_refused formula second fault (inl none) (Ok a) s t never = absurd (never none)
-additions_refused formula second fault (inr is) (Ok a) s t never = λ first says. Faulty (OfAdditions formula fault says is t) s
+additions_refused formula second fault (inr is) (Ok a) s t never = λ first reports. Faulty (OfAdditions formula fault reports is t) s
 additions_refused formula second fault may (Err e) s t never = s
 
 pub checked : {E : Type 0} (formula : Formula) (second : List ℕ) (adds : List (List Lit)) → additions_of second formula.vars ≡ Ok adds → (result : Result Answer E)
-    → IfOk result (λ a. Tells formula.clauses adds a.status a.report.items) → IfOk result (λ a. (first : List ℕ) → dimacs_of first ≡ Ok formula → Checks first second a.status a.report.items)
-checked formula second adds read (Ok a) tells = λ first says. Checked formula adds (record { says_formula = says; says_additions = read }) tells
+    → IfOk result (λ a. IsRefutationReport formula.clauses adds a.status a.report.items) → IfOk result (λ a. (first : List ℕ) → dimacs_of first ≡ Ok formula → Checks first second a.status a.report.items)
+checked formula second adds read (Ok a) is_report = λ first reports. Checked formula adds (record { reports_formula = reports; reports_additions = read }) is_report
 checked formula second adds read (Err e) h = h
 
-pub no_told : {E : Type 0} (clauses adds : List (List Lit)) (n : ℕ) (result : Result Answer E) → IsFirstWithout clauses adds n
-    → IfOk result (λ a. (a.status ≡ 1) × (a.report.items ≡ no_line n)) → IfOk result (λ a. Tells clauses adds a.status a.report.items)
-no_told clauses adds n (Ok a) is told = No n is told.0 told.1
-no_told clauses adds n (Err e) is told = told
+pub no_reported : {E : Type 0} (clauses adds : List (List Lit)) (n : ℕ) (result : Result Answer E) → IsFirstWithout clauses adds n
+    → IfOk result (λ a. (a.status ≡ 1) × (a.report.items ≡ no_line n)) → IfOk result (λ a. IsRefutationReport clauses adds a.status a.report.items)
+no_reported clauses adds n (Ok a) is reported = No n is reported.0 reported.1
+no_reported clauses adds n (Err e) is reported = reported

@@ -1,5 +1,6 @@
 -- A call of the program as it is seen from outside: its words, what the files hold under their names, and the reads
--- before the call and after it.
+-- before the call and after it. It is one value, so that each clause of the top call differs from its neighbour only in
+-- what it says of two texts.
 use Rattle.std.specs.Prelude.{ℕ, List, map, Option, String, string_bytes}
 use Rattle.bb_outside.specs.Counts.{Reads}
 

@@ -1,17 +1,16 @@
 -- A made pair: two texts of known answer that the call makes itself, so that it reads no file. Its report begins with
--- the width of its adders and how many inputs they have. Where the two texts were refused, the line that says so would
--- stand alone.
+-- the width of its adders and how many inputs they have. Where the two texts were refused, that line would come alone.
 use Rattle.std.specs.Prelude.{◌≡◌, ℕ, ◌==◌, Bool, if◌then◌else◌, List, [], ◌++◌, length, Option, None, Some, codes}
 use Rattle.std.specs.Prelude.{decimal}
 use Rattle.bb_make.specs.Adders.{inputs, made_imp, made_spec}
 use Rattle.bb_options.specs.declared.options.Options.{Options}
-use Rattle.bb_words.specs.Asked.{MadePair, made_asked}
-use Rattle.bb_verdict.specs.declared.asked.Asked.{Asked as TextsAsked}
+use Rattle.bb_args.specs.Requests.{MadePair, requested_made_pair}
+use Rattle.bb_verdict.specs.declared.requested.TextComparison.{TextComparison}
 use Rattle.bb_verdict.specs.TextAnswers.{Judges}
 
--- what is asked of its two texts: the module add is the top of both, and all outputs have to agree everywhere
-abbrev pub asked_of : Bool → Options → TextsAsked
-asked_of fill options = record {
+-- the options of its comparison: the module add is the top of both, and all outputs have to be equal everywhere
+abbrev pub request_for : Bool → Options → TextComparison
+request_for fill options = record {
   spec_top = Some (codes "add");
   imp_top = Some (codes "add");
   care = None;
@@ -28,15 +27,15 @@ abbrev pub head_by : Option MadePair → List ℕ
 head_by None = []
 head_by (Some m) = made_head m.n
 
--- what stands before the report of a call with these words
+-- what comes before the report of a call with these words
 abbrev pub head_of : List (List ℕ) → List ℕ
-head_of words = head_by (made_asked words)
+head_of words = head_by (requested_made_pair words)
 
--- what is written where this is told of the two texts: a refusal alone, a report behind its head
+-- what is written where this is reported of the two texts: a refusal alone, a report after its head
 abbrev pub made_text : ℕ → ℕ → List ℕ → List ℕ
-made_text n status told = if status == 2 then told else made_head n ++ told
+made_text n status reported = if status == 2 then reported else made_head n ++ reported
 
--- what may be answered to a made pair
+-- the possible answers to a made pair
 abbrev pub JudgesMade : MadePair → ℕ → List ℕ → Type 0
-JudgesMade m status text = (told : List ℕ)
-    × Judges (asked_of m.fill m.options) (made_spec m.n) (made_imp m.n) status told × (text ≡ made_text m.n status told)
+JudgesMade m status text = (reported : List ℕ)
+    × Judges (request_for m.fill m.options) (made_spec m.n) (made_imp m.n) status reported × (text ≡ made_text m.n status reported)

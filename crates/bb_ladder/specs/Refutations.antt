@@ -9,9 +9,9 @@ use Rattle.bb_rup.specs.Additions.{IsFirstWithout, Succeed}
 use Rattle.bb_rup.specs.Dimacs.{additions_of, dimacs_of}
 use Rattle.bb_rup.specs.declared.fault.RupFault.{RupFault}
 use Rattle.bb_rup.specs.declared.fault.RupFault.TheVariants.{Header, Token, Literal, Unclosed, Count, NoMemory}
-use Rattle.bb_texts.specs.Refusals.{at_line, refusal}
+use Rattle.bb_frontend.specs.Refusals.{at_line, refusal}
 
--- what is wrong with one of the texts; for want of memory there is no word
+-- the fault of one of the texts; lack of memory has no words
 abbrev pub rup_words : RupFault → List ℕ
 rup_words (Header line) = at_line (codes "header") line
 rup_words (Token line) = at_line (codes "token") line
@@ -24,10 +24,10 @@ rup_words NoMemory = []
 abbrev pub no_line : ℕ → List ℕ
 no_line n = codes "rup no " ++ decimal n ++ codes "\n"
 
--- the first text says this formula, and the second these additions over its variables
+-- the first text is this formula, and the second these additions over its variables
 pub record AreRead (first second : List ℕ) (formula : Formula) (adds : List (List Lit)) : Type 0 where
-  pub says_formula : dimacs_of first ≡ Ok formula
-  pub says_additions : additions_of second formula.vars ≡ Ok adds
+  pub reports_formula : dimacs_of first ≡ Ok formula
+  pub reports_additions : additions_of second formula.vars ≡ Ok adds
 
 -- it is the line of the first fault of the two texts: that of the first text comes before that of the second
 pub data IsCheckRefusal (first second line : List ℕ) : Type 0 where
@@ -37,16 +37,16 @@ pub data IsCheckRefusal (first second line : List ℕ) : Type 0 where
       → additions_of second formula.vars ≡ Err fault
       → line ≡ refusal (codes "rup") (rup_words fault) → IsCheckRefusal first second line
 
--- what is told of additions to clauses
-pub data Tells (clauses adds : List (List Lit)) (status : ℕ) (text : List ℕ) : Type 0 where
-  Yes : Succeed clauses adds → status ≡ 0 → text ≡ codes "rup yes\n" → Tells clauses adds status text
-  No : (n : ℕ) → IsFirstWithout clauses adds n → status ≡ 1 → text ≡ no_line n → Tells clauses adds status text
+-- what is reported of additions to clauses
+pub data IsRefutationReport (clauses adds : List (List Lit)) (status : ℕ) (text : List ℕ) : Type 0 where
+  Yes : Succeed clauses adds → status ≡ 0 → text ≡ codes "rup yes\n" → IsRefutationReport clauses adds status text
+  No : (n : ℕ) → IsFirstWithout clauses adds n → status ≡ 1 → text ≡ no_line n → IsRefutationReport clauses adds status text
 
--- what may be answered to the two texts
+-- the possible answers to the two texts
 pub data Checks (first second : List ℕ) (status : ℕ) (text : List ℕ) : Type 0 where
   Faulty : IsCheckRefusal first second text → status ≡ 2 → Checks first second status text
   Checked : (formula : Formula) (adds : List (List Lit)) → AreRead first second formula adds
-      → Tells formula.clauses adds status text → Checks first second status text
+      → IsRefutationReport formula.clauses adds status text → Checks first second status text
 
 -- the second text refutes the first: its additions succeed, so no assignment makes all clauses true
 abbrev pub Refutes : List ℕ → List ℕ → Type 0
@@ -59,16 +59,16 @@ FailsAt first second n = (formula : Formula) × (adds : List (List Lit)) × AreR
     × IsFirstWithout formula.clauses adds n
 
 -- the status says whether additions succeed
-abbrev pub SaysWhether : Formula → List (List Lit) → ℕ → Type 0
-SaysWhether formula adds status = ((status ≡ 0) × Succeed formula.clauses adds)
+abbrev pub ReportsWhether : Formula → List (List Lit) → ℕ → Type 0
+ReportsWhether formula adds status = ((status ≡ 0) × Succeed formula.clauses adds)
     ⊎ ((status ≡ 1) × (Succeed formula.clauses adds → ⊥))
 
 -- laws that a reader expects
 
 pub record CheckLaws : Type 0 where
   -- the answer to two texts is one, and there is one
-  pub one : (first second : List ℕ) (status other : ℕ) (text told : List ℕ) → Checks first second status text
-      → Checks first second other told → (status ≡ other) × (text ≡ told)
+  pub one : (first second : List ℕ) (status other : ℕ) (text reported : List ℕ) → Checks first second status text
+      → Checks first second other reported → (status ≡ other) × (text ≡ reported)
   pub some : (first second : List ℕ) → (status : ℕ) × (text : List ℕ) × Checks first second status text
   -- what a status says, and that it comes where it is due
   pub yes : (first second : List ℕ) (status : ℕ) (text : List ℕ) → Checks first second status text → status ≡ 0
@@ -80,7 +80,7 @@ pub record CheckLaws : Type 0 where
   pub stays_refused : (first second : List ℕ) (status : ℕ) (text line : List ℕ) → Checks first second status text
       → IsCheckRefusal first second line → (status ≡ 2) × (text ≡ line)
   pub decided : (first second : List ℕ) (formula : Formula) (adds : List (List Lit)) (status : ℕ) (text : List ℕ)
-      → AreRead first second formula adds → Checks first second status text → SaysWhether formula adds status
+      → AreRead first second formula adds → Checks first second status text → ReportsWhether formula adds status
   -- it is no status of a comparison that is left open, or of a file that was not read
   pub small : (first second : List ℕ) (status : ℕ) (text : List ℕ) → Checks first second status text
       → (status ≡ 3 → ⊥) × (status ≡ 4 → ⊥)

@@ -1,17 +1,20 @@
-//! `run` over files and a sink that never fail.
+//! `run` over files and a sink that never fail. Such files count their reads and keep no list of them, since a caller
+//! over any files is promised that the count rises; what they hold is known, so the clauses here speak of that alone.
+//! The sink keeps nothing, so a clause on the report says only that there is one.
+
 ghost use Rattle.std.specs.Prelude.{◌≡◌, ◌≢◌, ◌<◌, ◌≤◌, ◌⊎◌, ℕ, List, None, Some, map, string_bytes};
 ghost use Rattle.bb_cnf.specs.Clauses.{Formula};
 ghost use Rattle.bb_cnf.specs.declared.clauses.Lit.{Lit};
 ghost use Rattle.bb_outside.specs.Inside.QuietFiles.{holds_of, reads_of};
-ghost use Rattle.bb_words.specs.Asked.{MadePair, made_asked, rup_asked};
+ghost use Rattle.bb_args.specs.Requests.{MadePair, requested_made_pair, requested_refutation};
 ghost use Rattle.bb_ladder.specs.Answers.{IsVerdict, MayAnswer};
 ghost use Rattle.bb_ladder.specs.CallRefusals.{IsCallRefusal};
 ghost use Rattle.bb_ladder.specs.Calls.{called};
 ghost use Rattle.bb_ladder.specs.Clauses.{OfRefutations, OfTexts, OfWholeRefutations, OfWholeTexts};
-ghost use Rattle.bb_ladder.specs.Refutations.{AreRead, FailsAt, Refutes, SaysWhether};
+ghost use Rattle.bb_ladder.specs.Refutations.{AreRead, FailsAt, Refutes, ReportsWhether};
 ghost use Rattle.bb_verdict.specs.OpenReports.{IsOpenReport};
 ghost use Rattle.bb_verdict.specs.ShownMistakes.{AreShown};
-ghost use Rattle.bb_ladder.specs.Sources.{Held, MayHaveFailed, Source};
+ghost use Rattle.bb_ladder.specs.Sources.{Held, MayHaveFailed, TextSource};
 ghost use Rattle.bb_verdict.specs.TextPairs.{AreDecided, AreLeftOpen, AreRefuted, AreStayingOpen, DoFit};
 ghost use Rattle.bb_verdict.specs.TextPairs.{IsFinishedReport};
 
@@ -19,9 +22,9 @@ use crate::running::run;
 use bb_outside::{QuietFiles, QuietSink};
 use std::alloc::Global;
 
-/// [`run`] for a caller who wants the verdict alone and has the texts in memory. Nothing outside can fail, so statuses
-/// 4 and 6 do not come, and none was counted (`calm`). What each status says of the texts is what it says there; the
-/// report is made and not kept.
+/// [`run`] for a caller who has the texts in memory and wants the status alone. Nothing outside can fail, so statuses 4
+/// and 6 do not come, and no failure is counted (`calm`). Each status means what it means in [`run`]; the report is
+/// made and not kept.
 pub fn run_quietly(
     alloc: Global,
     words: &[String],
@@ -30,40 +33,40 @@ pub fn run_quietly(
 ) -> u8
     ensures status { result ≤ 5 }
 
-    // No file is blamed, and no sink; and no read may have failed, as some clauses ask.
-    ensures calm { (from : Source) → MayHaveFailed from (reads_of files.old) (reads_of files.new) → ⊥ }
+    // Neither a file nor the sink is blamed, and no read may have failed, which is a premise of some clauses.
+    ensures calm { (from : TextSource) → MayHaveFailed from (reads_of files.old) (reads_of files.new) → ⊥ }
     ensures given { result ≢ 4 }
     ensures taken { result ≢ 6 }
 
-    // The status is that of a report that may be answered, unless memory runs out.
+    // The status is that of some possible report, unless memory runs out.
     ensures whole { result < 5
         → (text : List ℕ) × MayAnswer (called words.now holds_of reads_of files.old files.new) result text }
 
     // Statuses 0, 1 and 3 come only of texts in which nothing is at fault and that fit.
     ensures fit { IsVerdict result → OfTexts (called words.now holds_of reads_of files.old files.new) DoFit }
 
-    // The design is finished by tables whose contents make every output and every next state agree on every vector,
-    // where a care output is asked for at which it is 1. So the two behave alike for ever, whatever events come.
+    // Tables exist with which every output and every next state is equal at every vector; with a care output, at every
+    // vector at which it is 1. So the two behave alike for ever, whatever events come.
     ensures repairable { result ≡ 0
-        → OfTexts (called words.now holds_of reads_of files.old files.new) (λ asked spec imp.
-        (text : List ℕ) × IsFinishedReport asked spec imp text) }
+        → OfTexts (called words.now holds_of reads_of files.old files.new) (λ requested spec imp.
+        (text : List ℕ) × IsFinishedReport requested spec imp text) }
 
-    // No contents of the boxes make every output and every next state agree on every such vector, and a report shows
+    // No contents of the boxes make every output and every next state equal at every such vector, and a report shows
     // how.
     ensures error { result ≡ 1 → OfTexts (called words.now holds_of reads_of files.old files.new) AreRefuted }
-    ensures shown { result ≡ 1 → OfTexts (called words.now holds_of reads_of files.old files.new) (λ asked spec imp.
-        (text : List ℕ) × AreShown asked spec imp text) }
+    ensures shown { result ≡ 1 → OfTexts (called words.now holds_of reads_of files.old files.new) (λ requested spec imp.
+        (text : List ℕ) × AreShown requested spec imp text) }
 
-    // The question is left open only where each check that is asked for leaves it open; where it stays open with each,
-    // it is, and where one decides, it is not.
+    // An open answer means that each requested check leaves the question open; where it stays open with each, the
+    // answer is open, and where one decides, it is not.
     ensures left_open { result ≡ 3 → OfTexts (called words.now holds_of reads_of files.old files.new) AreLeftOpen }
     ensures open_report { result ≡ 3
-        → OfTexts (called words.now holds_of reads_of files.old files.new) (λ asked spec imp.
-        (text : List ℕ) × IsOpenReport asked spec imp text) }
-    ensures stays_open { OfWholeTexts (called words.now holds_of reads_of files.old files.new) (λ asked spec imp.
-        AreStayingOpen asked spec imp → (result ≡ 3) ⊎ (result ≡ 5)) }
-    ensures decided { OfWholeTexts (called words.now holds_of reads_of files.old files.new) (λ asked spec imp.
-        AreDecided asked spec imp → ((result ≡ 0) ⊎ (result ≡ 1)) ⊎ (result ≡ 5)) }
+        → OfTexts (called words.now holds_of reads_of files.old files.new) (λ requested spec imp.
+        (text : List ℕ) × IsOpenReport requested spec imp text) }
+    ensures stays_open { OfWholeTexts (called words.now holds_of reads_of files.old files.new) (λ requested spec imp.
+        AreStayingOpen requested spec imp → (result ≡ 3) ⊎ (result ≡ 5)) }
+    ensures decided { OfWholeTexts (called words.now holds_of reads_of files.old files.new) (λ requested spec imp.
+        AreDecided requested spec imp → ((result ≡ 0) ⊎ (result ≡ 1)) ⊎ (result ≡ 5)) }
 
     // With `--rup` the status says whether each addition follows.
     ensures refuted_yes { result ≡ 0 → OfRefutations (called words.now holds_of reads_of files.old files.new) Refutes }
@@ -72,8 +75,8 @@ pub fn run_quietly(
         (n : ℕ) × FailsAt first second n) }
     ensures refuted { OfWholeRefutations (called words.now holds_of reads_of files.old files.new) (λ first second.
         (formula : Formula) (adds : List (List Lit)) → AreRead first second formula adds
-        → SaysWhether formula adds result ⊎ (result ≡ 5)) }
-    ensures open_compares { result ≡ 3 → rup_asked (map string_bytes words.now) ≡ None }
+        → ReportsWhether formula adds result ⊎ (result ≡ 5)) }
+    ensures open_compares { result ≡ 3 → requested_refutation (map string_bytes words.now) ≡ None }
 
     // Status 2 comes only where the call is refused, and then it comes.
     ensures refused { result ≡ 2
@@ -82,8 +85,8 @@ pub fn run_quietly(
         → IsCallRefusal (called words.now holds_of reads_of files.old files.new) Held line
         → (result ≡ 2) ⊎ (result ≡ 5) }
 
-    // Of a made pair no file is read.
-    ensures reads_nothing { (m : MadePair) → made_asked (map string_bytes words.now) ≡ Some m
+    // For a made pair no file is read.
+    ensures reads_nothing { (m : MadePair) → requested_made_pair (map string_bytes words.now) ≡ Some m
         → reads_of files.new ≡ reads_of files.old }
 
     // What the files hold stays.

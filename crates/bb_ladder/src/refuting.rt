@@ -1,24 +1,25 @@
-//! The answer to a formula and clause additions: both texts are read, and each addition is checked.
+//! The answer to a formula and clause additions. Both texts are read and judged as two texts of a comparison are, so a
+//! second kind of request is one more case of `MayAnswer`, and no clause on comparisons changes.
 
 ghost use Rattle.std.specs.Prelude.{◌≡◌, ◌<◌, ◌++◌, ℕ, List, Ok, codes, length, IfOk, OnOk};
-ghost use Rattle.bb_cnf.specs.Clauses.{IsWithin, lists_of};
+ghost use Rattle.bb_cnf.specs.Clauses.{HasVariablesWithin, lists_of};
 ghost use Rattle.bb_rup.specs.Dimacs.{dimacs_of};
 ghost use Rattle.bb_rup.specs.declared.fault.RupFault.{RupFault};
-ghost use Rattle.bb_texts.specs.declared.limit.TheConstants.{READ_LIMIT};
-ghost use Rattle.bb_texts.specs.Refusals.{refusal};
-ghost use Rattle.bb_ladder.specs.Refutations.{CheckLaws, Checks, FailsAt, IsCheckRefusal, Refutes, Tells, no_line};
+ghost use Rattle.bb_frontend.specs.declared.limit.TheConstants.{READ_LIMIT};
+ghost use Rattle.bb_frontend.specs.Refusals.{refusal};
+ghost use Rattle.bb_ladder.specs.Refutations.{CheckLaws, Checks, FailsAt, IsCheckRefusal, Refutes, IsRefutationReport, no_line};
 ghost use Rattle.bb_ladder.specs.Refutations.{rup_words};
 
 use bb_bits::NoMemory;
 use bb_cnf::{Cnf, Lit};
+use bb_frontend::push_at_line;
 use bb_rup::{RupAnswer, RupFault, additions, dimacs, rup};
-use bb_texts::push_at_line;
 use bb_verdict::{Answer, say};
 use itoa::Buffer;
 use smallvec::SmallVec;
 use std::alloc::Global;
 
-// Appends the words for a fault; for want of memory there are none.
+// Lack of memory is no fault of a text, so there are no words for it.
 fn push_fault(text: &mut Vec<u8>, fault: &RupFault) -> Result<(), NoMemory>
     ensures words { OnOk result (text.new.items ≡ text.old.items ++ rup_words fault.now) }
     ensures memory { OnOk result (fault.now ≡ RupFault.NoMemory → ⊥) }
@@ -33,7 +34,6 @@ fn push_fault(text: &mut Vec<u8>, fault: &RupFault) -> Result<(), NoMemory>
     }
 }
 
-// Appends the line that refuses one of the texts.
 fn push_line(text: &mut Vec<u8>, which: &str, fault: &RupFault) -> Result<(), NoMemory>
     ensures line { OnOk result (text.new.items ≡ text.old.items ++ refusal which.now (rup_words fault.now)) }
     ensures memory { OnOk result (fault.now ≡ RupFault.NoMemory → ⊥) }
@@ -46,7 +46,6 @@ fn push_line(text: &mut Vec<u8>, which: &str, fault: &RupFault) -> Result<(), No
     Ok(())
 }
 
-// The answer that refuses one of the texts.
 fn refuse(alloc: Global, which: &str, fault: &RupFault) -> Result<Answer, NoMemory>
     ensures status { IfOk result (λ answer. answer.status ≡ 2) }
     ensures report { IfOk result (λ answer. answer.report.items ≡ refusal which.now (rup_words fault.now)) }
@@ -57,7 +56,7 @@ fn refuse(alloc: Global, which: &str, fault: &RupFault) -> Result<Answer, NoMemo
     Ok(Answer { status: 2, report })
 }
 
-// The answer for the first addition that does not follow.
+// `number` counts from 1.
 fn say_no(alloc: Global, number: u32) -> Result<Answer, NoMemory>
     ensures { IfOk result (λ answer. (answer.status ≡ 1) × (answer.report.items ≡ no_line number)) }
 {
@@ -69,12 +68,11 @@ fn say_no(alloc: Global, number: u32) -> Result<Answer, NoMemory>
     Ok(Answer { status: 1, report })
 }
 
-// The answer to clauses and additions.
 fn check(alloc: Global, cnf: &Cnf, adds: &[SmallVec<Lit, 4>]) -> Result<Answer, NoMemory>
-    requires within { IsWithin cnf.now.vars (lists_of adds.now) }
+    requires within { HasVariablesWithin cnf.now.vars (lists_of adds.now) }
     requires few { length adds.now < 4294967295 }
     ensures answer { IfOk result (λ answer.
-        Tells cnf.now.clauses (lists_of adds.now) answer.status answer.report.items) }
+        IsRefutationReport cnf.now.clauses (lists_of adds.now) answer.status answer.report.items) }
 {
     match rup(alloc, cnf, adds)? {
         RupAnswer::Yes => say(alloc, 0, "rup yes\n"),
@@ -82,7 +80,7 @@ fn check(alloc: Global, cnf: &Cnf, adds: &[SmallVec<Lit, 4>]) -> Result<Answer, 
     }
 }
 
-// The answer to a formula and the text of additions.
+// Variables of additions are bounded by those of the formula, so the formula is read first.
 fn judge_additions(alloc: Global, cnf: &Cnf, second: &[u8]) -> Result<Answer, NoMemory>
     requires second { length second.now < READ_LIMIT }
     ensures answer { IfOk result (λ answer. (first : List ℕ) → dimacs_of first ≡ Ok cnf.now
@@ -94,7 +92,7 @@ fn judge_additions(alloc: Global, cnf: &Cnf, second: &[u8]) -> Result<Answer, No
     }
 }
 
-// The answer to two texts.
+// A fault of the formula comes before one of the additions.
 fn answer(alloc: Global, first: &[u8], second: &[u8]) -> Result<Answer, NoMemory>
     requires first { length first.now < READ_LIMIT }
     requires second { length second.now < READ_LIMIT }
@@ -106,15 +104,15 @@ fn answer(alloc: Global, first: &[u8], second: &[u8]) -> Result<Answer, NoMemory
     }
 }
 
-/// What is answered to the text of a formula and that of clause additions, whoever read them.
+/// The answer to the texts of a formula and of clause additions, wherever they were read.
 ///
-/// Status 0 says that each addition follows and so no assignment makes all clauses true, status 1 which addition is the
-/// first that does not, counted from 1 without deletions, and status 2 what is wrong with the first text, or else with
-/// the second.
+/// Status 0: each addition follows by unit propagation, so no assignment satisfies the formula. Status 1: the number is
+/// that of the first addition that does not, counted from 1 without deletions. Status 2: the fault of the first text,
+/// else of the second.
 ///
 /// # Errors
 ///
-/// Want of memory alone.
+/// Lack of memory only.
 pub fn judge_refutation(alloc: Global, first: &[u8], second: &[u8]) -> Result<Answer, NoMemory>
     requires first { length first.now < READ_LIMIT }
     requires second { length second.now < READ_LIMIT }
@@ -130,7 +128,7 @@ pub fn judge_refutation(alloc: Global, first: &[u8], second: &[u8]) -> Result<An
     answer(alloc, first, second)
 }
 
-/// The answer to a formula and clause additions is one, status and bytes, and there is one.
+/// There is exactly one answer, status and bytes.
 pub fn refutations_are_answered()
     ensures { CheckLaws }
 {

@@ -1,39 +1,40 @@
-//! What the words of the command line ask for, with names of modules that outlive them.
+//! The job of a call as a value. Names of modules are copied, so that the options of a comparison borrow nothing from
+//! the words; names of files stay parts of the words.
 
 ghost use Rattle.std.specs.Prelude.{◌≡◌, ◌⊎◌, map, option_copied, string_bytes, IfErr, IfOk, None};
-ghost use Rattle.bb_words.specs.Asked.{made_asked, request_of, rup_asked};
-ghost use Rattle.bb_ladder.specs.Answers.{question, question_of};
-ghost use Rattle.bb_ladder.specs.Inside.Tasks.{AskJob, HasBounds};
+ghost use Rattle.bb_args.specs.Requests.{requested_made_pair, request_of, requested_refutation};
+ghost use Rattle.bb_ladder.specs.Answers.{pair_request, pair_request_of};
+ghost use Rattle.bb_ladder.specs.Inside.Tasks.{RequestJob, HasBounds};
 
+use bb_args::{FileComparison, Wanted, WordsFault, read_words};
 use bb_bits::{Name, NoMemory};
-use bb_rungs::Options;
-use bb_verdict::Asked;
-use bb_words::{Asked as WordsAsked, Wanted, WordsFault, read_words};
+use bb_checks::Options;
+use bb_verdict::TextComparison;
 use std::alloc::Global;
 
-/// What is done with two texts.
+/// What is done with the two texts, once they are read.
 #[derive(Debug, Drop)]
 pub enum Task {
-    /// They are compared.
-    Comparison(Asked),
-    /// The second refutes the first.
+    /// Compare them.
+    Comparison(TextComparison),
+    /// Check the second as a refutation of the first.
     Refutation,
 }
 
-/// The names of two files, and what is done with their texts.
+/// The file `spec` is read first. For a refutation it has the formula, and `imp` the additions.
 #[derive(Debug, Drop)]
-pub struct Question<'a> {
+pub struct PairRequest<'a> {
     pub spec: &'a str,
     pub imp: &'a str,
     pub task: Task,
 }
 
-/// What a call does.
+/// The job of a call: files or a made pair.
 #[derive(Debug, Drop)]
 pub enum Job<'a> {
-    /// Two files are read, and their texts are compared or checked.
-    Files(Question<'a>),
-    /// A pair is made, of adders of `n` bits, and its texts are compared.
+    /// Read two files and compare or check their texts.
+    Files(PairRequest<'a>),
+    /// Make two adders of `n` bits and compare them. No file is read.
     Made {
         n: u32,
         fill: bool,
@@ -41,7 +42,6 @@ pub enum Job<'a> {
     },
 }
 
-// A name, if one is given.
 fn given_name(alloc: Global, given: Option<&str>) -> Result<Option<Name>, NoMemory>
     ensures name { IfOk result (λ name. name ≡ option_copied given.entry) }
 {
@@ -51,50 +51,54 @@ fn given_name(alloc: Global, given: Option<&str>) -> Result<Option<Name>, NoMemo
     }
 }
 
-// What is asked of two texts that are compared.
-fn texts_asked(alloc: Global, asked: &WordsAsked<'_>) -> Result<Asked, NoMemory>
-    ensures asked { IfOk result (λ texts. texts ≡ (question (request_of asked.now)).asked) }
+fn texts_requested(
+    alloc: Global,
+    requested: &FileComparison<'_>,
+) -> Result<TextComparison, NoMemory>
+    ensures requested { IfOk result (λ texts. texts ≡ (pair_request (request_of requested.now)).requested) }
 {
-    Ok(Asked {
-        spec_top: given_name(alloc, asked.top_spec)?,
-        imp_top: given_name(alloc, asked.top_imp)?,
-        care: given_name(alloc, asked.care)?,
-        fill: asked.fill,
-        options: asked.options,
+    Ok(TextComparison {
+        spec_top: given_name(alloc, requested.top_spec)?,
+        imp_top: given_name(alloc, requested.top_imp)?,
+        care: given_name(alloc, requested.care)?,
+        fill: requested.fill,
+        options: requested.options,
     })
 }
 
-// The question of a comparison.
-fn comparison<'a>(alloc: Global, asked: &WordsAsked<'a>) -> Result<Question<'a>, NoMemory>
-    ensures spec { IfOk result (λ q. q.spec.now ≡ asked.now.spec.now) }
-    ensures imp { IfOk result (λ q. q.imp.now ≡ asked.now.imp.now) }
-    ensures task { IfOk result (λ q. q.task ≡ Task.Comparison (question (request_of asked.now)).asked) }
+fn comparison<'a>(
+    alloc: Global,
+    requested: &FileComparison<'a>,
+) -> Result<PairRequest<'a>, NoMemory>
+    ensures spec { IfOk result (λ q. q.spec.now ≡ requested.now.spec.now) }
+    ensures imp { IfOk result (λ q. q.imp.now ≡ requested.now.imp.now) }
+    ensures task { IfOk result (λ q. q.task ≡ Task.Comparison (pair_request (request_of requested.now)).requested) }
 {
-    Ok(Question {
-        spec: asked.spec,
-        imp: asked.imp,
-        task: Task::Comparison(texts_asked(alloc, asked)?),
+    Ok(PairRequest {
+        spec: requested.spec,
+        imp: requested.imp,
+        task: Task::Comparison(texts_requested(alloc, requested)?),
     })
 }
 
-/// What the words ask for; the first is the program's own name.
+/// The first word is the program's name.
 ///
 /// # Errors
 ///
-/// `Usage` where the words are not of the command's form, and want of memory.
-#[tactic(auto, using(crate::proofs::TaskLemmas::questions_asked))]
+/// `Usage` where the words are not of the command's form, and lack of memory.
+#[tactic(auto, using(crate::proofs::TaskLemmas::questions_requested))]
 pub fn job_of<'a>(alloc: Global, words: &'a [String]) -> Result<Job<'a>, WordsFault>
-    ensures job { IfOk result (AskJob (map string_bytes words.entry.now)) }
+    ensures job { IfOk result (RequestJob (map string_bytes words.entry.now)) }
     ensures bounds { IfOk result HasBounds }
     ensures usage { IfErr result (λ fault. (fault ≡ WordsFault.NoMemory)
-        ⊎ ((fault ≡ WordsFault.Usage) × (question_of (map string_bytes words.entry.now) ≡ None)
-        × (made_asked (map string_bytes words.entry.now) ≡ None)
-        × (rup_asked (map string_bytes words.entry.now) ≡ None))) }
+        ⊎ ((fault ≡ WordsFault.Usage) × (pair_request_of (map string_bytes words.entry.now) ≡ None)
+        × (requested_made_pair (map string_bytes words.entry.now) ≡ None)
+        × (requested_refutation (map string_bytes words.entry.now) ≡ None))) }
 {
     match read_words(alloc, words)? {
-        Wanted::Comparison(asked) => Ok(Job::Files(comparison(alloc, &asked)?)),
+        Wanted::Comparison(requested) => Ok(Job::Files(comparison(alloc, &requested)?)),
         Wanted::MadePair { n, fill, options } => Ok(Job::Made { n, fill, options }),
-        Wanted::Refutation { cnf, adds } => Ok(Job::Files(Question {
+        Wanted::Refutation { cnf, adds } => Ok(Job::Files(PairRequest {
             spec: cnf,
             imp: adds,
             task: Task::Refutation,

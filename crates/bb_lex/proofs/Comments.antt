@@ -5,7 +5,7 @@ use Rattle.bb_lex.specs.Bytes.{is_in_line, Each, BeginsNot, EndsBefore, past}
 use Rattle.bb_lex.specs.Skips.{EndsAtFirst, EndsAtQuote, IsOrdinary, IsPart, ArePartsOf}
 use Rattle.bb_lex.specs.Skips.IsPart.{Quoted, Block, Line, Other}
 use Rattle.bb_lex.specs.Inside.Runs.{run_of}
-use Rattle.bb_lex.specs.Inside.Skips.{behind_pair, behind_quote, behind_slash, behind_part, behind_close, behind_next, behind_parts, behind_attribute}
+use Rattle.bb_lex.specs.Inside.Skips.{after_pair, after_quote, after_slash, after_part, after_close, after_next, after_parts, after_attribute}
 use Rattle.bb_lex.proofs.Choices.{cases_of, chosen, match_true, match_false, by_match, cond_true, cond_false, from_not, to_not, or_false, left_false, right_false, and_false, false_and, left_true, right_true}
 use Rattle.bb_lex.proofs.Runs.{run-past, each_of_run, past_stops, past-each, past-none}
 
@@ -16,7 +16,7 @@ ends_later x y b c t (d ∷ body) r miss e ends =
     let same : c ≡ d = cc in
     match_false (b == x && d == y) (body ≡ []) (EndsAtFirst x y (d ∷ body)) (subst (λ (n : ℕ). (b == x && n == y) ≡ false) same miss) ends
 
-pub pair_sound : (x y : ℕ) (t r : List ℕ) → behind_pair x y t ≡ Some r → (body : List ℕ) × (t ≡ body ++ r) × EndsAtFirst x y body
+pub pair_sound : (x y : ℕ) (t r : List ℕ) → after_pair x y t ≡ Some r → (body : List ℕ) × (t ≡ body ++ r) × EndsAtFirst x y body
 pair_sound x y [] r h = absurd (cc)
 pair_sound x y (b ∷ []) r h = absurd (cc)
 pair_sound x y (b ∷ c ∷ t) r h =
@@ -25,11 +25,11 @@ pair_sound x y (b ∷ c ∷ t) r h =
     (λ miss. let w = pair_sound x y (c ∷ t) r miss.1 in (b ∷ w.0, ap (λ l. b ∷ l) w.1, ends_later x y b c t w.0 r miss.0 w.1 w.2))
     (chosen _ _ _ _ h)
 
-pub pair_complete : (x y : ℕ) (body r : List ℕ) → EndsAtFirst x y body → behind_pair x y (body ++ r) ≡ Some r
+pub pair_complete : (x y : ℕ) (body r : List ℕ) → EndsAtFirst x y body → after_pair x y (body ++ r) ≡ Some r
 pair_complete x y [] r ends = absurd ends
 pair_complete x y (b ∷ []) r ends = absurd ends
 pair_complete x y (b ∷ c ∷ body) r ends =
-    by_match (b == x && c == y) (body ≡ []) (EndsAtFirst x y (c ∷ body)) (Some (body ++ r)) (behind_pair x y ((c ∷ body) ++ r)) (Some r) ends
+    by_match (b == x && c == y) (body ≡ []) (EndsAtFirst x y (c ∷ body)) (Some (body ++ r)) (after_pair x y ((c ∷ body) ++ r)) (Some r) ends
     (λ hit. ap (λ (l : List ℕ). Some (l ++ r)) hit)
     (λ miss. pair_complete x y (c ∷ body) r miss)
 
@@ -38,7 +38,7 @@ quotes_later : (b c : ℕ) (t body r : List ℕ) → (b == 34) ≡ false → (b 
 quotes_later b c t [] r no_quote no_slash e ends = absurd ends
 quotes_later b c t (d ∷ body) r no_quote no_slash e ends = match_false _ _ _ no_quote (match_false _ _ _ no_slash ends)
 
-pub quote_sound : (t r : List ℕ) → behind_quote t ≡ Some r → (body : List ℕ) × (t ≡ body ++ r) × EndsAtQuote body
+pub quote_sound : (t r : List ℕ) → after_quote t ≡ Some r → (body : List ℕ) × (t ≡ body ++ r) × EndsAtQuote body
 quote_sound [] r h = absurd (cc)
 quote_sound (b ∷ []) r h =
     ⊎_elim
@@ -57,22 +57,22 @@ quote_sound (b ∷ c ∷ t) r h =
     (chosen _ _ _ _ miss.1))
     (chosen _ _ _ _ h)
 
--- the quote is at the front
-quote_here : (b : ℕ) (t : List ℕ) → b ≡ 34 → behind_quote (b ∷ t) ≡ Some t
+-- the quote is at the beginning
+quote_here : (b : ℕ) (t : List ℕ) → b ≡ 34 → after_quote (b ∷ t) ≡ Some t
 quote_here b [] is = cond_true _ _ _ (eq-eqb b 34 is)
 quote_here b (c ∷ t) is = cond_true _ _ _ (eq-eqb b 34 is)
 
-pub quote_complete : (body r : List ℕ) → EndsAtQuote body → behind_quote (body ++ r) ≡ Some r
+pub quote_complete : (body r : List ℕ) → EndsAtQuote body → after_quote (body ++ r) ≡ Some r
 quote_complete [] r ends = absurd ends
 quote_complete (b ∷ []) r ends = quote_here b r ends
 quote_complete (b ∷ c ∷ body) r ends =
-    by_match (b == 34) ⊥ (MatchBool (b == 92) (EndsAtQuote body) (EndsAtQuote (c ∷ body))) (Some (c ∷ body ++ r)) (cond (b == 92) (behind_quote (body ++ r)) (behind_quote ((c ∷ body) ++ r))) (Some r) ends
+    by_match (b == 34) ⊥ (MatchBool (b == 92) (EndsAtQuote body) (EndsAtQuote (c ∷ body))) (Some (c ∷ body ++ r)) (cond (b == 92) (after_quote (body ++ r)) (after_quote ((c ∷ body) ++ r))) (Some r) ends
     (λ hit. absurd hit)
-    (λ miss. by_match (b == 92) (EndsAtQuote body) (EndsAtQuote (c ∷ body)) (behind_quote (body ++ r)) (behind_quote ((c ∷ body) ++ r)) (Some r) miss
+    (λ miss. by_match (b == 92) (EndsAtQuote body) (EndsAtQuote (c ∷ body)) (after_quote (body ++ r)) (after_quote ((c ∷ body) ++ r)) (Some r) miss
     (λ escape. quote_complete body r escape)
     (λ plain. quote_complete (c ∷ body) r plain))
 
--- a newline, or nothing, is what stands behind a run within a line
+-- a newline, or nothing, is what follows a run within a line
 pub line_ends : (t : List ℕ) → BeginsNot is_in_line t → EndsBefore (λ b. b == 10) t
 line_ends [] not = tt
 line_ends (b ∷ t) not = from_not (b == 10) not
@@ -81,8 +81,8 @@ pub line_ended : (t : List ℕ) → EndsBefore (λ b. b == 10) t → BeginsNot i
 line_ended [] ends = tt
 line_ended (b ∷ t) ends = to_not (b == 10) ends
 
--- what stands behind the slash of a part, where the part is read
-slash_sound : (t r : List ℕ) → behind_slash t ≡ Some r → (part : List ℕ) × (47 ∷ t ≡ part ++ r) × IsPart part r
+-- what follows the slash of a part, where the part is read
+slash_sound : (t r : List ℕ) → after_slash t ≡ Some r → (part : List ℕ) × (47 ∷ t ≡ part ++ r) × IsPart part r
 slash_sound [] r h =
     let e : [] ≡ r = cc in
     (47 ∷ [], ap (λ l. 47 ∷ l) e, Other (record { byte = 47; is = refl; no_quote = refl; no_comment = λ _. subst (BeginsNot (λ b. b == 47 || b == 42)) e tt; no_end = λ no. absurd (omega (arith, no)) }))
@@ -122,11 +122,11 @@ slash_sound (b ∷ t) r h =
     (chosen _ _ _ _ h)
 
 -- what closes no attribute goes on without the round bracket
-no_close : (t : List ℕ) → behind_close (42 ∷ t) ≡ None → BeginsNot (λ b. b == 41) t
+no_close : (t : List ℕ) → after_close (42 ∷ t) ≡ None → BeginsNot (λ b. b == 41) t
 no_close [] h = tt
 no_close (b ∷ t) h = ⊎_elim (λ yes. absurd (let e : Some t ≡ None = cc in cc)) (λ no. no.0) (chosen (b == 41) (Some t) None None h)
 
-pub part_sound : (t r : List ℕ) → behind_close t ≡ None → behind_part t ≡ Some r → (part : List ℕ) × (t ≡ part ++ r) × IsPart part r
+pub part_sound : (t r : List ℕ) → after_close t ≡ None → after_part t ≡ Some r → (part : List ℕ) × (t ≡ part ++ r) × IsPart part r
 part_sound [] r no_end h = absurd (cc)
 part_sound (b ∷ t) r no_end h =
     ⊎_elim
@@ -148,7 +148,7 @@ part_sound (b ∷ t) r no_end h =
         is = refl;
         no_quote = other.0;
         no_comment = λ is. absurd (let f : (b == 47) ≡ true = eq-eqb b 47 is in cc);
-        no_end = λ is. subst (BeginsNot (λ c. c == 41)) e (no_close t (subst (λ n. behind_close (n ∷ t) ≡ None) is no_end));
+        no_end = λ is. subst (BeginsNot (λ c. c == 41)) e (no_close t (subst (λ n. after_close (n ∷ t) ≡ None) is no_end));
       }),
     ))
     (chosen _ _ _ _ other.1))
@@ -159,12 +159,12 @@ line_complete : (body r : List ℕ) → Each is_in_line body → EndsBefore (λ 
 line_complete body r in_line ends = past-each is_in_line body r in_line ∙ past-none is_in_line r (line_ended r ends)
 
 -- a slash alone
-slash_complete : (r : List ℕ) → BeginsNot (λ b. b == 47 || b == 42) r → behind_slash r ≡ Some r
+slash_complete : (r : List ℕ) → BeginsNot (λ b. b == 47 || b == 42) r → after_slash r ≡ Some r
 slash_complete [] not = refl
 slash_complete (b ∷ r) not =
     cond_false (b == 47) _ _ (left_false _ _ not) ∙ cond_false (b == 42) _ _ (right_false (b == 47) _ not)
 
-ordinary_complete : (b : ℕ) (r : List ℕ) → IsOrdinary (b ∷ []) r → behind_part (b ∷ r) ≡ Some r
+ordinary_complete : (b : ℕ) (r : List ℕ) → IsOrdinary (b ∷ []) r → after_part (b ∷ r) ≡ Some r
 ordinary_complete b r other =
     let same : b ≡ other.byte = ap (λ l. get_or l 0 0) other.is in
     let no_quote : (b == 34) ≡ false = subst (λ n. (n == 34) ≡ false) (sym same) other.no_quote in
@@ -174,16 +174,16 @@ ordinary_complete b r other =
     (λ plain. cond_false (b == 47) _ _ plain)
     (cases_of (b == 47))
 
-pub part_complete : (part r : List ℕ) → IsPart part r → behind_part (part ++ r) ≡ Some r
-part_complete part r (Quoted is) = subst (λ l. behind_part (l ++ r) ≡ Some r) (sym is.opens) (quote_complete is.body r is.closes)
-part_complete part r (Block is) = subst (λ l. behind_part (l ++ r) ≡ Some r) (sym is.opens) (pair_complete 42 47 is.body r is.closes)
-part_complete part r (Line is ends) = subst (λ l. behind_part (l ++ r) ≡ Some r) (sym is.opens) (ap Some (line_complete is.body r is.in_line ends))
+pub part_complete : (part r : List ℕ) → IsPart part r → after_part (part ++ r) ≡ Some r
+part_complete part r (Quoted is) = subst (λ l. after_part (l ++ r) ≡ Some r) (sym is.opens) (quote_complete is.body r is.closes)
+part_complete part r (Block is) = subst (λ l. after_part (l ++ r) ≡ Some r) (sym is.opens) (pair_complete 42 47 is.body r is.closes)
+part_complete part r (Line is ends) = subst (λ l. after_part (l ++ r) ≡ Some r) (sym is.opens) (ap Some (line_complete is.body r is.in_line ends))
 part_complete part r (Other is) =
-    subst (λ l. behind_part (l ++ r) ≡ Some r) (sym is.is)
+    subst (λ l. after_part (l ++ r) ≡ Some r) (sym is.is)
     (ordinary_complete is.byte r (subst (λ l. IsOrdinary l r) is.is is))
 
--- where a part stands, the attribute does not close
-star_open : (b : ℕ) (r : List ℕ) → (b ≡ 42 → BeginsNot (λ c. c == 41) r) → behind_close (b ∷ r) ≡ None
+-- where a part is, the attribute does not close
+star_open : (b : ℕ) (r : List ℕ) → (b ≡ 42 → BeginsNot (λ c. c == 41) r) → after_close (b ∷ r) ≡ None
 star_open b [] open_ = refl
 star_open b (c ∷ r) open_ =
     ⊎_elim
@@ -191,11 +191,11 @@ star_open b (c ∷ r) open_ =
     (λ other. cond_false (b == 42 && c == 41) _ _ (false_and _ _ other))
     (cases_of (b == 42))
 
-pub part_open : (part r : List ℕ) → IsPart part r → behind_close (part ++ r) ≡ None
-part_open part r (Quoted is) = subst (λ l. behind_close (l ++ r) ≡ None) (sym is.opens) (star_open 34 (is.body ++ r) (λ no. absurd (omega (arith, no))))
-part_open part r (Block is) = subst (λ l. behind_close (l ++ r) ≡ None) (sym is.opens) (star_open 47 (42 ∷ is.body ++ r) (λ no. absurd (omega (arith, no))))
-part_open part r (Line is ends) = subst (λ l. behind_close (l ++ r) ≡ None) (sym is.opens) (star_open 47 (47 ∷ is.body ++ r) (λ no. absurd (omega (arith, no))))
-part_open part r (Other is) = subst (λ l. behind_close (l ++ r) ≡ None) (sym is.is) (star_open is.byte r is.no_end)
+pub part_open : (part r : List ℕ) → IsPart part r → after_close (part ++ r) ≡ None
+part_open part r (Quoted is) = subst (λ l. after_close (l ++ r) ≡ None) (sym is.opens) (star_open 34 (is.body ++ r) (λ no. absurd (omega (arith, no))))
+part_open part r (Block is) = subst (λ l. after_close (l ++ r) ≡ None) (sym is.opens) (star_open 47 (42 ∷ is.body ++ r) (λ no. absurd (omega (arith, no))))
+part_open part r (Line is ends) = subst (λ l. after_close (l ++ r) ≡ None) (sym is.opens) (star_open 47 (47 ∷ is.body ++ r) (λ no. absurd (omega (arith, no))))
+part_open part r (Other is) = subst (λ l. after_close (l ++ r) ≡ None) (sym is.is) (star_open is.byte r is.no_end)
 
 -- a part has at least one byte
 pub length-part : (part r : List ℕ) → IsPart part r → 0 < length part
@@ -237,7 +237,7 @@ length-parts : (body : List ℕ) (parts : List (List ℕ)) → ArePartsOf body p
 length-parts body [] are = subst (λ l. 0 < length l) (sym are) (omega arith)
 length-parts body (part ∷ parts) are = omega (arith, ap length are.1, length-append part are.0, length-part part are.0 are.2)
 
-close_sound : (t r : List ℕ) → behind_close t ≡ Some r → t ≡ codes "*)" ++ r
+close_sound : (t r : List ℕ) → after_close t ≡ Some r → t ≡ codes "*)" ++ r
 close_sound [] r h = absurd (cc)
 close_sound (b ∷ []) r h = absurd (cc)
 close_sound (b ∷ c ∷ t) r h =
@@ -251,12 +251,12 @@ close_sound (b ∷ c ∷ t) r h =
     (chosen _ _ _ _ h)
 
 -- how an attribute is read on
-next_sound : (close part : Option (List ℕ)) (more : List ℕ → Option (List ℕ)) (r : List ℕ) → behind_next close part more ≡ Some r → (close ≡ Some r) ⊎ ((close ≡ None) × ((after : List ℕ) × (part ≡ Some after) × (more after ≡ Some r)))
+next_sound : (close part : Option (List ℕ)) (more : List ℕ → Option (List ℕ)) (r : List ℕ) → after_next close part more ≡ Some r → (close ≡ Some r) ⊎ ((close ≡ None) × ((after : List ℕ) × (part ≡ Some after) × (more after ≡ Some r)))
 next_sound (Some after) part more r h = inl h
 next_sound None None more r h = absurd (cc)
 next_sound None (Some after) more r h = inr (refl, (after, refl, h))
 
-pub parts_sound : (n : ℕ) (t r : List ℕ) → behind_parts n t ≡ Some r → (body : List ℕ) × (parts : List (List ℕ)) × (t ≡ body ++ r) × ArePartsOf body parts
+pub parts_sound : (n : ℕ) (t r : List ℕ) → after_parts n t ≡ Some r → (body : List ℕ) × (parts : List (List ℕ)) × (t ≡ body ++ r) × ArePartsOf body parts
 parts_sound zero t r h = absurd (cc)
 parts_sound (suc n) t r h =
     ⊎_elim
@@ -269,29 +269,29 @@ parts_sound (suc n) t r h =
       w.1 ∙ ap (λ l. w.0 ++ l) u.2 ∙ sym (append_assoc w.0 u.0 r),
       (u.0, refl, part_shorter w.0 u.0 r (subst (IsPart w.0) u.2 w.2), u.3),
     ))
-    (next_sound (behind_close t) (behind_part t) (behind_parts n) r h)
+    (next_sound (after_close t) (after_part t) (after_parts n) r h)
 
-pub parts_complete : (n : ℕ) (body r : List ℕ) (parts : List (List ℕ)) → ArePartsOf body parts → length body ≤ n → behind_parts n (body ++ r) ≡ Some r
+pub parts_complete : (n : ℕ) (body r : List ℕ) (parts : List (List ℕ)) → ArePartsOf body parts → length body ≤ n → after_parts n (body ++ r) ≡ Some r
 parts_complete zero body r parts are short = absurd (omega (arith, length-parts body parts are))
-parts_complete (suc n) body r [] are short = subst (λ l. behind_parts (suc n) (l ++ r) ≡ Some r) (sym are) refl
+parts_complete (suc n) body r [] are short = subst (λ l. after_parts (suc n) (l ++ r) ≡ Some r) (sym are) refl
 parts_complete (suc n) body r (part ∷ parts) are short =
     let after : List ℕ = are.0 in
     let whole : body ++ r ≡ part ++ (after ++ r) = ap (λ l. l ++ r) are.1 ∙ append_assoc part after r in
     let is : IsPart part (after ++ r) = part_longer part after r (length-parts after parts are.3) are.2 in
     let smaller : length after ≤ n = omega (arith, ap length are.1, length-append part after, length-part part after are.2) in
-    subst (λ l. behind_parts (suc n) l ≡ Some r) (sym whole)
-    (ap (λ (o : Option (List ℕ)). behind_next o (behind_part (part ++ (after ++ r))) (behind_parts n)) (part_open part (after ++ r) is)
-    ∙ ap (λ (o : Option (List ℕ)). behind_next None o (behind_parts n)) (part_complete part (after ++ r) is)
+    subst (λ l. after_parts (suc n) l ≡ Some r) (sym whole)
+    (ap (λ (o : Option (List ℕ)). after_next o (after_part (part ++ (after ++ r))) (after_parts n)) (part_open part (after ++ r) is)
+    ∙ ap (λ (o : Option (List ℕ)). after_next None o (after_parts n)) (part_complete part (after ++ r) is)
     ∙ parts_complete n after r parts are.3 smaller)
 
 -- more steps change nothing
-pub parts_steady : (n m : ℕ) (t r : List ℕ) → behind_parts n t ≡ Some r → length t ≤ m → behind_parts m t ≡ Some r
+pub parts_steady : (n m : ℕ) (t r : List ℕ) → after_parts n t ≡ Some r → length t ≤ m → after_parts m t ≡ Some r
 parts_steady n m t r h enough =
     let w = parts_sound n t r h in
-    subst (λ l. behind_parts m l ≡ Some r) (sym w.2)
+    subst (λ l. after_parts m l ≡ Some r) (sym w.2)
     (parts_complete m w.0 r w.1 w.3 (omega (arith, ap length w.2, length-append w.0 r)))
 
-pub attribute_sound : (t r : List ℕ) → behind_attribute t ≡ Some r → (body : List ℕ) × (parts : List (List ℕ)) × (t ≡ body ++ r) × BeginsNot (λ b. b == 41) body × ArePartsOf body parts
+pub attribute_sound : (t r : List ℕ) → after_attribute t ≡ Some r → (body : List ℕ) × (parts : List (List ℕ)) × (t ≡ body ++ r) × BeginsNot (λ b. b == 41) body × ArePartsOf body parts
 attribute_sound [] r h = absurd (cc)
 attribute_sound (b ∷ t) r h =
     ⊎_elim
@@ -302,50 +302,50 @@ attribute_sound (b ∷ t) r h =
     (w.0, w.1, w.2, begins_shorter _ w.0 r not, w.3))
     (chosen _ _ _ _ h)
 
-pub attribute_complete : (body r : List ℕ) (parts : List (List ℕ)) → BeginsNot (λ b. b == 41) body → ArePartsOf body parts → behind_attribute (body ++ r) ≡ Some r
+pub attribute_complete : (body r : List ℕ) (parts : List (List ℕ)) → BeginsNot (λ b. b == 41) body → ArePartsOf body parts → after_attribute (body ++ r) ≡ Some r
 attribute_complete [] r parts not are = absurd (omega (arith, length-parts [] parts are))
 attribute_complete (b ∷ body) r parts not are =
     cond_false (b == 41) _ _ not ∙ parts_complete (length (b ∷ body ++ r)) (b ∷ body) r parts are (omega (arith, length-append (b ∷ body) r))
 
 -- enough steps are as good as more
-parts_agree : (n m : ℕ) (t : List ℕ) (x y : Option (List ℕ)) → length t ≤ n → length t ≤ m → behind_parts n t ≡ x → behind_parts m t ≡ y → x ≡ y
+parts_agree : (n m : ℕ) (t : List ℕ) (x y : Option (List ℕ)) → length t ≤ n → length t ≤ m → after_parts n t ≡ x → after_parts m t ≡ y → x ≡ y
 parts_agree n m t None None enough plenty h k = refl
 parts_agree n m t (Some r) y enough plenty h k = sym (parts_steady n m t r h plenty) ∙ k
 parts_agree n m t None (Some r) enough plenty h k = sym h ∙ parts_steady m n t r k enough
 
-parts_step : (n : ℕ) (t r : List ℕ) → length t ≡ n → behind_close t ≡ None → behind_part t ≡ Some r → behind_parts n t ≡ behind_parts (length r) r
+parts_step : (n : ℕ) (t r : List ℕ) → length t ≡ n → after_close t ≡ None → after_part t ≡ Some r → after_parts n t ≡ after_parts (length r) r
 parts_step zero t r n no_end h = absurd (let w = part_sound t r no_end h in omega (arith, ap length w.1, length-append w.0 r, length-part w.0 r w.2))
 parts_step (suc n) t r is no_end h =
     let w = part_sound t r no_end h in
-    ap (λ (o : Option (List ℕ)). behind_next o (behind_part t) (behind_parts n)) no_end
-    ∙ ap (λ (o : Option (List ℕ)). behind_next None o (behind_parts n)) h
+    ap (λ (o : Option (List ℕ)). after_next o (after_part t) (after_parts n)) no_end
+    ∙ ap (λ (o : Option (List ℕ)). after_next None o (after_parts n)) h
     ∙ parts_agree n (length r) r _ _ (omega (arith, ap length w.1, length-append w.0 r, length-part w.0 r w.2)) (omega arith) refl refl
 
 -- a part takes the attribute on
-pub behind_parts-part : (t r : List ℕ) → behind_close t ≡ None → behind_part t ≡ Some r → behind_parts (length t) t ≡ behind_parts (length r) r
-behind_parts-part t r no_end h = parts_step (length t) t r refl no_end h
+pub after_parts-part : (t r : List ℕ) → after_close t ≡ None → after_part t ≡ Some r → after_parts (length t) t ≡ after_parts (length r) r
+after_parts-part t r no_end h = parts_step (length t) t r refl no_end h
 
--- less is left behind a part
-pub length-behind_part : (t r : List ℕ) → behind_close t ≡ None → behind_part t ≡ Some r → length r < length t
-length-behind_part t r no_end h =
+-- less is left after a part
+pub length-after_part : (t r : List ℕ) → after_close t ≡ None → after_part t ≡ Some r → length r < length t
+length-after_part t r no_end h =
     let w = part_sound t r no_end h in
     omega (arith, ap length w.1, length-append w.0 r, length-part w.0 r w.2)
 
-closed_with : (n : ℕ) (t r : List ℕ) → length t ≡ n → behind_close t ≡ Some r → behind_parts n t ≡ Some r
+closed_with : (n : ℕ) (t r : List ℕ) → length t ≡ n → after_close t ≡ Some r → after_parts n t ≡ Some r
 closed_with zero [] r is h = absurd (cc)
 closed_with zero (b ∷ t) r is h = absurd (omega arith)
-closed_with (suc n) t r is h = ap (λ (o : Option (List ℕ)). behind_next o (behind_part t) (behind_parts n)) h
+closed_with (suc n) t r is h = ap (λ (o : Option (List ℕ)). after_next o (after_part t) (after_parts n)) h
 
-pub behind_parts-close : (t r : List ℕ) → behind_close t ≡ Some r → behind_parts (length t) t ≡ Some r
-behind_parts-close t r h = closed_with (length t) t r refl h
+pub after_parts-close : (t r : List ℕ) → after_close t ≡ Some r → after_parts (length t) t ≡ Some r
+after_parts-close t r h = closed_with (length t) t r refl h
 
-stuck_with : (n : ℕ) (t : List ℕ) → behind_close t ≡ None → behind_part t ≡ None → behind_parts n t ≡ None
+stuck_with : (n : ℕ) (t : List ℕ) → after_close t ≡ None → after_part t ≡ None → after_parts n t ≡ None
 stuck_with zero t no_end h = refl
 stuck_with (suc n) t no_end h =
-    ap (λ (o : Option (List ℕ)). behind_next o (behind_part t) (behind_parts n)) no_end
-    ∙ ap (λ (o : Option (List ℕ)). behind_next None o (behind_parts n)) h
+    ap (λ (o : Option (List ℕ)). after_next o (after_part t) (after_parts n)) no_end
+    ∙ ap (λ (o : Option (List ℕ)). after_next None o (after_parts n)) h
 
-pub behind_parts-none : (t : List ℕ) → behind_close t ≡ None → behind_part t ≡ None → behind_parts (length t) t ≡ None
-behind_parts-none t no_end h = stuck_with (length t) t no_end h
+pub after_parts-none : (t : List ℕ) → after_close t ≡ None → after_part t ≡ None → after_parts (length t) t ≡ None
+after_parts-none t no_end h = stuck_with (length t) t no_end h
 
-pub ruleset attribute_steps = (behind_parts-part, length-behind_part, behind_parts-close, behind_parts-none)
+pub ruleset attribute_steps = (after_parts-part, length-after_part, after_parts-close, after_parts-none)

@@ -11,7 +11,7 @@ use Rattle.bb_lex.specs.Pieces.IsToken.{Identifier, Escaped, SizedNumber, PlainN
 use Rattle.bb_lex.specs.Cut.{IsLongest, IsCutUpTo}
 use Rattle.bb_lex.specs.Inside.Pieces.{piece_at}
 use Rattle.bb_lex.proofs.Choices.{some_pair}
-use Rattle.bb_lex.proofs.PieceReading.{IsAtFront, piece_sound, piece_complete}
+use Rattle.bb_lex.proofs.PieceReading.{IsAtPrefix, piece_sound, piece_complete}
 
 -- a piece has at least one byte
 length-made : (bytes made : List ℕ) → bytes ≡ made → 0 < length made → 0 < length bytes
@@ -51,14 +51,14 @@ pub length-piece : (piece : Piece) (after : List ℕ) → IsPiece piece after �
 length-piece piece after is = length-by piece.kind piece.bytes after is
 
 -- the piece that is read is the longest
-pub longest_from_read : (text r : List ℕ) (kind : Option Kind) → piece_at text ≡ Some (kind, r) → (w : IsAtFront text kind r) → IsLongest (record { kind = kind; bytes = w.front }) r
+pub longest_from_read : (text r : List ℕ) (kind : Option Kind) → piece_at text ≡ Some (kind, r) → (w : IsAtPrefix text kind r) → IsLongest (record { kind = kind; bytes = w.prefix }) r
 longest_from_read text r kind read w = record {
   is = w.is;
   longest = λ other rest e is.
       let c = piece_complete other rest is in
       let one : ◌≡◌ {A = Option (Option Kind × List ℕ)} (Some (kind, r)) (Some (c.found, c.rest)) = sym read ∙ ap piece_at (w.splits ∙ e) ∙ c.read in
       let both = some_pair kind c.found r c.rest one in
-      omega (arith, ap length e, length-append w.front r, length-append other.bytes rest, ap length c.splits, length-append c.more c.rest, ap length both.1);
+      omega (arith, ap length e, length-append w.prefix r, length-append other.bytes rest, ap length c.splits, length-append c.more c.rest, ap length both.1);
 }
 
 -- and the longest piece is read
@@ -66,8 +66,8 @@ pub read_from_longest : (piece : Piece) (after : List ℕ) → IsLongest piece a
 read_from_longest piece after long =
     let c = piece_complete piece after long.is in
     let w = piece_sound (piece.bytes ++ after) c.rest c.found c.read in
-    let short : length w.front ≤ length piece.bytes = long.longest (record { kind = c.found; bytes = w.front }) c.rest w.splits w.is in
-    let none : c.more ≡ [] = nil_from_length c.more (omega (arith, ap length w.splits, length-append piece.bytes after, length-append w.front c.rest, ap length c.splits, length-append c.more c.rest)) in
+    let short : length w.prefix ≤ length piece.bytes = long.longest (record { kind = c.found; bytes = w.prefix }) c.rest w.splits w.is in
+    let none : c.more ≡ [] = nil_from_length c.more (omega (arith, ap length w.splits, length-append piece.bytes after, length-append w.prefix c.rest, ap length c.splits, length-append c.more c.rest)) in
     let rest : after ≡ c.rest = c.splits ∙ ap (λ l. l ++ c.rest) none in
     c.read ∙ ap (λ k. Some (k, c.rest)) (c.same none) ∙ ap (λ l. Some (piece.kind, l)) (sym rest)
 
@@ -84,7 +84,7 @@ none_by : (rest : List ℕ) (o : Option (Option Kind × List ℕ)) → piece_at 
 none_by rest None read none = read
 none_by rest (Some found) read none =
     let w = piece_sound rest found.1 found.0 read in
-    absurd (none (record { kind = found.0; bytes = w.front }) found.1 w.splits w.is)
+    absurd (none (record { kind = found.0; bytes = w.prefix }) found.1 w.splits w.is)
 
 pub none_read : (rest : List ℕ) → ((piece : Piece) (after : List ℕ) → rest ≡ piece.bytes ++ after → IsPiece piece after → ⊥) → piece_at rest ≡ None
 none_read rest none = none_by rest (piece_at rest) refl none
@@ -115,8 +115,8 @@ cut_on : (text : List ℕ) (o : Option (Option Kind × List ℕ)) → piece_at t
 cut_on text None read more = record { pieces = []; rest = text; cut = refl; stops = read }
 cut_on text (Some found) read more =
     let w = piece_sound text found.1 found.0 read in
-    let piece : Piece = record { kind = found.0; bytes = w.front } in
-    let u = more found.1 (omega (arith, ap length w.splits, length-append w.front found.1, length-piece piece found.1 w.is)) in
+    let piece : Piece = record { kind = found.0; bytes = w.prefix } in
+    let u = more found.1 (omega (arith, ap length w.splits, length-append w.prefix found.1, length-piece piece found.1 w.is)) in
     record {
       pieces = piece ∷ u.pieces;
       rest = u.rest;

@@ -50,7 +50,7 @@ number_after-joined value b bytes =
     (λ no. number_after-other 10 value b bytes (is_digit-other b no) ∙ ap (λ v. number_after 10 v bytes) (sym (cond_false (is_ascii_digit b) (value * 10 + (b - 48)) value no)))
     (cases_of (is_ascii_digit b))
 
--- what comes behind a value does not lower it
+-- what comes after a value does not lower it
 pub number_after-lower : (value : ℕ) (bytes : List ℕ) → value ≤ number_after 10 value bytes
 number_after-lower value bytes = omega (arith, mul-le-mul_left value (one-le-pow (length (digits_of 10 bytes)) 10 (omega arith)))
 

@@ -8,7 +8,7 @@ use Rattle.bb_lex.specs.Bytes.{is_white, is_in_line, begins_identifier, is_ident
 use Rattle.bb_lex.specs.Skips.{IsDirective}
 use Rattle.bb_lex.specs.Pieces.{IsIdentifier, IsEscaped}
 use Rattle.bb_lex.specs.Inside.Runs.{run_of}
-use Rattle.bb_lex.specs.Inside.Skips.{is_directive, behind_directive, at_white, behind_escaped}
+use Rattle.bb_lex.specs.Inside.Skips.{is_directive, after_directive, at_white, after_escaped}
 use Rattle.bb_lex.proofs.Choices.{chosen, cond_true, or_cases, each_from_test}
 use Rattle.bb_lex.proofs.Runs.{run-past, each_of_run, past_stops, past-each, run-each, past-none, run-none}
 
@@ -28,7 +28,7 @@ known_test word h =
     ⊎_elim (λ e. subst P (sym e) (refl, refl)) (λ more. ⊎_elim (λ e. subst P (sym e) (refl, refl)) (λ e. subst P (sym e) (refl, refl)) more) h
 
 -- a directive, its back quote first
-pub directive_sound : (t r : List ℕ) → behind_directive t ≡ Some r → (front : List ℕ) × (t ≡ front ++ r) × IsDirective (96 ∷ front) r
+pub directive_sound : (t r : List ℕ) → after_directive t ≡ Some r → (prefix : List ℕ) × (t ≡ prefix ++ r) × IsDirective (96 ∷ prefix) r
 directive_sound t r h =
     let word : List ℕ = run_of is_identifier_byte t in
     let rest : List ℕ = past is_identifier_byte t in
@@ -52,15 +52,15 @@ directive_sound t r h =
     (chosen (is_directive word) (Some (past is_in_line rest)) None (Some r) h)
 
 -- a directive is read with the rest of its line
-pub directive_complete : (front after : List ℕ) → IsDirective (96 ∷ front) after → behind_directive (front ++ after) ≡ Some (past is_in_line after)
-directive_complete front after is =
+pub directive_complete : (prefix after : List ℕ) → IsDirective (96 ∷ prefix) after → after_directive (prefix ++ after) ≡ Some (past is_in_line after)
+directive_complete prefix after is =
     let tests = known_test is.word is.known in
-    let made : front ≡ is.word ++ is.line = cc in
-    let whole : front ++ after ≡ is.word ++ (is.line ++ after) = ap (λ l. l ++ after) made ∙ append_assoc is.word is.line after in
+    let made : prefix ≡ is.word ++ is.line = cc in
+    let whole : prefix ++ after ≡ is.word ++ (is.line ++ after) = ap (λ l. l ++ after) made ∙ append_assoc is.word is.line after in
     let each : Each is_identifier_byte is.word = each_from_test is_identifier_byte is.word tests.1 in
-    let word : run_of is_identifier_byte (front ++ after) ≡ is.word = ap (run_of is_identifier_byte) whole ∙ run-each is_identifier_byte is.word (is.line ++ after) each ∙ ap (λ l. is.word ++ l) (run-none is_identifier_byte (is.line ++ after) is.whole) ∙ append-nil is.word in
-    let rest : past is_identifier_byte (front ++ after) ≡ is.line ++ after = ap (past is_identifier_byte) whole ∙ past-each is_identifier_byte is.word (is.line ++ after) each ∙ past-none is_identifier_byte (is.line ++ after) is.whole in
-    cond_true (is_directive (run_of is_identifier_byte (front ++ after))) (Some (past is_in_line (past is_identifier_byte (front ++ after)))) None (ap is_directive word ∙ tests.0)
+    let word : run_of is_identifier_byte (prefix ++ after) ≡ is.word = ap (run_of is_identifier_byte) whole ∙ run-each is_identifier_byte is.word (is.line ++ after) each ∙ ap (λ l. is.word ++ l) (run-none is_identifier_byte (is.line ++ after) is.whole) ∙ append-nil is.word in
+    let rest : past is_identifier_byte (prefix ++ after) ≡ is.line ++ after = ap (past is_identifier_byte) whole ∙ past-each is_identifier_byte is.word (is.line ++ after) each ∙ past-none is_identifier_byte (is.line ++ after) is.whole in
+    cond_true (is_directive (run_of is_identifier_byte (prefix ++ after))) (Some (past is_in_line (past is_identifier_byte (prefix ++ after)))) None (ap is_directive word ∙ tests.0)
     ∙ ap (λ l. Some (past is_in_line l)) rest
     ∙ ap Some (past-each is_in_line is.line after is.in_line)
 
@@ -80,7 +80,7 @@ ends_not_graphic [] ends = tt
 ends_not_graphic (b ∷ r) ends = white_not_graphic b ends
 
 -- an escaped identifier, its backslash first
-pub escaped_sound : (t r : List ℕ) → behind_escaped t ≡ Some r → (front : List ℕ) × (t ≡ front ++ r) × IsEscaped (92 ∷ front) r
+pub escaped_sound : (t r : List ℕ) → after_escaped t ≡ Some r → (prefix : List ℕ) × (t ≡ prefix ++ r) × IsEscaped (92 ∷ prefix) r
 escaped_sound [] r h = absurd (cc)
 escaped_sound (b ∷ t) r h =
     ⊎_elim
@@ -99,17 +99,17 @@ escaped_sound (b ∷ t) r h =
     (λ not. absurd (cc))
     (chosen (is_graphic b) (at_white (past is_graphic t)) None (Some r) h)
 
-escaped_read : (name after : List ℕ) → 0 < length name → Each is_graphic name → EndsBefore is_white after → behind_escaped (name ++ after) ≡ Some after
+escaped_read : (name after : List ℕ) → 0 < length name → Each is_graphic name → EndsBefore is_white after → after_escaped (name ++ after) ≡ Some after
 escaped_read [] after some each ends = absurd (omega arith)
 escaped_read (b ∷ name) after some each ends =
     cond_true (is_graphic b) (at_white (past is_graphic (name ++ after))) None each.0
     ∙ ap at_white (past-each is_graphic name after each.1 ∙ past-none is_graphic after (ends_not_graphic after ends))
     ∙ at_white-ends after ends
 
-pub escaped_complete : (front after : List ℕ) → IsEscaped (92 ∷ front) after → behind_escaped (front ++ after) ≡ Some after
-escaped_complete front after is =
-    let made : is.name ≡ front = cc in
-    subst (λ l. behind_escaped (l ++ after) ≡ Some after) made (escaped_read is.name after is.some is.graphic is.whole)
+pub escaped_complete : (prefix after : List ℕ) → IsEscaped (92 ∷ prefix) after → after_escaped (prefix ++ after) ≡ Some after
+escaped_complete prefix after is =
+    let made : is.name ≡ prefix = cc in
+    subst (λ l. after_escaped (l ++ after) ≡ Some after) made (escaped_read is.name after is.some is.graphic is.whole)
 
 begins_is_byte : (b : ℕ) → begins_identifier b ≡ true → is_identifier_byte b ≡ true
 begins_is_byte b begins = grind (arith, nat_tests)

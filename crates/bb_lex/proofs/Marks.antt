@@ -55,7 +55,7 @@ short_other b mark h e =
     let none : short_mark b ≡ None = ap short_mark same in
     cc
 
--- a mark that is no left round bracket, at the front
+-- a mark that is no left round bracket, at the beginning
 pub record IsMarkAt (text : List ℕ) (kind : Option Kind) (r : List ℕ) : Type 0 where
   pub mark : Mark
   pub kind_is : kind ≡ Some (MarkKind mark)

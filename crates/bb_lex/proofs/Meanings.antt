@@ -10,12 +10,12 @@ use Rattle.std.proofs.lemmas.Bool.Decides.{nat_tests}
 use Rattle.bb_lex.specs.declared.token.Kind.{Kind}
 use Rattle.bb_lex.specs.Inside.Runs.{is_no_apostrophe, run_of}
 use Rattle.bb_lex.specs.Inside.Numbers.{size_of, value_of, based_value, sized_bits_of}
-use Rattle.bb_lex.specs.Meaning.{SaysBits}
+use Rattle.bb_lex.specs.Meaning.{MeansBits}
 use Rattle.bb_lex.specs.declared.token.Kind.TheVariants.{Sized, Plain}
 use Rattle.bb_lex.specs.declared.keyword.Keyword.{Keyword}
 use Rattle.bb_lex.specs.declared.token.Token.{Token}
 use Rattle.bb_lex.specs.Bytes.{is_white, is_decimal_byte, Each, past}
-use Rattle.bb_lex.specs.Numbers.{spelled, number, digits_of, radix_of, low_bits}
+use Rattle.bb_lex.specs.Numbers.{spelled, number, digits_of, radix_of, weighted_bits}
 use Rattle.bb_lex.specs.Pieces.{IsToken, IsSized, IsPlain, kind_of_word}
 use Rattle.bb_lex.specs.Pieces.IsToken.{Identifier, Escaped, SizedNumber, PlainNumber, Symbol}
 use Rattle.bb_lex.specs.Cut.{bytes_of, IsTokenOf}
@@ -88,7 +88,7 @@ run_of-sized bytes after is =
 size_by : (bytes after : List ℕ) (is : IsSized bytes after) → size_of bytes ≡ number 10 is.size
 size_by bytes after is = ap (number 10) (run_of-sized bytes after is) ∙ ap (spelled 10) (digits_of-gap is.size is.gap is.gap_white)
 
--- what stands behind the apostrophe of a sized number, with it
+-- what follows the apostrophe of a sized number, with it
 past-sized : (bytes after : List ℕ) (is : IsSized bytes after) → past is_no_apostrophe bytes ≡ 39 ∷ is.letter ∷ (is.space ++ is.digits)
 past-sized bytes after is =
     let t : List ℕ = 39 ∷ is.letter ∷ (is.space ++ is.digits) in
@@ -101,17 +101,17 @@ value_by bytes after is =
     ap (λ l. based_value (drop 1 l)) (past-sized bytes after is)
     ∙ ap (spelled (radix_of is.letter)) (digits_of-space (radix_of is.letter) is.space is.digits (radix_small is.letter) is.space_white)
 
-bits_by : (bytes after : List ℕ) (is : IsSized bytes after) → low_bits (size_of bytes) (value_of bytes) ≡ low_bits (number 10 is.size) (number (radix_of is.letter) is.digits)
-bits_by bytes after is = ap (λ n. low_bits n (value_of bytes)) (size_by bytes after is) ∙ ap (low_bits (number 10 is.size)) (value_by bytes after is)
+bits_by : (bytes after : List ℕ) (is : IsSized bytes after) → weighted_bits (size_of bytes) (value_of bytes) ≡ weighted_bits (number 10 is.size) (number (radix_of is.letter) is.digits)
+bits_by bytes after is = ap (λ n. weighted_bits n (value_of bytes)) (size_by bytes after is) ∙ ap (weighted_bits (number 10 is.size)) (value_by bytes after is)
 
 -- a sized number that is a token says what is read from its bytes, and nothing else
-pub says_read : (token : Token) (text : List ℕ) → token.kind ≡ Sized → IsTokenOf token text → SaysBits token text (sized_bits_of token text)
-says_read token text e is =
+pub reports_read : (token : Token) (text : List ℕ) → token.kind ≡ Sized → IsTokenOf token text → MeansBits token text (sized_bits_of token text)
+reports_read token text e is =
     let sized = sized_by token.kind (bytes_of token text) (drop token.«end» text) e is.is in
     record { is = sized; are = bits_by (bytes_of token text) (drop token.«end» text) sized }
 
-pub said_bits : (token : Token) (text : List ℕ) (bits : List Bool) → SaysBits token text bits → bits ≡ sized_bits_of token text
-said_bits token text bits says = says.are ∙ sym (bits_by (bytes_of token text) (drop token.«end» text) says.is)
+pub said_bits : (token : Token) (text : List ℕ) (bits : List Bool) → MeansBits token text bits → bits ≡ sized_bits_of token text
+said_bits token text bits reports = reports.are ∙ sym (bits_by (bytes_of token text) (drop token.«end» text) reports.is)
 
 pub size_small : (token : Token) (text : List ℕ) → token.kind ≡ Sized → IsTokenOf token text → size_of (bytes_of token text) ≤ 128
 size_small token text e is =
@@ -124,17 +124,17 @@ bit_below n j whole value e =
     ap (λ k. value % 2 ^ k / 2 ^ n % 2) (sym e) ∙ ap (λ x. x % 2) (field_of value (suc j) n) ∙ ap (λ k. value / 2 ^ n % 2 ^ k % 2) one ∙ mod-mod-pow (value / 2 ^ n) j 1
 
 -- the first bit, and the others
-pub low_bits-first : (n value : ℕ) → 0 < n → low_bits n value ≡ (value / 2 ^ (n - 1) % 2 == 1) ∷ low_bits (n - 1) value
-low_bits-first zero value some = absurd (omega arith)
-low_bits-first (suc n) value some = let e : suc n - 1 ≡ n = omega arith in ap (λ k. (value / 2 ^ k % 2 == 1) ∷ low_bits k value) (sym e)
+pub weighted_bits-first : (n value : ℕ) → 0 < n → weighted_bits n value ≡ (value / 2 ^ (n - 1) % 2 == 1) ∷ weighted_bits (n - 1) value
+weighted_bits-first zero value some = absurd (omega arith)
+weighted_bits-first (suc n) value some = let e : suc n - 1 ≡ n = omega arith in ap (λ k. (value / 2 ^ k % 2 == 1) ∷ weighted_bits k value) (sym e)
 
 -- the bits below a place are those of the rest below it
-pub low_bits-mod : (n value : ℕ) → n ≤ 128 → low_bits n (value % 2 ^ 128) ≡ low_bits n value
-low_bits-mod zero value small = refl
-low_bits-mod (suc n) value small =
+pub weighted_bits-mod : (n value : ℕ) → n ≤ 128 → weighted_bits n (value % 2 ^ 128) ≡ weighted_bits n value
+weighted_bits-mod zero value small = refl
+weighted_bits-mod (suc n) value small =
     let bit : value % 2 ^ 128 / 2 ^ n % 2 ≡ value / 2 ^ n % 2 = bit_below n (127 - n) 128 value (omega arith) in
-    ap (λ x. (x == 1) ∷ low_bits n (value % 2 ^ 128)) bit ∙ ap (λ l. (value / 2 ^ n % 2 == 1) ∷ l) (low_bits-mod n value (omega arith))
+    ap (λ x. (x == 1) ∷ weighted_bits n (value % 2 ^ 128)) bit ∙ ap (λ l. (value / 2 ^ n % 2 == 1) ∷ l) (weighted_bits-mod n value (omega arith))
 
 pub ruleset number_facts = (plain_fits, size_small)
 
-pub ruleset bit_facts = (low_bits-mod)
+pub ruleset bit_facts = (weighted_bits-mod)

@@ -7,7 +7,7 @@ use Rattle.bb_lex.specs.Bytes.{is_white, is_word_byte, is_decimal_byte, Each, Be
 use Rattle.bb_lex.specs.Numbers.{number, radix_of}
 use Rattle.bb_lex.specs.Pieces.{IsDecimalRun, IsDigitRun}
 use Rattle.bb_lex.specs.Inside.Runs.{run_of}
-use Rattle.bb_lex.specs.Inside.Numbers.{is_digit_run, value_fits, behind_digits, behind_base}
+use Rattle.bb_lex.specs.Inside.Numbers.{is_digit_run, value_fits, after_digits, after_base}
 use Rattle.bb_lex.proofs.Choices.{cases_of, chosen, cond_true, cond_false, left_true, right_true, both_true, each_from_test, test_from_each}
 use Rattle.bb_lex.proofs.Runs.{run-past, each_of_run, past_stops, past-each, run-each, past-none, run-none}
 
@@ -88,14 +88,14 @@ test_from_fits radix digits h =
     (λ other. cond_false (radix == 10) (nat_lt (number 10 digits) (2 ^ 128)) true other)
     (cases_of (radix == 10))
 
--- what stands behind the apostrophe of a sized number
+-- what follows the apostrophe of a sized number
 pub record IsBased (letter : ℕ) (space digits after : List ℕ) : Type 0 where
   pub space_white : Each is_white space
   pub digit_run : IsDigitRun (radix_of letter) digits
   pub whole : BeginsNot is_word_byte after
   pub decimal_fits : radix_of letter ≡ 10 → number 10 digits < 2 ^ 128
 
-pub base_sound : (t r : List ℕ) → behind_base t ≡ Some r → (letter : ℕ) × (space : List ℕ) × (digits : List ℕ) × (t ≡ letter ∷ (space ++ digits) ++ r) × IsBased letter space digits r
+pub base_sound : (t r : List ℕ) → after_base t ≡ Some r → (letter : ℕ) × (space : List ℕ) × (digits : List ℕ) × (t ≡ letter ∷ (space ++ digits) ++ r) × IsBased letter space digits r
 base_sound [] r h = absurd (cc)
 base_sound (letter ∷ t) r h =
     let radix : ℕ = radix_of letter in
@@ -119,14 +119,14 @@ base_sound (letter ∷ t) r h =
     (λ not. absurd (cc))
     (chosen (is_digit_run radix digits && value_fits radix digits) (Some (past is_word_byte rest)) None (Some r) h)
 
-pub base_complete : (letter : ℕ) (space digits after : List ℕ) → IsBased letter space digits after → behind_base (letter ∷ (space ++ (digits ++ after))) ≡ Some after
+pub base_complete : (letter : ℕ) (space digits after : List ℕ) → IsBased letter space digits after → after_base (letter ∷ (space ++ (digits ++ after))) ≡ Some after
 base_complete letter space digits after is =
     let radix : ℕ = radix_of letter in
     let small : radix ≤ 16 = radix_small letter in
     let rest : past is_white (space ++ (digits ++ after)) ≡ digits ++ after = past-each is_white space (digits ++ after) is.space_white ∙ past-none is_white (digits ++ after) (digits_not_white radix digits after small is.digit_run) in
     let each : Each is_word_byte digits = each_of_digits radix digits small is.digit_run in
     let run : run_of is_word_byte (digits ++ after) ≡ digits = run-each is_word_byte digits after each ∙ ap (λ l. digits ++ l) (run-none is_word_byte after is.whole) ∙ append-nil digits in
-    ap (behind_digits radix) rest
+    ap (after_digits radix) rest
     ∙ cond_true (is_digit_run radix (run_of is_word_byte (digits ++ after)) && value_fits radix (run_of is_word_byte (digits ++ after))) (Some (past is_word_byte (digits ++ after))) None
     (ap (λ l. is_digit_run radix l && value_fits radix l) run ∙ both_true (is_digit_run radix digits) _ (test_from_digits radix digits is.digit_run) (test_from_fits radix digits is.decimal_fits))
     ∙ ap Some (past-each is_word_byte digits after each ∙ past-none is_word_byte after is.whole)

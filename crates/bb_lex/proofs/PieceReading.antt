@@ -17,7 +17,7 @@ use Rattle.bb_lex.specs.Pieces.IsToken.{Identifier, Escaped, SizedNumber, PlainN
 use Rattle.bb_lex.specs.Inside.Runs.{run_of}
 use Rattle.bb_lex.specs.Inside.Found.{skipped, token_of}
 use Rattle.bb_lex.specs.Inside.Numbers.{number_at}
-use Rattle.bb_lex.specs.Inside.Skips.{behind_pair, behind_comment, behind_attribute, behind_directive, behind_escaped}
+use Rattle.bb_lex.specs.Inside.Skips.{after_pair, after_comment, after_attribute, after_directive, after_escaped}
 use Rattle.bb_lex.specs.Inside.Marks.{round_at, short_mark, long_mark, mark_before, longer_mark}
 use Rattle.bb_lex.specs.Inside.Pieces.{opening_of, opened_by, piece_at}
 use Rattle.bb_lex.proofs.Choices.{cases_of, chosen, cond_true, cond_false, some_pair}
@@ -81,32 +81,32 @@ opens b =
     (cases_of (begins_identifier b)))
     (cases_of (is_white b))
 
--- a piece at the front of a text, and what is left behind it
-pub record IsAtFront (text : List ℕ) (kind : Option Kind) (r : List ℕ) : Type 0 where
-  pub front : List ℕ
-  pub splits : text ≡ front ++ r
-  pub is : IsPiece (record { kind = kind; bytes = front }) r
+-- a piece at the beginning of a text, and what is left after it
+pub record IsAtPrefix (text : List ℕ) (kind : Option Kind) (r : List ℕ) : Type 0 where
+  pub prefix : List ℕ
+  pub splits : text ≡ prefix ++ r
+  pub is : IsPiece (record { kind = kind; bytes = prefix }) r
 
-skip_front : (text front r : List ℕ) (kind : Option Kind) → kind ≡ None → text ≡ front ++ r → IsSkip front r → IsAtFront text kind r
-skip_front text front r None k e is = record { front = front; splits = e; is = is }
-skip_front text front r (Some kind) k e is = absurd (cc)
+skip_prefix : (text prefix r : List ℕ) (kind : Option Kind) → kind ≡ None → text ≡ prefix ++ r → IsSkip prefix r → IsAtPrefix text kind r
+skip_prefix text prefix r None k e is = record { prefix = prefix; splits = e; is = is }
+skip_prefix text prefix r (Some kind) k e is = absurd (cc)
 
-token_front : (text front r : List ℕ) (kind : Option Kind) (k : Kind) → kind ≡ Some k → text ≡ front ++ r → IsToken k front r → IsAtFront text kind r
-token_front text front r kind k is e token = record { front = front; splits = e; is = subst (λ o. IsPiece (record { kind = o; bytes = front }) r) (sym is) token }
+token_prefix : (text prefix r : List ℕ) (kind : Option Kind) (k : Kind) → kind ≡ Some k → text ≡ prefix ++ r → IsToken k prefix r → IsAtPrefix text kind r
+token_prefix text prefix r kind k is e token = record { prefix = prefix; splits = e; is = subst (λ o. IsPiece (record { kind = o; bytes = prefix }) r) (sym is) token }
 
 skipped_sound : (o : Option (List ℕ)) (kind : Option Kind) (r : List ℕ) → skipped o ≡ Some (kind, r) → (kind ≡ None) × (o ≡ Some r)
 skipped_sound None kind r h = absurd (cc)
 skipped_sound (Some after) kind r h = let both = some_pair None kind after r h in (sym both.0, ap Some both.1)
 
-comment_sound : (t r : List ℕ) (kind : Option Kind) → skipped (behind_comment t) ≡ Some (kind, r) → IsAtFront (47 ∷ t) kind r
+comment_sound : (t r : List ℕ) (kind : Option Kind) → skipped (after_comment t) ≡ Some (kind, r) → IsAtPrefix (47 ∷ t) kind r
 comment_sound [] r kind h = absurd (cc)
 comment_sound (b ∷ t) r kind h =
-    let found = skipped_sound (behind_comment (b ∷ t)) kind r h in
+    let found = skipped_sound (after_comment (b ∷ t)) kind r h in
     ⊎_elim
     (λ line.
     let b_is : b ≡ 47 = eqb-true b 47 line.0 in
     let e : past is_in_line t ≡ r = cc in
-    skip_front (47 ∷ b ∷ t) (47 ∷ b ∷ run_of is_in_line t) r kind found.0
+    skip_prefix (47 ∷ b ∷ t) (47 ∷ b ∷ run_of is_in_line t) r kind found.0
     (ap (λ l. 47 ∷ b ∷ l) (sym (ap (λ l. run_of is_in_line t ++ l) (sym e) ∙ run-past is_in_line t)))
     (LineComment (record { body = run_of is_in_line t; opens = ap (λ n. 47 ∷ n ∷ run_of is_in_line t) b_is; in_line = each_of_run is_in_line t })))
     (λ other.
@@ -114,66 +114,66 @@ comment_sound (b ∷ t) r kind h =
     (λ block.
     let b_is : b ≡ 42 = eqb-true b 42 block.0 in
     let w = pair_sound 42 47 t r block.1 in
-    skip_front (47 ∷ b ∷ t) (47 ∷ b ∷ w.0) r kind found.0 (ap (λ l. 47 ∷ b ∷ l) w.1)
+    skip_prefix (47 ∷ b ∷ t) (47 ∷ b ∷ w.0) r kind found.0 (ap (λ l. 47 ∷ b ∷ l) w.1)
     (BlockComment (record { body = w.0; opens = ap (λ n. 47 ∷ n ∷ w.0) b_is; closes = w.2 })))
     (λ not. absurd (cc))
-    (chosen (b == 42) (behind_pair 42 47 t) None (Some r) other.1))
-    (chosen (b == 47) (Some (past is_in_line t)) (cond (b == 42) (behind_pair 42 47 t) None) (Some r) found.1)
+    (chosen (b == 42) (after_pair 42 47 t) None (Some r) other.1))
+    (chosen (b == 47) (Some (past is_in_line t)) (cond (b == 42) (after_pair 42 47 t) None) (Some r) found.1)
 
-round_front : (t r : List ℕ) (kind : Option Kind) → kind ≡ Some (MarkKind LeftRound) → t ≡ r → BeginsNot (λ b. b == 42) t → IsAtFront (40 ∷ t) kind r
-round_front t r kind is e not =
-    token_front (40 ∷ t) (40 ∷ []) r kind (MarkKind LeftRound) is (ap (λ l. 40 ∷ l) e) (Symbol LeftRound refl (λ _. subst (BeginsNot (λ b. b == 42)) e not) refl)
+round_prefix : (t r : List ℕ) (kind : Option Kind) → kind ≡ Some (MarkKind LeftRound) → t ≡ r → BeginsNot (λ b. b == 42) t → IsAtPrefix (40 ∷ t) kind r
+round_prefix t r kind is e not =
+    token_prefix (40 ∷ t) (40 ∷ []) r kind (MarkKind LeftRound) is (ap (λ l. 40 ∷ l) e) (Symbol LeftRound refl (λ _. subst (BeginsNot (λ b. b == 42)) e not) refl)
 
-round_sound : (t r : List ℕ) (kind : Option Kind) → round_at t ≡ Some (kind, r) → IsAtFront (40 ∷ t) kind r
-round_sound [] r kind h = let both = some_pair (Some (MarkKind LeftRound)) kind [] r h in round_front [] r kind (sym both.0) both.1 tt
+round_sound : (t r : List ℕ) (kind : Option Kind) → round_at t ≡ Some (kind, r) → IsAtPrefix (40 ∷ t) kind r
+round_sound [] r kind h = let both = some_pair (Some (MarkKind LeftRound)) kind [] r h in round_prefix [] r kind (sym both.0) both.1 tt
 round_sound (b ∷ t) r kind h =
     ⊎_elim
     (λ star.
     let b_is : b ≡ 42 = eqb-true b 42 star.0 in
-    let found = skipped_sound (behind_attribute t) kind r star.1 in
+    let found = skipped_sound (after_attribute t) kind r star.1 in
     let w = attribute_sound t r found.1 in
-    skip_front (40 ∷ b ∷ t) (40 ∷ b ∷ w.0) r kind found.0 (ap (λ l. 40 ∷ b ∷ l) w.2)
+    skip_prefix (40 ∷ b ∷ t) (40 ∷ b ∷ w.0) r kind found.0 (ap (λ l. 40 ∷ b ∷ l) w.2)
     (Attribute (record { body = w.0; parts = w.1; opens = ap (λ n. 40 ∷ n ∷ w.0) b_is; not_at_once = w.3; closes = w.4 })))
     (λ other.
     let both = some_pair (Some (MarkKind LeftRound)) kind (b ∷ t) r other.1 in
-    round_front (b ∷ t) r kind (sym both.0) both.1 other.0)
-    (chosen (b == 42) (skipped (behind_attribute t)) (Some (Some (MarkKind LeftRound), b ∷ t)) (Some (kind, r)) h)
+    round_prefix (b ∷ t) r kind (sym both.0) both.1 other.0)
+    (chosen (b == 42) (skipped (after_attribute t)) (Some (Some (MarkKind LeftRound), b ∷ t)) (Some (kind, r)) h)
 
-number_front : (text front r : List ℕ) (kind : Option Kind) → text ≡ front ++ r → IsNumber kind front r → IsAtFront text kind r
-number_front text front r kind e is =
+number_prefix : (text prefix r : List ℕ) (kind : Option Kind) → text ≡ prefix ++ r → IsNumber kind prefix r → IsAtPrefix text kind r
+number_prefix text prefix r kind e is =
     ⊎_elim
-    (λ plain. token_front text front r kind Plain plain.0 e (PlainNumber plain.1 refl))
-    (λ sized. token_front text front r kind Sized sized.0 e (SizedNumber sized.1 refl))
+    (λ plain. token_prefix text prefix r kind Plain plain.0 e (PlainNumber plain.1 refl))
+    (λ sized. token_prefix text prefix r kind Sized sized.0 e (SizedNumber sized.1 refl))
     is
 
-opened_sound : (b : ℕ) (t r : List ℕ) (kind : Option Kind) → Opens b → opened_by (opening_of b) b t ≡ Some (kind, r) → IsAtFront (b ∷ t) kind r
+opened_sound : (b : ℕ) (t r : List ℕ) (kind : Option Kind) → Opens b → opened_by (opening_of b) b t ≡ Some (kind, r) → IsAtPrefix (b ∷ t) kind r
 opened_sound b t r kind (OpensWhite o white) h =
     let both = some_pair None kind t r (subst (λ p. opened_by p b t ≡ Some (kind, r)) o h) in
-    skip_front (b ∷ t) (b ∷ []) r kind (sym both.0) (ap (λ l. b ∷ l) both.1) (White b refl white)
+    skip_prefix (b ∷ t) (b ∷ []) r kind (sym both.0) (ap (λ l. b ∷ l) both.1) (White b refl white)
 opened_sound b t r kind (OpensIdentifier o begins) h =
     let run : List ℕ = run_of is_identifier_byte (b ∷ t) in
     let both = some_pair (Some (kind_of_word (keyword_of run))) kind (past is_identifier_byte (b ∷ t)) r (subst (λ p. opened_by p b t ≡ Some (kind, r)) o h) in
-    token_front (b ∷ t) run r kind (kind_of_word (keyword_of run)) (sym both.0) (sym (run-past is_identifier_byte (b ∷ t)) ∙ ap (λ l. run ++ l) both.1) (Identifier (identifier_sound b t begins) refl)
+    token_prefix (b ∷ t) run r kind (kind_of_word (keyword_of run)) (sym both.0) (sym (run-past is_identifier_byte (b ∷ t)) ∙ ap (λ l. run ++ l) both.1) (Identifier (identifier_sound b t begins) refl)
 opened_sound b t r kind (OpensNumber o digit) h =
     let w = number_sound b t r kind digit (subst (λ p. opened_by p b t ≡ Some (kind, r)) o h) in
-    number_front (b ∷ t) w.0 r kind w.1 w.2
+    number_prefix (b ∷ t) w.0 r kind w.1 w.2
 opened_sound b t r kind (OpensComment o is) h =
-    subst (λ n. IsAtFront (n ∷ t) kind r) (sym is) (comment_sound t r kind (subst (λ p. opened_by p b t ≡ Some (kind, r)) o h))
+    subst (λ n. IsAtPrefix (n ∷ t) kind r) (sym is) (comment_sound t r kind (subst (λ p. opened_by p b t ≡ Some (kind, r)) o h))
 opened_sound b t r kind (OpensRound o is) h =
-    subst (λ n. IsAtFront (n ∷ t) kind r) (sym is) (round_sound t r kind (subst (λ p. opened_by p b t ≡ Some (kind, r)) o h))
+    subst (λ n. IsAtPrefix (n ∷ t) kind r) (sym is) (round_sound t r kind (subst (λ p. opened_by p b t ≡ Some (kind, r)) o h))
 opened_sound b t r kind (OpensEscaped o is) h =
-    let found = token_sound Name (behind_escaped t) kind r (subst (λ p. opened_by p b t ≡ Some (kind, r)) o h) in
+    let found = token_sound Name (after_escaped t) kind r (subst (λ p. opened_by p b t ≡ Some (kind, r)) o h) in
     let w = escaped_sound t r found.1 in
-    subst (λ n. IsAtFront (n ∷ t) kind r) (sym is) (token_front (92 ∷ t) (92 ∷ w.0) r kind Name found.0 (ap (λ l. 92 ∷ l) w.1) (Escaped w.2 refl))
+    subst (λ n. IsAtPrefix (n ∷ t) kind r) (sym is) (token_prefix (92 ∷ t) (92 ∷ w.0) r kind Name found.0 (ap (λ l. 92 ∷ l) w.1) (Escaped w.2 refl))
 opened_sound b t r kind (OpensDirective o is) h =
-    let found = skipped_sound (behind_directive t) kind r (subst (λ p. opened_by p b t ≡ Some (kind, r)) o h) in
+    let found = skipped_sound (after_directive t) kind r (subst (λ p. opened_by p b t ≡ Some (kind, r)) o h) in
     let w = directive_sound t r found.1 in
-    subst (λ n. IsAtFront (n ∷ t) kind r) (sym is) (skip_front (96 ∷ t) (96 ∷ w.0) r kind found.0 (ap (λ l. 96 ∷ l) w.1) (Directive w.2))
+    subst (λ n. IsAtPrefix (n ∷ t) kind r) (sym is) (skip_prefix (96 ∷ t) (96 ∷ w.0) r kind found.0 (ap (λ l. 96 ∷ l) w.1) (Directive w.2))
 opened_sound b t r kind (OpensMark o) h =
     let w = mark_sound b t r kind (subst (λ p. opened_by p b t ≡ Some (kind, r)) o h) in
-    token_front (b ∷ t) (written w.mark) r kind (MarkKind w.mark) w.kind_is w.splits (Symbol w.mark refl (λ e. absurd (w.some e)) refl)
+    token_prefix (b ∷ t) (written w.mark) r kind (MarkKind w.mark) w.kind_is w.splits (Symbol w.mark refl (λ e. absurd (w.some e)) refl)
 
-pub piece_sound : (text r : List ℕ) (kind : Option Kind) → piece_at text ≡ Some (kind, r) → IsAtFront text kind r
+pub piece_sound : (text r : List ℕ) (kind : Option Kind) → piece_at text ≡ Some (kind, r) → IsAtPrefix text kind r
 piece_sound [] r kind h = absurd (cc)
 piece_sound (b ∷ t) r kind h = opened_sound b t r kind (opens b) h
 
@@ -213,13 +213,13 @@ skip_complete bytes after (BlockComment is) =
 skip_complete bytes after (Attribute is) =
     reaches_as None bytes (40 ∷ 42 ∷ is.body) after is.opens (exactly None (40 ∷ 42 ∷ is.body) after (ap skipped (attribute_complete is.body after is.parts is.not_at_once is.closes)))
 skip_complete bytes after (Directive is) =
-    let front : List ℕ = is.word ++ is.line in
-    reaches_as None bytes (96 ∷ front) after is.opens (record {
+    let prefix : List ℕ = is.word ++ is.line in
+    reaches_as None bytes (96 ∷ prefix) after is.opens (record {
       found = None;
       more = run_of is_in_line after;
       rest = past is_in_line after;
       splits = sym (run-past is_in_line after);
-      read = ap skipped (directive_complete front after (subst (λ l. IsDirective l after) is.opens is));
+      read = ap skipped (directive_complete prefix after (subst (λ l. IsDirective l after) is.opens is));
       same = λ _. refl;
     })
 
@@ -240,19 +240,19 @@ identifier_complete (b ∷ bytes) after kind is k =
       same = λ none. ap (λ l. Some (kind_of_word (keyword_of l))) (ap (λ l. (b ∷ bytes) ++ l) none ∙ append-nil (b ∷ bytes)) ∙ ap Some (sym k);
     }
 
-read_number : (run behind : List ℕ) → IsDecimalRun run → piece_at (run ++ behind) ≡ number_at (run ++ behind)
-read_number [] behind is = absurd is
-read_number (b ∷ run) behind is = ap (λ o. opened_by o b (run ++ behind)) (opening-number b is.0)
+read_number : (run afterwards : List ℕ) → IsDecimalRun run → piece_at (run ++ afterwards) ≡ number_at (run ++ afterwards)
+read_number [] afterwards is = absurd is
+read_number (b ∷ run) afterwards is = ap (λ o. opened_by o b (run ++ afterwards)) (opening-number b is.0)
 
 sized_read : (bytes after : List ℕ) → IsSized bytes after → piece_at (bytes ++ after) ≡ Some (Some Sized, after)
 sized_read bytes after is =
-    let behind : List ℕ = is.gap ++ 39 ∷ is.letter ∷ (is.space ++ is.digits) in
-    let made : bytes ++ after ≡ is.size ++ (behind ++ after) = ap (λ l. l ++ after) is.made_of ∙ append_assoc is.size behind after in
-    ap piece_at made ∙ read_number is.size (behind ++ after) is.size_run ∙ ap number_at (sym made) ∙ sized_complete bytes after is
+    let afterwards : List ℕ = is.gap ++ 39 ∷ is.letter ∷ (is.space ++ is.digits) in
+    let made : bytes ++ after ≡ is.size ++ (afterwards ++ after) = ap (λ l. l ++ after) is.made_of ∙ append_assoc is.size afterwards after in
+    ap piece_at made ∙ read_number is.size (afterwards ++ after) is.size_run ∙ ap number_at (sym made) ∙ sized_complete bytes after is
 
 round_complete : (after : List ℕ) → BeginsNot (λ b. b == 42) after → Reaches (Some (MarkKind LeftRound)) (40 ∷ []) after
 round_complete [] not = exactly (Some (MarkKind LeftRound)) (40 ∷ []) [] refl
-round_complete (b ∷ after) not = exactly (Some (MarkKind LeftRound)) (40 ∷ []) (b ∷ after) (cond_false (b == 42) (skipped (behind_attribute after)) (Some (Some (MarkKind LeftRound), b ∷ after)) not)
+round_complete (b ∷ after) not = exactly (Some (MarkKind LeftRound)) (40 ∷ []) (b ∷ after) (cond_false (b == 42) (skipped (after_attribute after)) (Some (Some (MarkKind LeftRound), b ∷ after)) not)
 
 -- a byte, or two bytes, and the mark that they are read as
 ReadsMark : Mark → List ℕ → Type 0
@@ -266,7 +266,7 @@ unfolding ReadsMark
 reads_mark LeftRound other = absurd (other refl)
 reads_mark mark other = (refl, refl)
 
--- a byte is read with the one behind it where both are a mark, and else alone
+-- a byte is read with the one after it where both are a mark, and else alone
 longer_reads : (mark : Mark) (b c : ℕ) (after : List ℕ) (longer : Option Mark) → opening_of b ≡ opening.Mark → short_mark b ≡ Some mark → long_mark b c ≡ longer
     → Reaches (Some (MarkKind mark)) (b ∷ []) (c ∷ after)
 longer_reads mark b c after None o short long =

@@ -1,4 +1,4 @@
--- The longest run of a class of bytes at the front, and what is left behind it.
+-- The longest run of a class of bytes at the beginning, and what is left after it.
 use Rattle.std.proofs.Common.{◌≡◌, ℕ, ◌-◌, ◌≤◌, Bool, List, [], ◌∷◌, ◌++◌, length, take, drop, refl, ap, ◌∙◌, arith, ⊎_elim, length-append}
 use Rattle.std.proofs.lemmas.List.{take_at, drop_at}
 use Rattle.bb_lex.specs.Bytes.{Each, BeginsNot, past}
@@ -36,7 +36,7 @@ past_stops p (b ∷ t) =
     (λ no. rw (cond_false (p b) (past p t) (b ∷ t) no) no)
     (cases_of (p b))
 
--- bytes of the class at the front are passed
+-- bytes of the class at the beginning are passed
 pub past-each : (p : ℕ → Bool) (body after : List ℕ) → Each p body → past p (body ++ after) ≡ past p after
 past-each p [] after each = refl
 past-each p (b ∷ body) after each = cond_true (p b) (past p (body ++ after)) (b ∷ body ++ after) each.0 ∙ past-each p body after each.1
@@ -55,20 +55,20 @@ run-none p [] not = refl
 run-none p (b ∷ t) not = cond_false (p b) (b ∷ run_of p t) [] not
 
 -- a front and its rest by their lengths
-pub take-front : (t front rest : List ℕ) → front ++ rest ≡ t → take (length t - length rest) t ≡ front
-take-front t front rest e =
-    let n : length t - length rest ≡ length front = omega (arith, ap length e, length-append front rest) in
-    rw (n, ← e) (take_at front rest (length front) refl)
+pub take-prefix : (t prefix rest : List ℕ) → prefix ++ rest ≡ t → take (length t - length rest) t ≡ prefix
+take-prefix t prefix rest e =
+    let n : length t - length rest ≡ length prefix = omega (arith, ap length e, length-append prefix rest) in
+    rw (n, ← e) (take_at prefix rest (length prefix) refl)
 
-pub drop-front : (t front rest : List ℕ) → front ++ rest ≡ t → drop (length t - length rest) t ≡ rest
-drop-front t front rest e =
-    let n : length t - length rest ≡ length front = omega (arith, ap length e, length-append front rest) in
-    rw (n, ← e) (drop_at front rest (length front) refl)
+pub drop-prefix : (t prefix rest : List ℕ) → prefix ++ rest ≡ t → drop (length t - length rest) t ≡ rest
+drop-prefix t prefix rest e =
+    let n : length t - length rest ≡ length prefix = omega (arith, ap length e, length-append prefix rest) in
+    rw (n, ← e) (drop_at prefix rest (length prefix) refl)
 
 pub take-past : (p : ℕ → Bool) (t : List ℕ) → take (length t - length (past p t)) t ≡ run_of p t
-take-past p t = take-front t (run_of p t) (past p t) (run-past p t)
+take-past p t = take-prefix t (run_of p t) (past p t) (run-past p t)
 
 pub drop-past : (p : ℕ → Bool) (t : List ℕ) → drop (length t - length (past p t)) t ≡ past p t
-drop-past p t = drop-front t (run_of p t) (past p t) (run-past p t)
+drop-past p t = drop-prefix t (run_of p t) (past p t) (run-past p t)
 
 pub ruleset run_parts = (length-past, take-past, drop-past)

@@ -42,7 +42,7 @@ entry_of-none b bytes (y ∷ ys) none =
     cond_false (bytes_eq y.0 (b ∷ bytes)) (Some y.1) (entry_of ys (b ∷ bytes)) (word_misses b y.0 bytes (left_true _ _ none))
     ∙ entry_of-none b bytes ys (right_true (not (begins_with b y.0)) _ none)
 
--- what stands behind entries is not reached where nothing is found there
+-- what follows entries is not reached where nothing is found there
 entry_of-append : (w : List ℕ) (xs ys : List (List ℕ × Keyword)) → entry_of ys w ≡ None → entry_of (xs ++ ys) w ≡ entry_of xs w
 entry_of-append w [] ys none = none
 entry_of-append w (x ∷ xs) ys none = ap (λ o. cond (bytes_eq x.0 w) (Some x.1) o) (entry_of-append w xs ys none)

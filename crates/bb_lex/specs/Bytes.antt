@@ -62,7 +62,7 @@ begins_identifier b = is_ascii_alphabetic b || b == underscore
 abbrev pub is_identifier_byte : ℕ → Bool
 is_identifier_byte b = is_ascii_alphabetic b || is_ascii_digit b || b == underscore || b == dollar
 
--- what a run of digits with a base is made of, right or wrong: letters, digits, _, $ and ?
+-- the bytes of a run of digits with a base, right or wrong: letters, digits, _, $ and ?
 abbrev pub is_word_byte : ℕ → Bool
 is_word_byte b = is_identifier_byte b || b == question_mark
 
@@ -74,7 +74,7 @@ is_decimal_byte b = is_ascii_digit b || b == underscore
 abbrev pub is_graphic : ℕ → Bool
 is_graphic b = is_ascii_graphic b
 
--- what stands in one line: every byte but the newline
+-- the bytes of one line: every byte but the newline
 abbrev pub is_in_line : ℕ → Bool
 is_in_line b = not (b == newline)
 
@@ -95,7 +95,7 @@ abbrev pub EndsBefore : (ℕ → Bool) → List ℕ → Type 0
 EndsBefore is [] = Unit {0}
 EndsBefore is (b ∷ bytes) = is b ≡ true
 
--- what is left behind the longest run of the class at the front
+-- the rest after the longest run of the class at the start
 abbrev pub past : (ℕ → Bool) → List ℕ → List ℕ
 past is [] = []
 past is (b ∷ bytes) = if is b then past is bytes else (b ∷ bytes)

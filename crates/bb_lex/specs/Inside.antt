@@ -1,4 +1,4 @@
--- What functions inside the crate compute, reading a text from the front, as functions on lists.
+-- What functions inside the crate compute, reading a text from the start, as functions on lists.
 pub mod Answers
 pub mod Found
 pub mod Marks

@@ -7,11 +7,11 @@ use Rattle.bb_lex.specs.declared.token.Token.{Token}
 use Rattle.bb_lex.specs.Bytes.{is_graphic, Each}
 use Rattle.bb_lex.specs.Pieces.{Piece, IsPiece}
 use Rattle.bb_lex.specs.Skips.{EndsAtFirst}
-use Rattle.bb_lex.specs.Cut.{IsLongest, IsCut, AreTokens, IsBadBehind, IsBadOn, IsTokenOf, StandsBefore}
-use Rattle.bb_lex.specs.Meaning.{name_of, IsNameOrWord, SaysBits, plain_value_of}
+use Rattle.bb_lex.specs.Cut.{IsLongest, IsCut, AreTokens, IsBadAfter, IsBadOn, IsTokenOf, IsBefore}
+use Rattle.bb_lex.specs.Meaning.{name_of, IsNameOrWord, MeansBits, plain_value_of}
 use Rattle.bb_lex.specs.Inside.Numbers.{sized_bits_of}
 use Rattle.bb_lex.specs.Inside.Pieces.{piece_at}
-use Rattle.bb_lex.specs.Numbers.{spelled, low_bits, bit_value}
+use Rattle.bb_lex.specs.Numbers.{spelled, weighted_bits, bit_value}
 
 -- a text is cut in one way, and so has one list of tokens
 abbrev pub CutsAreOne : Type 0
@@ -22,17 +22,17 @@ TokensAreOne = (text : List ℕ) (tokens others : List Token) → AreTokens text
 
 -- a text goes wrong at one place, and so on one line
 abbrev pub BadPlacesAreOne : Type 0
-BadPlacesAreOne = (text front other : List ℕ) → IsBadBehind text front → IsBadBehind text other → front ≡ other
+BadPlacesAreOne = (text prefix other : List ℕ) → IsBadAfter text prefix → IsBadAfter text other → prefix ≡ other
 
 abbrev pub BadLinesAreOne : Type 0
 BadLinesAreOne = (text : List ℕ) (line other : ℕ) → IsBadOn text line → IsBadOn text other → line ≡ other
 
 -- a text is cut or goes wrong, and not both
 abbrev pub CutOrBad : Type 0
-CutOrBad = (text : List ℕ) → ((pieces : List Piece) × IsCut text pieces) ⊎ ((front : List ℕ) × IsBadBehind text front)
+CutOrBad = (text : List ℕ) → ((pieces : List Piece) × IsCut text pieces) ⊎ ((prefix : List ℕ) × IsBadAfter text prefix)
 
 abbrev pub NotBoth : Type 0
-NotBoth = (text front : List ℕ) (pieces : List Piece) → IsCut text pieces → IsBadBehind text front → ⊥
+NotBoth = (text prefix : List ℕ) (pieces : List Piece) → IsCut text pieces → IsBadAfter text prefix → ⊥
 
 -- it has tokens or goes wrong on a line, and not both
 abbrev pub TokensOrBadLine : Type 0
@@ -41,15 +41,15 @@ TokensOrBadLine = (text : List ℕ) → ((tokens : List Token) × AreTokens text
 abbrev pub NotTokensAndBadLine : Type 0
 NotTokensAndBadLine = (text : List ℕ) (tokens : List Token) (line : ℕ) → AreTokens text tokens → IsBadOn text line → ⊥
 
--- each token of a text is one where it stands
-abbrev pub TokensStandInText : Type 0
-TokensStandInText = (text : List ℕ) (tokens : List Token) → AreTokens text tokens → All (λ token. IsTokenOf token text) tokens
+-- each token of a text is one at its place
+abbrev pub TokensAreInText : Type 0
+TokensAreInText = (text : List ℕ) (tokens : List Token) → AreTokens text tokens → All (λ token. IsTokenOf token text) tokens
 
 -- spans rise, and lines do not fall
 abbrev pub TokensRise : Type 0
-TokensRise = (text : List ℕ) (tokens : List Token) → AreTokens text tokens → AllPairs StandsBefore tokens
+TokensRise = (text : List ℕ) (tokens : List Token) → AreTokens text tokens → AllPairs IsBefore tokens
 
--- a token ends behind more bytes than tokens stand before it
+-- a token ends after more bytes than tokens come before it
 abbrev pub TokensEndPastTheirPlaces : Type 0
 TokensEndPastTheirPlaces = (text : List ℕ) (tokens : List Token) → AreTokens text tokens → (i : ℕ) (d : Token) → i < length tokens → i < (slice_index_or tokens i d).«end»
 
@@ -63,26 +63,26 @@ NamesArePrintable = (token : Token) (text : List ℕ) → IsTokenOf token text �
 
 -- a sized number says one list of bits
 abbrev pub SizedTokensSayBits : Type 0
-SizedTokensSayBits = (token : Token) (text : List ℕ) → IsTokenOf token text → token.kind ≡ Sized → (bits : List Bool) × SaysBits token text bits
+SizedTokensSayBits = (token : Token) (text : List ℕ) → IsTokenOf token text → token.kind ≡ Sized → (bits : List Bool) × MeansBits token text bits
 
 abbrev pub SizedBitsAreOne : Type 0
-SizedBitsAreOne = (token : Token) (text : List ℕ) (bits others : List Bool) → SaysBits token text bits → SaysBits token text others → bits ≡ others
+SizedBitsAreOne = (token : Token) (text : List ℕ) (bits others : List Bool) → MeansBits token text bits → MeansBits token text others → bits ≡ others
 
 -- of 1 to 128 bits
 abbrev pub SizedBitsFit : Type 0
-SizedBitsFit = (token : Token) (text : List ℕ) (bits : List Bool) → SaysBits token text bits → (1 ≤ length bits) × (length bits ≤ 128)
+SizedBitsFit = (token : Token) (text : List ℕ) (bits : List Bool) → MeansBits token text bits → (1 ≤ length bits) × (length bits ≤ 128)
 
 -- a plain number is below 2 ^ 31
 abbrev pub PlainValuesFit : Type 0
 PlainValuesFit = (token : Token) (text : List ℕ) → IsTokenOf token text → token.kind ≡ Plain → plain_value_of token text < 2 ^ 31
 
 -- what sized_bits_of computes from the bytes of a sized number is what that says
-abbrev pub ReadBitsAreSaid : Type 0
-ReadBitsAreSaid = (token : Token) (text : List ℕ)
-    → (IsTokenOf token text → token.kind ≡ Sized → SaysBits token text (sized_bits_of token text))
-    × ((bits : List Bool) → SaysBits token text bits → bits ≡ sized_bits_of token text)
+abbrev pub ReadBitsAreMeant : Type 0
+ReadBitsAreMeant = (token : Token) (text : List ℕ)
+    → (IsTokenOf token text → token.kind ≡ Sized → MeansBits token text (sized_bits_of token text))
+    × ((bits : List Bool) → MeansBits token text bits → bits ≡ sized_bits_of token text)
 
--- what piece_at computes is the longest piece at the front of a text, and none where none begins
+-- what piece_at computes is the longest piece at the start of a text, and none where none begins
 abbrev pub ReadPiecesAreLongest : Type 0
 ReadPiecesAreLongest = (text rest : List ℕ) (kind : Option Kind) → piece_at text ≡ Some (kind, rest)
     → (bytes : List ℕ) × (text ≡ bytes ++ rest) × IsLongest (record { kind = kind; bytes = bytes }) rest
@@ -95,12 +95,12 @@ NoneIsReadWhereNoneBegins = (text : List ℕ)
     → (piece_at text ≡ None → (piece : Piece) (after : List ℕ) → text ≡ piece.bytes ++ after → IsPiece piece after → ⊥)
     × (((piece : Piece) (after : List ℕ) → text ≡ piece.bytes ++ after → IsPiece piece after → ⊥) → piece_at text ≡ None)
 
--- the low bits of a number are as many as are asked for, and spell it modulo that power of 2
+-- the low n bits of a number spell it modulo 2 ^ n
 abbrev pub LowBitsSpell : Type 0
-LowBitsSpell = (n value : ℕ) → (length (low_bits n value) ≡ n) × (spelled 2 (map bit_value (low_bits n value)) ≡ value % 2 ^ n)
+LowBitsSpell = (n value : ℕ) → (length (weighted_bits n value) ≡ n) × (spelled 2 (map bit_value (weighted_bits n value)) ≡ value % 2 ^ n)
 
--- what ends at the first place of two bytes ends with them, and they stand side by side nowhere before
+-- what ends at the first place of two bytes ends with them, and they are side by side nowhere before
 abbrev pub EndsAtFirstPlace : Type 0
 EndsAtFirstPlace = (x y : ℕ) (bytes : List ℕ) → EndsAtFirst x y bytes →
     ((body : List ℕ) × (bytes ≡ body ++ x ∷ y ∷ []))
-    × ((front back : List ℕ) → bytes ≡ front ++ x ∷ y ∷ back → back ≡ [])
+    × ((prefix back : List ℕ) → bytes ≡ prefix ++ x ∷ y ∷ back → back ≡ [])

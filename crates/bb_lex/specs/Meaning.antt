@@ -1,11 +1,11 @@
--- What a token says to the layers above: a name's bytes, a sized number's bits, a plain number's value.
+-- What a token means to the layers above: a name's bytes, a sized number's bits, a plain number's value.
 use Rattle.std.specs.Prelude.{◌≡◌, ℕ, ◌==◌, Bool, List, [], ◌∷◌, drop, if◌then◌else◌}
 use Rattle.bb_lex.specs.declared.token.Kind.{Kind}
 use Rattle.bb_lex.specs.declared.token.Kind.TheVariants.{Name, Word, Sized, Plain, Mark as MarkKind}
 use Rattle.bb_lex.specs.declared.token.Token.{Token}
 use Rattle.bb_lex.specs.Cut.{bytes_of}
 use Rattle.bb_lex.specs.Bytes.{backslash}
-use Rattle.bb_lex.specs.Numbers.{number, radix_of, low_bits}
+use Rattle.bb_lex.specs.Numbers.{number, radix_of, weighted_bits}
 use Rattle.bb_lex.specs.Pieces.{IsSized}
 
 -- an escaped identifier counts without its backslash
@@ -19,9 +19,9 @@ name_of token text = without_backslash (bytes_of token text)
 
 -- the bits of a sized number, by its parts: as many as its size says, the most significant first, of the value that its
 -- digits write in its radix, cut or filled with zeros on the left
-pub record SaysBits (token : Token) (text : List ℕ) (bits : List Bool) : Type 0 where
+pub record MeansBits (token : Token) (text : List ℕ) (bits : List Bool) : Type 0 where
   pub is : IsSized (bytes_of token text) (drop token.«end» text)
-  pub are : bits ≡ low_bits (number 10 is.size) (number (radix_of is.letter) is.digits)
+  pub are : bits ≡ weighted_bits (number 10 is.size) (number (radix_of is.letter) is.digits)
 
 -- a plain number's value
 abbrev pub plain_value_of : Token → List ℕ → ℕ

@@ -2,12 +2,12 @@
 use Rattle.std.specs.Prelude.{ℕ, zero, suc, ◌+◌, ◌*◌, ◌/◌, ◌%◌, ◌^◌, Bool, true, false, ◌||◌, ◌==◌, List, [], ◌∷◌, length, map, filter, if◌then◌else◌}
 use Rattle.std.specs.Char.{digit_value, is_digit}
 
--- the number that digits spell: each counts for itself times the radix to the power of the number of digits behind it
+-- the number that digits spell: each counts for itself times the radix to the power of the number of digits after it
 abbrev pub spelled : ℕ → List ℕ → ℕ
 spelled radix [] = 0
 spelled radix (d ∷ ds) = d * radix ^ length ds + spelled radix ds
 
--- the digits of a radix among bytes; the others, as _ and white space, are passed over
+-- the digits of a radix among bytes; the others, as _ and white space, are skipped
 abbrev pub digits_of : ℕ → List ℕ → List ℕ
 digits_of radix bytes = map digit_value (filter (λ b. is_digit b radix) bytes)
 
@@ -39,7 +39,7 @@ small_o = 111
 abbrev pub capital_o : ℕ
 capital_o = 79
 
--- the radix that a base letter stands for, in either case; 0 for another byte
+-- the radix of a base letter, in either case; 0 for another byte
 abbrev pub radix_of : ℕ → ℕ
 radix_of b =
     if b == small_b || b == capital_b then 2
@@ -48,10 +48,10 @@ radix_of b =
     else (if b == small_h || b == capital_h then 16
     else 0)))
 
--- the last bits of a number, as many as are asked for: the bits of weight 2 ^ (n - 1) down to 1
-abbrev pub low_bits : ℕ → ℕ → List Bool
-low_bits zero value = []
-low_bits (suc n) value = (value / 2 ^ n % 2 == 1) ∷ low_bits n value
+-- the last n bits of a number: those of weight 2 ^ (n - 1) down to 1
+abbrev pub weighted_bits : ℕ → ℕ → List Bool
+weighted_bits zero value = []
+weighted_bits (suc n) value = (value / 2 ^ n % 2 == 1) ∷ weighted_bits n value
 
 abbrev pub bit_value : Bool → ℕ
 bit_value true = 1

@@ -68,8 +68,8 @@ abbrev pub IsDigitRun : ℕ → List ℕ → Type 0
 IsDigitRun radix [] = ⊥
 IsDigitRun radix (b ∷ bytes) = (is_digit b radix ≡ true) × Each (λ c. is_digit c radix || c == underscore) bytes
 
--- a size, an apostrophe, a base letter and digits of that base, as 4'b10_01; white space may stand before the
--- apostrophe and behind the base letter; a decimal value is below 2 ^ 128
+-- a size, an apostrophe, a base letter and digits of that base, as 4'b10_01; white space may come before the apostrophe
+-- and after the base letter; a decimal value is below 2 ^ 128
 pub record IsSized (bytes after : List ℕ) : Type 0 where
   pub size : List ℕ
   pub gap : List ℕ
@@ -102,20 +102,20 @@ pub record IsEscaped (bytes after : List ℕ) : Type 0 where
   pub graphic : Each is_graphic name
   pub whole : EndsBefore is_white after
 
--- a token of a kind where these bytes follow it
+-- a token of a kind, if after are the bytes that follow
 pub data IsToken (kind : Kind) (bytes after : List ℕ) : Type 0 where
   Identifier : IsIdentifier bytes → kind ≡ kind_of_word (keyword_of bytes) → IsToken kind bytes after
   Escaped : IsEscaped bytes after → kind ≡ Name → IsToken kind bytes after
   SizedNumber : IsSized bytes after → kind ≡ Sized → IsToken kind bytes after
   PlainNumber : IsPlain bytes after → kind ≡ Plain → IsToken kind bytes after
-  -- ( with * behind it would open an attribute
+  -- ( with * after it would open an attribute
   Symbol : (mark : Mark) → bytes ≡ written mark → (mark ≡ LeftRound → BeginsNot (λ b. b == star) after) → kind ≡ MarkKind mark → IsToken kind bytes after
 
--- a run of bytes with the kind of the token that it is, or none where it is passed over
+-- a run of bytes with the kind of the token that it is, or none where it is skipped
 pub record Piece : Type 0 where
   pub kind : Option Kind
   pub bytes : List ℕ
 
--- a skip or a token by one of the cases, where these bytes follow it
+-- a skip or a token by one of the cases, if after are the bytes that follow
 abbrev pub IsPiece : Piece → List ℕ → Type 0
 IsPiece piece after = MatchOption piece.kind (IsSkip piece.bytes after) (λ kind. IsToken kind piece.bytes after)

@@ -1,15 +1,15 @@
--- What stands between tokens and is passed over (IEEE 1364-2005, 3.2, 3.3, 3.8 and 19): white space, comments,
--- attributes, and the directives that change nothing here. Strings count within attributes alone.
+-- What comes between tokens and is skipped (IEEE 1364-2005, 3.2, 3.3, 3.8 and 19): white space, comments, attributes,
+-- and the directives that change nothing here. Strings count within attributes alone.
 use Rattle.std.specs.Prelude.{◌≡◌, ℕ, true, false, ◌&&◌, ◌||◌, ◌==◌, List, [], ◌∷◌, ◌++◌, ◌⊎◌, codes, MatchBool}
 use Rattle.bb_lex.specs.Bytes.{newline, quote, right_round, star, slash, backslash, back_quote, is_white, is_in_line, is_identifier_byte, Each, BeginsNot, EndsBefore}
 
--- the list ends at the first place where the bytes x and y stand side by side, with these two
+-- the list ends at the first place where y follows x, with these two
 abbrev pub EndsAtFirst : ℕ → ℕ → List ℕ → Type 0
 EndsAtFirst x y [] = ⊥
 EndsAtFirst x y (b ∷ []) = ⊥
 EndsAtFirst x y (b ∷ c ∷ bytes) = MatchBool (b == x && c == y) (bytes ≡ []) (EndsAtFirst x y (c ∷ bytes))
 
--- what stands behind the opening quote of a string: up to the next quote; a backslash takes the byte behind it along
+-- a string after its opening quote: up to the next quote; a backslash takes the byte after it along
 abbrev pub EndsAtQuote : List ℕ → Type 0
 EndsAtQuote [] = ⊥
 EndsAtQuote (b ∷ []) = b ≡ quote
@@ -21,7 +21,7 @@ pub record IsLineComment (bytes : List ℕ) : Type 0 where
   pub opens : bytes ≡ codes "//" ++ body
   pub in_line : Each is_in_line body
 
--- a comment up to the first */ behind its opening
+-- a comment up to the first */ after its opening
 pub record IsBlockComment (bytes : List ℕ) : Type 0 where
   pub body : List ℕ
   pub opens : bytes ≡ codes "/*" ++ body

@@ -1,9 +1,13 @@
+//! Classes of bytes, and what a first byte opens (IEEE 1364-2005, 3.2 to 3.7). The first byte alone decides which rule
+//! reads a piece, so no rule is tried after another has failed.
+
 ghost use Rattle.std.specs.Prelude.{◌≡◌};
 ghost use Rattle.bb_lex.specs.Bytes.{past};
 ghost use Rattle.bb_lex.specs.Inside.Runs.{is_of, run_of};
 ghost use Rattle.bb_lex.specs.Inside.Pieces.{opening_of};
 
-/// A class of bytes.
+/// `Word` is what may follow a base letter, right or wrong: a run of it is read whole, so that `4'b12` is a fault and
+/// not two tokens.
 #[derive(Clone, Copy)]
 pub enum Class {
     White,
@@ -15,7 +19,6 @@ pub enum Class {
     NoApostrophe,
 }
 
-/// What a first byte opens.
 #[derive(Clone, Copy)]
 pub enum Opening {
     White,
@@ -42,7 +45,6 @@ fn is_identifier_byte(b: u8) -> bool
     b.is_ascii_alphabetic() || b.is_ascii_digit() || b == b'_' || b == b'$'
 }
 
-/// Whether a byte is of a class.
 #[inline(always)]
 pub fn is_of(class: Class, b: u8) -> bool
     ensures { result ≡ is_of class b }
@@ -58,7 +60,7 @@ pub fn is_of(class: Class, b: u8) -> bool
     }
 }
 
-/// What is left behind the longest run of a class at the front.
+/// The rest after the longest run of a class at the start of the text.
 #[inline]
 pub fn past(class: Class, text: &[u8]) -> &[u8]
     ensures { result.now ≡ past (is_of class) text.now }
@@ -73,7 +75,7 @@ pub fn past(class: Class, text: &[u8]) -> &[u8]
     rest
 }
 
-/// The longest run of a class at the front, and what is left behind it.
+/// The longest run of a class at the start, and the rest after it.
 #[inline]
 #[tactic(auto, using(crate::proofs::Runs::run_parts))]
 pub fn run(class: Class, text: &[u8]) -> (&[u8], &[u8])
@@ -84,7 +86,6 @@ pub fn run(class: Class, text: &[u8]) -> (&[u8], &[u8])
     text.split_at(text.len() - rest.len())
 }
 
-/// What a first byte opens.
 pub fn opening_of(b: u8) -> Opening
     ensures { result ≡ opening_of b }
 {

@@ -1,13 +1,16 @@
+//! Faults of a text that has no tokens. They say a line and nothing of what was expected: no piece begins there, so
+//! there is nothing to name.
+
 ghost use Rattle.std.specs.Prelude.{◌≡◌};
 ghost use Rattle.bb_lex.specs.declared.fault.LexFault.TheVariants.{NoMemory};
 
 use std::alloc::{AllocError, AllocFailed};
 use thiserror::Error;
 
-/// Why a text has no list of tokens.
+/// A text has tokens or a fault, never both.
 #[derive(Debug, Drop, Error)]
 pub enum LexFault {
-    /// No piece of the text begins at the first place that is left, which is on this line.
+    /// No piece begins at the first place after whole pieces; the line is that of this place.
     #[error("line {line}: no token begins here")]
     Bad { line: u32 },
     #[error("memory ran out")]

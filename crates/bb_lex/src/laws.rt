@@ -1,118 +1,120 @@
-//! Laws of cuts, tokens and numbers: they follow from the definitions alone, and no code runs.
+//! Laws of cuts, tokens and numbers. The definitions are relations on a whole text, so that there is one cut, that it
+//! exists or fails, and that reading from the start finds it are facts of their own; no code runs here.
 
-ghost use Rattle.bb_lex.specs.Laws.{CutsAreOne, TokensAreOne, BadPlacesAreOne, BadLinesAreOne, CutOrBad, NotBoth, TokensOrBadLine, NotTokensAndBadLine, TokensStandInText, TokensRise, LowBitsSpell, EndsAtFirstPlace, TokensEndPastTheirPlaces, TokensAreFew, NamesArePrintable, SizedTokensSayBits, SizedBitsAreOne, SizedBitsFit, PlainValuesFit, ReadBitsAreSaid, ReadPiecesAreLongest, LongestPiecesAreRead, NoneIsReadWhereNoneBegins};
+ghost use Rattle.bb_lex.specs.Laws.{CutsAreOne, TokensAreOne, BadPlacesAreOne, BadLinesAreOne, CutOrBad, NotBoth, TokensOrBadLine, NotTokensAndBadLine, TokensAreInText, TokensRise, LowBitsSpell, EndsAtFirstPlace, TokensEndPastTheirPlaces, TokensAreFew, NamesArePrintable, SizedTokensSayBits, SizedBitsAreOne, SizedBitsFit, PlainValuesFit, ReadBitsAreMeant, ReadPiecesAreLongest, LongestPiecesAreRead, NoneIsReadWhereNoneBegins};
 
-/// A text is cut in one way.
+/// The longest piece at each place leaves no choice.
 pub fn cuts_are_one()
     ensures { CutsAreOne }
 {}
 
-/// A text has one list of tokens.
+/// So a verdict on a text is one on its tokens, whichever program cut them.
 pub fn tokens_are_one()
     ensures { TokensAreOne }
 {}
 
-/// A text goes wrong at one place.
+/// A text that goes wrong does so at one place, after the longest pieces before it.
 pub fn bad_places_are_one()
     ensures { BadPlacesAreOne }
 {}
 
-/// A text goes wrong on one line.
+/// So a refusal names one line, for every lexer of the same pieces.
 pub fn bad_lines_are_one()
     ensures { BadLinesAreOne }
 {}
 
-/// Each text is cut into pieces, or goes wrong at a place.
+/// With `not_both`: a text is cut to its end exactly if it goes wrong nowhere.
 pub fn cut_or_bad()
     ensures { CutOrBad }
 {}
 
-/// A text that is cut goes wrong nowhere.
+/// The two cases of `cut_or_bad` exclude each other.
 pub fn not_both()
     ensures { NotBoth }
 {}
 
-/// Each text has tokens, or goes wrong on a line.
+/// With `not_tokens_and_bad_line`: a text has tokens exactly if it goes wrong on no line.
 pub fn tokens_or_bad_line()
     ensures { TokensOrBadLine }
 {}
 
-/// A text that has tokens goes wrong on no line.
+/// The two cases of `tokens_or_bad_line` exclude each other.
 pub fn not_tokens_and_bad_line()
     ensures { NotTokensAndBadLine }
 {}
 
-/// Each token of a text lies in it, and its bytes are a token of its kind where they stand.
-pub fn tokens_stand_in_text()
-    ensures { TokensStandInText }
+/// What the calls on a token ask of it, for each token of a text.
+pub fn tokens_are_in_text()
+    ensures { TokensAreInText }
 {}
 
-/// Of two tokens of a text the earlier ends before the later begins, and stands on no later line.
+/// Tokens come in text order, and their lines do not fall.
 pub fn tokens_rise()
     ensures { TokensRise }
 {}
 
-/// The low bits of a number spell it, modulo a power of 2.
+/// So a value that is cut to its size is the value modulo that power of 2.
 pub fn low_bits_spell()
     ensures { LowBitsSpell }
 {}
 
-/// What ends at the first place of two bytes ends with them, and they stand side by side nowhere before.
+/// For block comments and attributes: they end at the first `*/` or `*)`, and not at a later one.
 pub fn ends_at_first_place()
     ensures { EndsAtFirstPlace }
 {}
 
-/// Each token of a text ends behind more bytes than tokens stand before it.
+/// A token's end bounds the number of tokens up to it, so that a reader can count tokens in 32 bits.
 pub fn tokens_end_past_their_places()
     ensures { TokensEndPastTheirPlaces }
 {}
 
-/// A text has no more tokens than bytes.
+/// A token has a byte at least, so a bound on bytes bounds tokens.
 pub fn tokens_are_few()
     ensures { TokensAreFew }
 {}
 
-/// A name is one or more of the bytes 33 to 126, and so is a reserved word.
+/// So a report can print names as they are. The same of reserved words.
 pub fn names_are_printable()
     ensures { NamesArePrintable }
 {}
 
-/// Each sized number of a text says bits.
+/// With `sized_bits_are_one`: the relation of a sized number and its bits is a function.
 pub fn sized_tokens_say_bits()
     ensures { SizedTokensSayBits }
 {}
 
-/// A sized number says one list of bits.
+/// A sized number has one way only to be a size, a letter and digits.
 pub fn sized_bits_are_one()
     ensures { SizedBitsAreOne }
 {}
 
-/// A sized number says 1 to 128 bits.
+/// From 1 to 128 bits, as its size says, so a sized number is never empty.
 pub fn sized_bits_fit()
     ensures { SizedBitsFit }
 {}
 
-/// A plain number of a text is below 2 to the power of 31.
+/// So it has one value, whether it is read as signed or as unsigned.
 pub fn plain_values_fit()
     ensures { PlainValuesFit }
 {}
 
-/// What is computed from the front of a text is the longest piece that begins there.
+/// Reading a piece from the start is a helper of the code; this law and the next two tie it to the cut of the whole
+/// text, so that a text that is printed can be shown to read.
 pub fn read_pieces_are_longest()
     ensures { ReadPiecesAreLongest }
 {}
 
-/// The longest piece at the front of a text is computed from it.
+/// The converse of `read_pieces_are_longest`: no piece is missed.
 pub fn longest_pieces_are_read()
     ensures { LongestPiecesAreRead }
 {}
 
-/// No piece is computed from the front of a text exactly where none begins.
+/// So a text is refused only where its cut ends.
 pub fn none_is_read_where_none_begins()
     ensures { NoneIsReadWhereNoneBegins }
 {}
 
-/// What is computed from the bytes of a sized number is what it says.
-pub fn read_bits_are_said()
-    ensures { ReadBitsAreSaid }
+/// The definition says the bits of a number by its parts; reading its bytes from the start agrees with it.
+pub fn read_bits_are_meant()
+    ensures { ReadBitsAreMeant }
 {}

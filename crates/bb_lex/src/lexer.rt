@@ -1,3 +1,7 @@
+//! The tokens of a text, piece by piece, each the longest that begins at its place. White space, comments, attributes
+//! and directives are pieces too, without a token, so that the pieces joined are the text and a place where none begins
+//! is a fault. Lines are counted as pieces are passed.
+
 ghost use Rattle.std.specs.Prelude.{◌≡◌, ◌⊎◌, ◌<◌, ◌≤◌, ◌^◌, ◌==◌, ◌++◌, List, length, count_by, OnOk, IfOk, IfErr, MatchResult};
 ghost use Rattle.bb_lex.specs.declared.token.Token.{Token};
 ghost use Rattle.bb_lex.specs.declared.fault.LexFault.{LexFault};
@@ -10,7 +14,6 @@ use crate::piece::piece_at;
 use crate::token::{Kind, Token};
 use std::alloc::Global;
 
-/// The number of newlines among these bytes.
 fn newlines(bytes: &[u8]) -> u32
     requires { length bytes.now < 2 ^ 32 }
     ensures { result ≡ count_by (λ b. b == 10) bytes.now }
@@ -18,7 +21,6 @@ fn newlines(bytes: &[u8]) -> u32
     bytes.iter().filter(|b| **b == b'\n').count() as u32
 }
 
-/// Puts the token of a piece behind the others, if the piece is one.
 fn push_token(
     tokens: &mut Vec<Token>,
     kind: Option<Kind>,
@@ -40,7 +42,6 @@ fn push_token(
     Ok(())
 }
 
-/// The tokens of a text, or the line on which it goes wrong.
 fn scan(alloc: Global, text: &[u8]) -> Result<Vec<Token>, LexFault>
     requires { length text.now ≤ 33554432 }
     ensures { IsAnswer text.now result }
@@ -62,16 +63,18 @@ fn scan(alloc: Global, text: &[u8]) -> Result<Vec<Token>, LexFault>
     Ok(tokens)
 }
 
-/// The tokens of a text in text order, with their places. `Bad` has the line of the place where the text goes wrong: the
-/// first place, behind whole pieces, at which no piece begins.
+/// The tokens in text order. `Bad` has the line of the first place, after whole pieces, at which no piece begins; a
+/// comment that does not end is such a place, so its first line is reported.
+///
+/// The text has at most 2^25 bytes, so places and lines fit into 32 bits.
 pub fn tokens(alloc: Global, text: &[u8]) -> Result<Vec<Token>, LexFault>
     requires { length text.now ≤ 33554432 }
 
-    // What is answered is the tokens, or the fault.
+    // A result is the tokens, or the fault.
     ensures ok { IfOk result (λ found. AreTokens text.now found.items) }
     ensures fault { IfErr result (λ fault. (fault ≡ LexFault.NoMemory) ⊎ IsFault text.now fault) }
 
-    // The tokens are answered where there are some, and else the fault, unless memory runs out.
+    // The tokens come wherever there are some, and else the fault, unless memory runs out.
     ensures only_ok { (list : List Token) → AreTokens text.now list
         → MatchResult result (λ found. found.items ≡ list) (λ fault. fault ≡ LexFault.NoMemory) }
     ensures only_fault { (first : LexFault) → IsFault text.now first

@@ -1,15 +1,19 @@
+//! Numbers (IEEE 1364-2005, 3.5.1). A size and a plain number both begin with a decimal run, so the run is read first,
+//! and an apostrophe after it, with white space between, makes it a size. A size is at most 128, so the low 128 bits of
+//! every value suffice.
+
 ghost use Rattle.std.specs.Prelude.{◌≡◌, ◌<◌, ◌%◌, ◌^◌, ◌||◌, ◌==◌, SomeIff, option_copied};
 ghost use Rattle.std.specs.List.{list_all};
 ghost use Rattle.std.specs.Char.{digit_value, is_digit};
 ghost use Rattle.bb_lex.specs.Numbers.{number, radix_of};
 ghost use Rattle.bb_lex.specs.Inside.Found.{seen};
-ghost use Rattle.bb_lex.specs.Inside.Numbers.{is_digit_run, value_fits, size_fits, behind_digits, behind_base, number_at, joined, joined_low, plain_behind, sized_behind, based_value};
+ghost use Rattle.bb_lex.specs.Inside.Numbers.{is_digit_run, value_fits, size_fits, after_digits, after_base, number_at, joined, joined_low, plain_after, sized_after, based_value};
 
 use crate::class::{Class, past, run};
 use crate::piece::Found;
 use crate::token::Kind;
 
-/// The digit that a byte writes, `a` to `z` in either case for 10 to 35, or 36.
+/// Up to 35, so that one test serves all radices; 36 for a byte that is no digit of any.
 pub fn digit_value(b: u8) -> u8
     ensures { result ≡ digit_value b }
 {
@@ -21,14 +25,12 @@ pub fn digit_value(b: u8) -> u8
     }
 }
 
-/// Whether a byte is a digit of a radix.
 pub fn is_digit(b: u8, radix: u8) -> bool
     ensures { result ≡ is_digit b radix }
 {
     digit_value(b) < radix
 }
 
-/// The radix of a base letter in either case, or 0.
 pub fn radix_of(b: u8) -> u8
     ensures { result ≡ radix_of b }
 {
@@ -41,7 +43,7 @@ pub fn radix_of(b: u8) -> u8
     }
 }
 
-/// A value with the decimal digit that a byte writes behind it, or the value alone where the byte writes none.
+/// None where it passes 2^128 - 1; another byte, such as `_`, leaves the value as it is.
 fn joined(value: u128, b: u8) -> Option<u128>
     ensures { SomeIff result (joined value b < 2 ^ 128) (joined value b) }
 {
@@ -52,7 +54,6 @@ fn joined(value: u128, b: u8) -> Option<u128>
     }
 }
 
-/// The decimal number that the digits among these bytes spell, where it is below 2 to the power of 128.
 #[tactic(auto, using(crate::proofs::Digits::decimal_steps))]
 pub fn decimal_value(bytes: &[u8]) -> Option<u128>
     ensures { SomeIff result (number 10 bytes.now < 2 ^ 128) (number 10 bytes.now) }
@@ -69,7 +70,7 @@ pub fn decimal_value(bytes: &[u8]) -> Option<u128>
     Some(value)
 }
 
-/// A value with the digit of a radix that a byte writes behind it, cut to 128 bits, or the value alone.
+/// Wraps at 2^128, which keeps the low bits exact.
 fn joined_low(radix: u8, value: u128, b: u8) -> u128
     ensures { result ≡ joined_low radix value b }
 {
@@ -82,7 +83,6 @@ fn joined_low(radix: u8, value: u128, b: u8) -> u128
     }
 }
 
-/// The low 128 bits of the number that the digits of a radix among these bytes spell.
 fn low_value(radix: u8, bytes: &[u8]) -> u128
     ensures { result ≡ number radix bytes.now % 2 ^ 128 }
 {
@@ -95,7 +95,6 @@ fn low_value(radix: u8, bytes: &[u8]) -> u128
     value
 }
 
-/// The low 128 bits of the value of a base letter with digits behind it.
 pub fn based_value(bytes: &[u8]) -> u128
     ensures { result ≡ based_value bytes.now % 2 ^ 128 }
 {
@@ -105,14 +104,12 @@ pub fn based_value(bytes: &[u8]) -> u128
     }
 }
 
-/// Whether each byte is a digit of a radix or `_`.
 fn are_digits(radix: u8, bytes: &[u8]) -> bool
     ensures { result ≡ list_all (λ c. is_digit c radix || c == 95) bytes.now }
 {
     bytes.iter().all(|b| is_digit(*b, radix) || *b == b'_')
 }
 
-/// Whether these bytes are digits of a radix and `_`, a digit first.
 fn is_digit_run(radix: u8, bytes: &[u8]) -> bool
     ensures { result ≡ is_digit_run radix bytes.now }
 {
@@ -122,14 +119,13 @@ fn is_digit_run(radix: u8, bytes: &[u8]) -> bool
     is_digit(*first, radix) && are_digits(radix, rest)
 }
 
-/// Whether a decimal value is below 2 to the power of 128; another value always fits.
+/// Other bases have no bound: their digits past the size are cut.
 fn value_fits(radix: u8, digits: &[u8]) -> bool
     ensures { result ≡ value_fits radix digits.now }
 {
     radix != 10 || decimal_value(digits).is_some()
 }
 
-/// Whether a size is from 1 to 128.
 fn size_fits(run: &[u8]) -> bool
     ensures { result ≡ size_fits run.now }
 {
@@ -139,9 +135,9 @@ fn size_fits(run: &[u8]) -> bool
     }
 }
 
-/// What is left behind the digits of a sized number.
-fn behind_digits(radix: u8, text: &[u8]) -> Option<&[u8]>
-    ensures { option_copied result ≡ behind_digits radix text.now }
+/// The whole run of word bytes has to be digits: `4'b10x` is no number followed by a name.
+fn after_digits(radix: u8, text: &[u8]) -> Option<&[u8]>
+    ensures { option_copied result ≡ after_digits radix text.now }
 {
     let (word, rest) = run(Class::Word, text);
     if is_digit_run(radix, word) && value_fits(radix, word) {
@@ -151,19 +147,19 @@ fn behind_digits(radix: u8, text: &[u8]) -> Option<&[u8]>
     }
 }
 
-/// What is left behind the base letter and the digits of a sized number.
-fn behind_base(text: &[u8]) -> Option<&[u8]>
-    ensures { option_copied result ≡ behind_base text.now }
+/// After the base letter; white space may come before the digits.
+fn after_base(text: &[u8]) -> Option<&[u8]>
+    ensures { option_copied result ≡ after_base text.now }
 {
     let [letter, tail @ ..] = text else {
         return None;
     };
-    behind_digits(radix_of(*letter), past(Class::White, tail))
+    after_digits(radix_of(*letter), past(Class::White, tail))
 }
 
-/// A number without a size, whose run of digits is read: below 2 to the power of 31.
-fn plain_behind<'a>(run: &[u8], rest: &'a [u8]) -> Option<Found<'a>>
-    ensures { seen result ≡ plain_behind run.now rest.now }
+/// Below 2^31, as a number of 32 bits that the standard counts as signed.
+fn plain_after<'a>(run: &[u8], rest: &'a [u8]) -> Option<Found<'a>>
+    ensures { seen result ≡ plain_after run.now rest.now }
 {
     let below = decimal_value(run).is_some_and(|value| value < 1 << 31);
     if below {
@@ -176,27 +172,25 @@ fn plain_behind<'a>(run: &[u8], rest: &'a [u8]) -> Option<Found<'a>>
     }
 }
 
-/// A sized number whose size and apostrophe are read.
-fn sized_behind<'a>(run: &[u8], rest: &'a [u8]) -> Option<Found<'a>>
-    ensures { seen result ≡ sized_behind run.now rest.now }
+fn sized_after<'a>(run: &[u8], rest: &'a [u8]) -> Option<Found<'a>>
+    ensures { seen result ≡ sized_after run.now rest.now }
 {
     if !size_fits(run) {
         return None;
     }
-    let rest = behind_base(rest)?;
+    let rest = after_base(rest)?;
     Some(Found {
         kind: Some(Kind::Sized),
         rest,
     })
 }
 
-/// The number at the front.
 pub fn number_at(text: &[u8]) -> Option<Found<'_>>
     ensures { seen result ≡ number_at text.now }
 {
     let (digits, rest) = run(Class::Decimal, text);
     match past(Class::White, rest) {
-        [b, tail @ ..] if *b == b'\'' => sized_behind(digits, tail),
-        _ => plain_behind(digits, rest),
+        [b, tail @ ..] if *b == b'\'' => sized_after(digits, tail),
+        _ => plain_after(digits, rest),
     }
 }

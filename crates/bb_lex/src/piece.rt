@@ -1,8 +1,12 @@
+//! Pieces: what may begin at a place of a text. A piece carries the kind of its token, or none; what may follow a piece
+//! is part of the piece's own rule (only white space after an escaped identifier, no `*` after a `(`), so each rule is
+//! read alone.
+
 ghost use Rattle.std.specs.Prelude.{◌≡◌, option_copied};
 ghost use Rattle.bb_lex.specs.Pieces.{kind_of_word};
 ghost use Rattle.bb_lex.specs.Inside.Found.{skipped, token_of, seen};
 ghost use Rattle.bb_lex.specs.Inside.Words.{identifier_at};
-ghost use Rattle.bb_lex.specs.Inside.Skips.{at_white, behind_escaped};
+ghost use Rattle.bb_lex.specs.Inside.Skips.{at_white, after_escaped};
 ghost use Rattle.bb_lex.specs.Inside.Marks.{round_at};
 ghost use Rattle.bb_lex.specs.Inside.Pieces.{opened_by, piece_at};
 
@@ -10,19 +14,18 @@ use crate::class::{Class, Opening, is_of, opening_of, past, run};
 use crate::keyword::Keyword;
 use crate::mark::Mark;
 use crate::number::number_at;
-use crate::skip::{behind_attribute, behind_comment, behind_directive};
+use crate::skip::{after_attribute, after_comment, after_directive};
 use crate::symbol::mark_at;
 use crate::token::Kind;
 use crate::word::keyword_of;
 
-/// A piece that was found: the kind of its token, or none where it is passed over, and what is left behind it.
+/// `kind` is none for a piece without a token; `rest` is the text after the piece.
 #[derive(Clone, Copy)]
 pub struct Found<'a> {
     pub kind: Option<Kind>,
     pub rest: &'a [u8],
 }
 
-/// A piece that is passed over.
 fn skipped(rest: Option<&[u8]>) -> Option<Found<'_>>
     ensures { seen result ≡ skipped (option_copied rest.entry) }
 {
@@ -30,9 +33,9 @@ fn skipped(rest: Option<&[u8]>) -> Option<Found<'_>>
     Some(Found { kind: None, rest })
 }
 
-/// What is left behind an escaped identifier whose backslash is read.
-fn behind_escaped(text: &[u8]) -> Option<&[u8]>
-    ensures { option_copied result ≡ behind_escaped text.now }
+/// Only white space or the end of the text ends it, so `\w;x ` is the name `w;x`; any other byte makes the text wrong.
+fn after_escaped(text: &[u8]) -> Option<&[u8]>
+    ensures { option_copied result ≡ after_escaped text.now }
 {
     let [b, tail @ ..] = text else {
         return None;
@@ -47,11 +50,10 @@ fn behind_escaped(text: &[u8]) -> Option<&[u8]>
     }
 }
 
-/// The escaped identifier whose backslash is read.
 fn escaped_at(text: &[u8]) -> Option<Found<'_>>
-    ensures { seen result ≡ token_of Kind.Name (behind_escaped text.now) }
+    ensures { seen result ≡ token_of Kind.Name (after_escaped text.now) }
 {
-    let rest = behind_escaped(text)?;
+    let rest = after_escaped(text)?;
     Some(Found {
         kind: Some(Kind::Name),
         rest,
@@ -67,7 +69,6 @@ fn kind_of_word(word: Option<Keyword>) -> Kind
     }
 }
 
-/// The identifier at the front.
 fn identifier_at(text: &[u8]) -> Option<Found<'_>>
     ensures { seen result ≡ identifier_at text.now }
 {
@@ -79,12 +80,12 @@ fn identifier_at(text: &[u8]) -> Option<Found<'_>>
     })
 }
 
-/// `(` or an attribute, whose first byte is read.
+/// `(*` always opens an attribute, wherever it is; so a `(` is a mark only if no `*` follows.
 fn round_at(text: &[u8]) -> Option<Found<'_>>
     ensures { seen result ≡ round_at text.now }
 {
     match text {
-        [b, tail @ ..] if *b == b'*' => skipped(behind_attribute(tail)),
+        [b, tail @ ..] if *b == b'*' => skipped(after_attribute(tail)),
         _ => Some(Found {
             kind: Some(Kind::Mark(Mark::LeftRound)),
             rest: text,
@@ -92,7 +93,6 @@ fn round_at(text: &[u8]) -> Option<Found<'_>>
     }
 }
 
-/// The longest piece at the front.
 pub fn piece_at(text: &[u8]) -> Option<Found<'_>>
     ensures { seen result ≡ piece_at text.now }
 {
@@ -106,10 +106,10 @@ pub fn piece_at(text: &[u8]) -> Option<Found<'_>>
         }),
         Opening::Identifier => identifier_at(text),
         Opening::Number => number_at(text),
-        Opening::Comment => skipped(behind_comment(tail)),
+        Opening::Comment => skipped(after_comment(tail)),
         Opening::Round => round_at(tail),
         Opening::Escaped => escaped_at(tail),
-        Opening::Directive => skipped(behind_directive(tail)),
+        Opening::Directive => skipped(after_directive(tail)),
         Opening::Mark => mark_at(*b, tail),
     }
 }

@@ -1,12 +1,16 @@
+//! Pieces without a token: comments, attributes and directives (IEEE 1364-2005, 3.3, 3.8 and 19). An attribute is a
+//! list of whole strings, comments and other bytes, up to the first `*)` outside the first two; if it does not end so,
+//! the text goes wrong at its first byte. Its content is not parsed, since no attribute changes what a netlist means.
+
 ghost use Rattle.std.specs.Prelude.{◌≡◌, option_copied, codes, ◌||◌, bytes_eq};
-ghost use Rattle.bb_lex.specs.Inside.Skips.{behind_pair, behind_quote, behind_slash, behind_part, behind_close, behind_parts, behind_attribute, behind_comment, is_directive, behind_directive};
+ghost use Rattle.bb_lex.specs.Inside.Skips.{after_pair, after_quote, after_slash, after_part, after_close, after_parts, after_attribute, after_comment, is_directive, after_directive};
 
 use crate::class::{Class, past, run};
 
-/// What is left behind the first place where `x` and `y` stand side by side.
+/// After the first `x` that `y` follows.
 #[tactic(auto, using(crate::proofs::ShortTexts::short_texts))]
-fn behind_pair(text: &[u8], x: u8, y: u8) -> Option<&[u8]>
-    ensures { option_copied result ≡ behind_pair x y text.now }
+fn after_pair(text: &[u8], x: u8, y: u8) -> Option<&[u8]>
+    ensures { option_copied result ≡ after_pair x y text.now }
 {
     let mut rest = text;
     while let [b, c, tail @ ..] = rest {
@@ -18,10 +22,10 @@ fn behind_pair(text: &[u8], x: u8, y: u8) -> Option<&[u8]>
     None
 }
 
-/// What is left behind the quote that ends a string.
+/// A backslash takes the next byte along, so an escaped quote does not end the string.
 #[tactic(auto, using(crate::proofs::ShortTexts::short_texts))]
-fn behind_quote(text: &[u8]) -> Option<&[u8]>
-    ensures { option_copied result ≡ behind_quote text.now }
+fn after_quote(text: &[u8]) -> Option<&[u8]>
+    ensures { option_copied result ≡ after_quote text.now }
 {
     let mut rest = text;
     while let [b, c, tail @ ..] = rest {
@@ -36,9 +40,9 @@ fn behind_quote(text: &[u8]) -> Option<&[u8]>
     }
 }
 
-/// What is left behind a comment whose first slash is read.
-pub fn behind_comment(text: &[u8]) -> Option<&[u8]>
-    ensures { option_copied result ≡ behind_comment text.now }
+/// A line comment ends before its newline, which is then white space; block comments do not nest.
+pub fn after_comment(text: &[u8]) -> Option<&[u8]>
+    ensures { option_copied result ≡ after_comment text.now }
 {
     let [b, tail @ ..] = text else {
         return None;
@@ -46,15 +50,15 @@ pub fn behind_comment(text: &[u8]) -> Option<&[u8]>
     if *b == b'/' {
         Some(past(Class::InLine, tail))
     } else if *b == b'*' {
-        behind_pair(tail, b'*', b'/')
+        after_pair(tail, b'*', b'/')
     } else {
         None
     }
 }
 
-/// What is left behind a part of an attribute that begins with a slash, which is read: a comment, or the slash alone.
-fn behind_slash(text: &[u8]) -> Option<&[u8]>
-    ensures { option_copied result ≡ behind_slash text.now }
+/// A slash that opens no comment is a part of its own.
+fn after_slash(text: &[u8]) -> Option<&[u8]>
+    ensures { option_copied result ≡ after_slash text.now }
 {
     let [b, tail @ ..] = text else {
         return Some(text);
@@ -62,32 +66,30 @@ fn behind_slash(text: &[u8]) -> Option<&[u8]>
     if *b == b'/' {
         Some(past(Class::InLine, tail))
     } else if *b == b'*' {
-        behind_pair(tail, b'*', b'/')
+        after_pair(tail, b'*', b'/')
     } else {
         Some(text)
     }
 }
 
-/// What is left behind a part of an attribute: a string, a comment or another byte.
-fn behind_part(text: &[u8]) -> Option<&[u8]>
-    ensures { option_copied result ≡ behind_part text.now }
+fn after_part(text: &[u8]) -> Option<&[u8]>
+    ensures { option_copied result ≡ after_part text.now }
 {
     let [b, tail @ ..] = text else {
         return None;
     };
     if *b == b'"' {
-        behind_quote(tail)
+        after_quote(tail)
     } else if *b == b'/' {
-        behind_slash(tail)
+        after_slash(tail)
     } else {
         Some(tail)
     }
 }
 
-/// What is left behind the end of an attribute at the front.
 #[tactic(auto, using(crate::proofs::ShortTexts::short_texts))]
-fn behind_close(text: &[u8]) -> Option<&[u8]>
-    ensures { option_copied result ≡ behind_close text.now }
+fn after_close(text: &[u8]) -> Option<&[u8]>
+    ensures { option_copied result ≡ after_close text.now }
 {
     let [b, c, tail @ ..] = text else {
         return None;
@@ -99,19 +101,20 @@ fn behind_close(text: &[u8]) -> Option<&[u8]>
     }
 }
 
-/// What is left behind an attribute whose first two bytes are read.
+/// `(*)` is none: it would be the sensitivity list of `@(*)`, which the language lacks, and as an opening it would
+/// swallow text up to some later `*)`.
 #[tactic(auto, using(crate::proofs::Comments::attribute_steps))]
-pub fn behind_attribute(text: &[u8]) -> Option<&[u8]>
-    ensures { option_copied result ≡ behind_attribute text.now }
+pub fn after_attribute(text: &[u8]) -> Option<&[u8]>
+    ensures { option_copied result ≡ after_attribute text.now }
 {
     if let [b')', ..] = text {
         return None;
     }
     let mut rest = text;
     'parts: loop {
-        match behind_close(rest) {
+        match after_close(rest) {
             Some(after) => return Some(after),
-            None => match behind_part(rest) {
+            None => match after_part(rest) {
                 Some(after) => rest = after,
                 None => return None,
             },
@@ -127,9 +130,10 @@ fn is_directive(word: &[u8]) -> bool
         || word == b"endcelldefine".as_slice()
 }
 
-/// What is left behind a directive whose back quote is read.
-pub fn behind_directive(text: &[u8]) -> Option<&[u8]>
-    ensures { option_copied result ≡ behind_directive text.now }
+/// Three directives, which change nothing here, each with the rest of its line; any other begins no piece, since it
+/// might change the text.
+pub fn after_directive(text: &[u8]) -> Option<&[u8]>
+    ensures { option_copied result ≡ after_directive text.now }
 {
     let (word, rest) = run(Class::Identifier, text);
     if is_directive(word) {

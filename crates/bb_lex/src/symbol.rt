@@ -1,3 +1,6 @@
+//! Marks: the longest at a place, so `a&&b` is never `a & (&b)`. No mark has three bytes, so a look at two bytes
+//! decides.
+
 ghost use Rattle.std.specs.Prelude.{◌≡◌};
 ghost use Rattle.bb_lex.specs.Inside.Found.{seen};
 ghost use Rattle.bb_lex.specs.Inside.Marks.{short_mark, long_mark, mark_at};
@@ -6,7 +9,7 @@ use crate::mark::Mark;
 use crate::piece::Found;
 use crate::token::Kind;
 
-/// The mark of one byte, but for `(`.
+/// Without `(`, which may open an attribute.
 fn short_mark(b: u8) -> Option<Mark>
     ensures { result ≡ short_mark b }
 {
@@ -36,7 +39,6 @@ fn short_mark(b: u8) -> Option<Mark>
     }
 }
 
-/// The mark of two bytes.
 fn long_mark(b: u8, c: u8) -> Option<Mark>
     ensures { result ≡ long_mark b c }
 {
@@ -57,7 +59,7 @@ fn long_mark(b: u8, c: u8) -> Option<Mark>
     }
 }
 
-/// The longest mark that begins with a byte, of which `rest` follows.
+/// `b` is the first byte, and `rest` the text after it.
 pub fn mark_at(b: u8, rest: &[u8]) -> Option<Found<'_>>
     ensures { seen result ≡ mark_at b rest.now }
 {

@@ -1,12 +1,14 @@
+//! Tokens. A token is a kind and a span of the text, and copies no bytes: most tokens are marks and words, which the
+//! kind says in full.
+
 use crate::keyword::Keyword;
 use crate::mark::Mark;
 
-/// What a token is.
+/// All that the grammar needs to choose a rule; the bytes are looked at only for names and numbers.
 #[derive(Clone, Copy, Debug, PartialEq, Eq)]
 pub enum Kind {
     /// A simple identifier that is no reserved word, or an escaped identifier.
     Name,
-    /// A reserved word.
     Word(Keyword),
     /// A number with a size and a base, as `4'b10_01`.
     Sized,
@@ -15,8 +17,8 @@ pub enum Kind {
     Mark(Mark),
 }
 
-/// A token and its place in the text: `start` is the index of its first byte, `end` the index past its last, `line` is 1
-/// plus the number of newline bytes before it.
+/// `start` is the index of the first byte, `end` the index past the last, and `line` is 1 plus the number of newlines
+/// before it. A text has at most 2^25 bytes, so 32 bits suffice.
 #[derive(Clone, Copy, Debug, PartialEq, Eq)]
 pub struct Token {
     pub kind: Kind,

@@ -1,10 +1,12 @@
+//! Reserved words (IEEE 1364-2005, annex B). The table is cut by first letters, so each identifier is compared with at
+//! most thirteen words; it needs no hash, and the contract is a walk through a list.
+
 ghost use Rattle.std.specs.Prelude.{◌≡◌, map};
 ghost use Rattle.bb_lex.specs.Words.{entry_of, keyword_of};
 ghost use Rattle.bb_lex.specs.Inside.Words.{entries, words_by};
 
 use crate::keyword::Keyword;
 
-/// A reserved word and its keyword.
 type Entry = (&'static [u8], Keyword);
 
 static WORDS_A: [Entry; 4] = [
@@ -181,7 +183,6 @@ static WORDS_W: [Entry; 7] = [
 
 static WORDS_X: [Entry; 2] = [(b"xnor", Keyword::Xnor), (b"xor", Keyword::Xor)];
 
-/// The reserved words that begin with a letter, in alphabetical order.
 #[tactic(auto, unfolding(crate::specs::Inside::Words::words_by))]
 fn words_by(first: u8) -> &'static [Entry]
     ensures { entries result.now ≡ words_by first }
@@ -213,7 +214,6 @@ fn words_by(first: u8) -> &'static [Entry]
     }
 }
 
-/// The keyword of the first entry with these bytes.
 fn keyword_in(table: &[Entry], word: &[u8]) -> Option<Keyword>
     ensures { result ≡ entry_of (entries table.now) word.now }
 {
@@ -225,7 +225,6 @@ fn keyword_in(table: &[Entry], word: &[u8]) -> Option<Keyword>
     None
 }
 
-/// The keyword that the bytes are, if they are one.
 #[tactic(auto, using(crate::proofs::WordTable::keyword_steps))]
 pub fn keyword_of(word: &[u8]) -> Option<Keyword>
     ensures { result ≡ keyword_of word.now }

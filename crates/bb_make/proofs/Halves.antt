@@ -1,4 +1,4 @@
--- The stage in the middle, the stages before it and those behind it.
+-- The stage in the middle, the stages before it and those after it.
 use Rattle.std.proofs.Common.{◌≡◌, ◌≢◌, ◌∙◌, ◌≤◌, ◌<◌, ◌==◌, ℕ, zero, suc, ◌+◌, ◌-◌, ◌/◌, Bool, true, false, if◌then◌else◌, List, ◌∷◌, ◌++◌, append_assoc, Some, codes, refl, ap, sym, arith}
 use Rattle.std.proofs.lemmas.Grind.{common_steps}
 use Rattle.std.specs.List.{flat_map, range_with_len}
@@ -23,7 +23,7 @@ same_lines f g a (suc m) same =
     ap (λ t. t ++ flat_map f (range_with_len (a + 1) m)) (same a (omega arith) (omega arith))
     ∙ ap (λ t. g a ++ t) (same_lines f g (a + 1) m (λ i low high. same i (omega (arith, low)) (omega (arith, high))))
 
--- the lines before a stage, its own and those behind it
+-- the lines before a stage, its own and those after it
 parted : (f : ℕ → List ℕ) (k m : ℕ) → flat_map f (range_with_len 0 (k + suc m)) ≡ flat_map f (range_with_len 0 k) ++ f k ++ flat_map f (range_with_len (k + 1) m)
 parted f k m =
     let e : 0 + k ≡ k = omega arith in

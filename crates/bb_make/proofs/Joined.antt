@@ -6,33 +6,33 @@ use Rattle.std.proofs.lemmas.List.{flat_map_more, length-append, map-id}
 use Rattle.std.proofs.lemmas.List.Concat.{flat_map-append}
 use Rattle.std.proofs.lemmas.List.FromFn.{map-range_with_len_more}
 use Rattle.bb_make.specs.Adders.{header, inputs, numbered, outputs, places}
-use Rattle.bb_make.specs.Commas.{behind_comma, joined}
+use Rattle.bb_make.specs.Commas.{after_comma, comma_separated}
 
 abbrev pub with_comma : List ℕ → List ℕ
 with_comma name = name ++ codes ","
 
--- the two bits of a place, with a comma behind each
+-- the two bits of a place, with a comma after each
 abbrev pub two_bits : ℕ → List ℕ
 two_bits i = numbered (codes "a") i ++ codes "," ++ numbered (codes "b") i ++ codes ","
 
 abbrev pub one_sum : ℕ → List ℕ
 one_sum i = numbered (codes "s") i ++ codes ","
 
--- commas before the names that follow are commas behind those that come first
-moved : (names : List (List ℕ)) (last : List ℕ) → flat_map behind_comma (names ++ last ∷ []) ≡ codes "," ++ flat_map with_comma names ++ last
-moved [] last = append-nil (behind_comma last)
+-- commas before the names that follow are commas after those that come first
+moved : (names : List (List ℕ)) (last : List ℕ) → flat_map after_comma (names ++ last ∷ []) ≡ codes "," ++ flat_map with_comma names ++ last
+moved [] last = append-nil (after_comma last)
 moved (name ∷ names) last =
-    ap (λ t. behind_comma name ++ t) (moved names last)
+    ap (λ t. after_comma name ++ t) (moved names last)
     ∙ grind (arith, common_steps)
 
-pub joined-last : (names : List (List ℕ)) (last : List ℕ) → joined (names ++ last ∷ []) ≡ flat_map with_comma names ++ last
-joined-last [] last = append-nil last
-joined-last (name ∷ names) last = ap (λ t. name ++ t) (moved names last) ∙ grind (arith, common_steps)
+pub comma_separated-last : (names : List (List ℕ)) (last : List ℕ) → comma_separated (names ++ last ∷ []) ≡ flat_map with_comma names ++ last
+comma_separated-last [] last = append-nil last
+comma_separated-last (name ∷ names) last = ap (λ t. name ++ t) (moved names last) ∙ grind (arith, common_steps)
 
-pub joined-append : (names : List (List ℕ)) (last name : List ℕ) (more : List (List ℕ)) → joined ((names ++ last ∷ []) ++ name ∷ more) ≡ joined (names ++ last ∷ []) ++ codes "," ++ joined (name ∷ more)
-joined-append [] last name more = grind (arith, common_steps)
-joined-append (first ∷ names) last name more =
-    ap (λ t. first ++ t) (flat_map-append behind_comma (names ++ last ∷ []) (name ∷ more)) ∙ grind (arith, common_steps)
+pub comma_separated-append : (names : List (List ℕ)) (last name : List ℕ) (more : List (List ℕ)) → comma_separated ((names ++ last ∷ []) ++ name ∷ more) ≡ comma_separated (names ++ last ∷ []) ++ codes "," ++ comma_separated (name ∷ more)
+comma_separated-append [] last name more = grind (arith, common_steps)
+comma_separated-append (first ∷ names) last name more =
+    ap (λ t. first ++ t) (flat_map-append after_comma (names ++ last ∷ []) (name ∷ more)) ∙ grind (arith, common_steps)
 
 bits_by_place : (ks : List ℕ) → flat_map with_comma (flat_map (λ i. numbered (codes "a") i ∷ numbered (codes "b") i ∷ []) ks) ≡ flat_map two_bits ks
 bits_by_place [] = refl
@@ -42,42 +42,42 @@ sums_by_place : (ks : List ℕ) → flat_map with_comma (map (numbered (codes "s
 sums_by_place [] = refl
 sums_by_place (k ∷ ks) = ap (λ t. one_sum k ++ t) (sums_by_place ks)
 
-pub inputs_by_place : (n : ℕ) → joined (inputs n) ≡ flat_map two_bits (places n) ++ codes "ci"
-inputs_by_place n = joined-last (flat_map (λ i. numbered (codes "a") i ∷ numbered (codes "b") i ∷ []) (places n)) (codes "ci") ∙ ap (λ t. t ++ codes "ci") (bits_by_place (places n))
+pub inputs_by_place : (n : ℕ) → comma_separated (inputs n) ≡ flat_map two_bits (places n) ++ codes "ci"
+inputs_by_place n = comma_separated-last (flat_map (λ i. numbered (codes "a") i ∷ numbered (codes "b") i ∷ []) (places n)) (codes "ci") ∙ ap (λ t. t ++ codes "ci") (bits_by_place (places n))
 
-pub outputs_by_place : (n : ℕ) → joined (outputs n) ≡ flat_map one_sum (places n) ++ codes "co"
-outputs_by_place n = joined-last (map (numbered (codes "s")) (places n)) (codes "co") ∙ ap (λ t. t ++ codes "co") (sums_by_place (places n))
+pub outputs_by_place : (n : ℕ) → comma_separated (outputs n) ≡ flat_map one_sum (places n) ++ codes "co"
+outputs_by_place n = comma_separated-last (map (numbered (codes "s")) (places n)) (codes "co") ∙ ap (λ t. t ++ codes "co") (sums_by_place (places n))
 
 -- the first of the names, where one is certain to be the last
 first_of : (names : List (List ℕ)) (last : List ℕ) → (name : List ℕ) × (more : List (List ℕ)) × (names ++ last ∷ [] ≡ name ∷ more)
 first_of [] last = (last, [], refl)
 first_of (name ∷ names) last = (name, names ++ last ∷ [], refl)
 
-pub ports_joined : (n : ℕ) → joined (inputs n ++ outputs n) ≡ joined (inputs n) ++ codes "," ++ joined (outputs n)
+pub ports_joined : (n : ℕ) → comma_separated (inputs n ++ outputs n) ≡ comma_separated (inputs n) ++ codes "," ++ comma_separated (outputs n)
 ports_joined n =
     let first = first_of (map (numbered (codes "s")) (places n)) (codes "co") in
-    ap (λ outs. joined (inputs n ++ outs)) first.2
-    ∙ joined-append (flat_map (λ i. numbered (codes "a") i ∷ numbered (codes "b") i ∷ []) (places n)) (codes "ci") first.0 first.1
-    ∙ ap (λ outs. joined (inputs n) ++ codes "," ++ joined outs) (sym first.2)
+    ap (λ outs. comma_separated (inputs n ++ outs)) first.2
+    ∙ comma_separated-append (flat_map (λ i. numbered (codes "a") i ∷ numbered (codes "b") i ∷ []) (places n)) (codes "ci") first.0 first.1
+    ∙ ap (λ outs. comma_separated (inputs n) ++ codes "," ++ comma_separated outs) (sym first.2)
 
 -- the header, piece by piece
 pub header_by_pieces : (n : ℕ) (old : List ℕ)
-    → old ++ codes "module add(" ++ joined (inputs n) ++ codes "," ++ joined (outputs n) ++ codes ");\ninput " ++ joined (inputs n) ++ codes ";\noutput " ++ joined (outputs n) ++ codes ";\n"
+    → old ++ codes "module add(" ++ comma_separated (inputs n) ++ codes "," ++ comma_separated (outputs n) ++ codes ");\ninput " ++ comma_separated (inputs n) ++ codes ";\noutput " ++ comma_separated (outputs n) ++ codes ";\n"
     ≡ old ++ header (codes "add") (inputs n) (outputs n)
 header_by_pieces n old =
-    shape old (codes "module add(") (joined (inputs n)) (codes ",") (joined (outputs n)) (codes ");\n") (codes "input ") (codes ";\n") (codes "output ")
-    ∙ ap (λ ports. old ++ (codes "module add(" ++ ports ++ codes ");\n" ++ codes "input " ++ joined (inputs n) ++ codes ";\n" ++ codes "output " ++ joined (outputs n) ++ codes ";\n"))
+    shape old (codes "module add(") (comma_separated (inputs n)) (codes ",") (comma_separated (outputs n)) (codes ");\n") (codes "input ") (codes ";\n") (codes "output ")
+    ∙ ap (λ ports. old ++ (codes "module add(" ++ ports ++ codes ");\n" ++ codes "input " ++ comma_separated (inputs n) ++ codes ";\n" ++ codes "output " ++ comma_separated (outputs n) ++ codes ";\n"))
     (sym (ports_joined n))
   where
-    front : (old m ins comma outs e i : List ℕ) → old ++ m ++ ins ++ comma ++ outs ++ (e ++ i) ≡ old ++ (m ++ (ins ++ comma ++ outs) ++ e ++ i)
-    front old m ins comma outs e i = grind (arith, common_steps)
+    prefix : (old m ins comma outs e i : List ℕ) → old ++ m ++ ins ++ comma ++ outs ++ (e ++ i) ≡ old ++ (m ++ (ins ++ comma ++ outs) ++ e ++ i)
+    prefix old m ins comma outs e i = grind (arith, common_steps)
 
     back : (old a ins f o outs : List ℕ) → (old ++ a) ++ ins ++ (f ++ o) ++ outs ++ f ≡ old ++ (a ++ ins ++ f ++ o ++ outs ++ f)
     back old a ins f o outs = grind (arith, common_steps)
 
     shape : (old m ins comma outs e i f o : List ℕ)
         → old ++ m ++ ins ++ comma ++ outs ++ (e ++ i) ++ ins ++ (f ++ o) ++ outs ++ f ≡ old ++ (m ++ (ins ++ comma ++ outs) ++ e ++ i ++ ins ++ f ++ o ++ outs ++ f)
-    shape old m ins comma outs e i f o = ap (λ t. t ++ ins ++ (f ++ o) ++ outs ++ f) (front old m ins comma outs e i) ∙ back old (m ++ (ins ++ comma ++ outs) ++ e ++ i) ins f o outs
+    shape old m ins comma outs e i f o = ap (λ t. t ++ ins ++ (f ++ o) ++ outs ++ f) (prefix old m ins comma outs e i) ∙ back old (m ++ (ins ++ comma ++ outs) ++ e ++ i) ins f o outs
 
 pub inputs_counted : (n : ℕ) → length (inputs n) ≡ 2 * n + 1
 inputs_counted n = omega (arith, length-append (flat_map (λ i. numbered (codes "a") i ∷ numbered (codes "b") i ∷ []) (places n)) (codes "ci" ∷ []), two_each n)

@@ -4,8 +4,8 @@ use Rattle.std.proofs.lemmas.Grind.{common_steps}
 use Rattle.std.specs.List.{flat_map, range_with_len}
 use Rattle.std.proofs.lemmas.List.{length-append}
 use Rattle.std.proofs.lemmas.Fmt.{length-decimal-le}
-use Rattle.bb_make.specs.Adders.{adder, carry, cell, connections, end_line, full_adder, header, hole, inputs, made_spec, numbered, outputs, places, stage_line}
-use Rattle.bb_make.specs.Commas.{joined}
+use Rattle.bb_make.specs.Adders.{adder, carry, cell, stage_connections, end_line, full_adder, header, hole, inputs, made_spec, numbered, outputs, places, stage_line}
+use Rattle.bb_make.specs.Commas.{comma_separated}
 use Rattle.bb_make.proofs.Joined.{inputs_by_place, one_sum, outputs_by_place, ports_joined, two_bits}
 
 -- a number of a place is short
@@ -33,7 +33,7 @@ by_places f c zero short = omega arith
 by_places f c (suc n) short =
     omega (arith, length-append (f n) (flat_map f (places n)), short n (omega arith), by_places f c n (λ i within. short i (omega (arith, within))))
 
-five : (a b c d e : List ℕ) → length (joined (a ∷ b ∷ c ∷ d ∷ e ∷ [])) ≡ length a + length b + length c + length d + length e + 4
+five : (a b c d e : List ℕ) → length (comma_separated (a ∷ b ∷ c ∷ d ∷ e ∷ [])) ≡ length a + length b + length c + length d + length e + 4
 five a b c d e = grind (arith, common_steps)
 
 cell-length : (gap : Option ℕ) (i : ℕ) → length (cell gap i) ≤ 4
@@ -48,7 +48,7 @@ line-length : (gap : Option ℕ) (n i : ℕ) → i < n → n ≤ 256 → length 
 line-length gap n i within small =
     let fits : i ≤ 256 = omega (arith, within, small) in
     let names = five (numbered (codes "a") i) (numbered (codes "b") i) (carry n i) (numbered (codes "s") i) (carry n (i + 1)) in
-    let parts = shape (cell gap i) (codes " u") (decimal i) (codes "(") (joined (connections n i)) (codes ");\n") in
+    let parts = shape (cell gap i) (codes " u") (decimal i) (codes "(") (comma_separated (stage_connections n i)) (codes ");\n") in
     omega (
       arith,
       names,
@@ -74,33 +74,33 @@ two-length i small = omega (arith, shape (numbered (codes "a") i) (codes ",") (n
 sum-length : (i : ℕ) → i ≤ 256 → length (one_sum i) ≤ 5
 sum-length i small = omega (arith, length-append (numbered (codes "s") i) (codes ","), numbered-length (codes "s") i small)
 
-inputs-length : (n : ℕ) → n ≤ 256 → length (joined (inputs n)) ≤ 2562
+inputs-length : (n : ℕ) → n ≤ 256 → length (comma_separated (inputs n)) ≤ 2562
 inputs-length n small =
     let each = by_places two_bits 10 n (λ i within. two-length i (omega (arith, within, small))) in
     omega (arith, small, ap length (inputs_by_place n), length-append (flat_map two_bits (places n)) (codes "ci"), each)
 
-outputs-length : (n : ℕ) → n ≤ 256 → length (joined (outputs n)) ≤ 1282
+outputs-length : (n : ℕ) → n ≤ 256 → length (comma_separated (outputs n)) ≤ 1282
 outputs-length n small =
     let each = by_places one_sum 5 n (λ i within. sum-length i (omega (arith, within, small))) in
     omega (arith, small, ap length (outputs_by_place n), length-append (flat_map one_sum (places n)) (codes "co"), each)
 
-ports-length : (n : ℕ) → n ≤ 256 → length (joined (inputs n ++ outputs n)) ≤ 3845
+ports-length : (n : ℕ) → n ≤ 256 → length (comma_separated (inputs n ++ outputs n)) ≤ 3845
 ports-length n small =
-    omega (arith, ap length (ports_joined n), shape (joined (inputs n)) (codes ",") (joined (outputs n)), inputs-length n small, outputs-length n small)
+    omega (arith, ap length (ports_joined n), shape (comma_separated (inputs n)) (codes ",") (comma_separated (outputs n)), inputs-length n small, outputs-length n small)
   where
     shape : (a b c : List ℕ) → length (a ++ b ++ c) ≡ length a + length b + length c
     shape a b c = grind (arith, common_steps)
 
 header-length : (n : ℕ) → n ≤ 256 → length (header (codes "add") (inputs n) (outputs n)) ≤ 8000
 header-length n small =
-    let line = codes "module " ++ codes "add" ++ codes "(" ++ joined (inputs n ++ outputs n) ++ codes ");\n" in
+    let line = codes "module " ++ codes "add" ++ codes "(" ++ comma_separated (inputs n ++ outputs n) ++ codes ");\n" in
     omega (
       arith,
       ports-length n small,
       inputs-length n small,
       outputs-length n small,
-      five_parts (codes "module ") (codes "add") (codes "(") (joined (inputs n ++ outputs n)) (codes ");\n"),
-      seven_parts line (codes "input ") (joined (inputs n)) (codes ";\n") (codes "output ") (joined (outputs n)) (codes ";\n"),
+      five_parts (codes "module ") (codes "add") (codes "(") (comma_separated (inputs n ++ outputs n)) (codes ");\n"),
+      seven_parts line (codes "input ") (comma_separated (inputs n)) (codes ";\n") (codes "output ") (comma_separated (outputs n)) (codes ";\n"),
     )
   where
     five_parts : (a b c d e : List ℕ) → length (a ++ b ++ c ++ d ++ e) ≡ length a + length b + length c + length d + length e
@@ -108,8 +108,8 @@ header-length n small =
 
     seven_parts : (a b c d e f g : List ℕ) → length (a ++ b ++ c ++ d ++ e ++ f ++ g) ≡ length a + length b + length c + length d + length e + length f + length g
     seven_parts a b c d e f g =
-        let front = a ++ b ++ c ++ d in
-        omega (arith, length-append (front ++ e ++ f) g, length-append (front ++ e) f, length-append front e, length-append (a ++ b ++ c) d, length-append (a ++ b) c, length-append a b)
+        let prefix = a ++ b ++ c ++ d in
+        omega (arith, length-append (prefix ++ e ++ f) g, length-append (prefix ++ e) f, length-append prefix e, length-append (a ++ b ++ c) d, length-append (a ++ b) c, length-append a b)
 
 pub adder-length : (gap : Option ℕ) (n : ℕ) → n ≤ 256 → length (adder gap n) ≤ 30000
 adder-length gap n small =

@@ -1,12 +1,13 @@
--- A pair of texts of known answer: a ripple-carry adder of two numbers of n bits, one full adder for each place. Stage i adds the
--- bits ai and bi and the carry into the place, and gives the sum's bit si and the carry out of it. The specification has full adders
--- alone. In the implementation the stage in the middle, number n / 2, is an instance of a module without a body, which is a box: the full adder
--- fills it. Each text is in the Verilog subset of IEEE 1364-2005 that is read, and its lines end with a line feed.
+-- A pair of texts of known answer: a ripple-carry adder of two numbers of n bits, one full adder for each place. Stage
+-- i adds the bits ai and bi and the carry into the place, and gives the sum's bit si and the carry out of it. The
+-- specification has full adders alone. In the implementation the stage in the middle, number n / 2, is an instance of a
+-- module without a body, which is a black box: the full adder fills it. Each text is in the Verilog subset of IEEE
+-- 1364-2005 that is read, and its lines end with a line feed.
 use Rattle.std.specs.Prelude.{ℕ, zero, suc, ◌+◌, ◌/◌, ◌==◌, if◌then◌else◌, List, [], ◌∷◌, ◌++◌, Option, None, Some, map, codes, decimal}
 use Rattle.std.specs.List.{flat_map, range_with_len}
-use Rattle.bb_make.specs.Commas.{joined}
+use Rattle.bb_make.specs.Commas.{comma_separated}
 
--- a name with the number of a place behind it
+-- a name and the number of a place after it
 abbrev pub numbered : List ℕ → ℕ → List ℕ
 numbered name i = name ++ decimal i
 
@@ -19,7 +20,7 @@ abbrev pub places : ℕ → List ℕ
 places zero = []
 places (suc i) = i ∷ places i
 
--- the inputs of the adder: the two numbers bit by bit beside each other, then the carry
+-- the inputs of the adder: the two numbers interleaved bit by bit, then the carry
 abbrev pub inputs : ℕ → List (List ℕ)
 inputs n = flat_map (λ i. numbered (codes "a") i ∷ numbered (codes "b") i ∷ []) (places n) ++ codes "ci" ∷ []
 
@@ -30,17 +31,17 @@ outputs n = map (numbered (codes "s")) (places n) ++ codes "co" ∷ []
 -- the header of a module with these inputs and outputs, which are its ports in this order, and their declarations
 abbrev pub header : List ℕ → List (List ℕ) → List (List ℕ) → List ℕ
 header name ins outs =
-    codes "module " ++ name ++ codes "(" ++ joined (ins ++ outs) ++ codes ");\n"
-    ++ codes "input " ++ joined ins ++ codes ";\n"
-    ++ codes "output " ++ joined outs ++ codes ";\n"
+    codes "module " ++ name ++ codes "(" ++ comma_separated (ins ++ outs) ++ codes ");\n"
+    ++ codes "input " ++ comma_separated ins ++ codes ";\n"
+    ++ codes "output " ++ comma_separated outs ++ codes ";\n"
 
 -- what is connected to the ports a, b, c, s and o of stage i
-abbrev pub connections : ℕ → ℕ → List (List ℕ)
-connections n i = numbered (codes "a") i ∷ numbered (codes "b") i ∷ carry n i ∷ numbered (codes "s") i ∷ carry n (i + 1) ∷ []
+abbrev pub stage_connections : ℕ → ℕ → List (List ℕ)
+stage_connections n i = numbered (codes "a") i ∷ numbered (codes "b") i ∷ carry n i ∷ numbered (codes "s") i ∷ carry n (i + 1) ∷ []
 
 -- stage i as an instance ui of a module
 abbrev pub stage_line : List ℕ → ℕ → ℕ → List ℕ
-stage_line cell n i = cell ++ codes " u" ++ decimal i ++ codes "(" ++ joined (connections n i) ++ codes ");\n"
+stage_line cell n i = cell ++ codes " u" ++ decimal i ++ codes "(" ++ comma_separated (stage_connections n i) ++ codes ");\n"
 
 -- the inputs and the outputs of a stage
 abbrev pub stage_inputs : List (List ℕ)

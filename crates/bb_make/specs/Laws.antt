@@ -2,7 +2,8 @@
 use Rattle.std.specs.Prelude.{◌≡◌, ◌≤◌, ◌/◌, ℕ, List, ◌++◌, codes}
 use Rattle.bb_make.specs.Adders.{hole, made_imp, made_spec, stage_line}
 
--- the two texts are one text but for the first word in the line of the stage in the middle, and the module hole behind the second
+-- the two texts are one text but for the first word in the line of the stage in the middle, and the module hole after
+-- the second
 pub record AreOneWordApart (n : ℕ) : Type 0 where
   pub before : List ℕ
   pub after : List ℕ

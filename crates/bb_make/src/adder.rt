@@ -1,17 +1,17 @@
-//! The module of an adder, stage by stage, with the full adder behind it.
+//! The module of an adder, stage by stage, and the full adder after it. Each stage is an instance, so that a stage
+//! becomes a box by the exchange of one word.
 
 ghost use Rattle.std.specs.Prelude.{◌≡◌, ◌<◌, ◌++◌, OnOk};
 ghost use Rattle.std.specs.List.{flat_map, range_with_len};
-ghost use Rattle.bb_make.specs.Adders.{adder, cell, connections, hole, stage_line};
-ghost use Rattle.bb_make.specs.Commas.{joined};
+ghost use Rattle.bb_make.specs.Adders.{adder, cell, stage_connections, hole, stage_line};
+ghost use Rattle.bb_make.specs.Commas.{comma_separated};
 
 use crate::ports::{push_carry, push_header, push_numbered};
 use bb_bits::NoMemory;
 
-// Appends what is connected to a stage, joined by commas.
 fn push_connections(text: &mut Vec<u8>, n: u32, i: u32) -> Result<(), NoMemory>
     requires stage { i < n }
-    ensures text { OnOk result (text.new.items ≡ text.old.items ++ joined (connections n i)) }
+    ensures text { OnOk result (text.new.items ≡ text.old.items ++ comma_separated (stage_connections n i)) }
 {
     push_numbered(text, "a", i)?;
     push_numbered(text, ",b", i)?;
@@ -23,7 +23,6 @@ fn push_connections(text: &mut Vec<u8>, n: u32, i: u32) -> Result<(), NoMemory>
     Ok(())
 }
 
-// Appends the line of a stage.
 fn push_stage(text: &mut Vec<u8>, cell: &str, n: u32, i: u32) -> Result<(), NoMemory>
     requires stage { i < n }
     ensures text { OnOk result (text.new.items ≡ text.old.items ++ stage_line cell.now n i) }
@@ -36,14 +35,12 @@ fn push_stage(text: &mut Vec<u8>, cell: &str, n: u32, i: u32) -> Result<(), NoMe
     Ok(())
 }
 
-// The module of which a stage is an instance.
 fn cell(gap: Option<u32>, i: u32) -> &'static str
     ensures cell { result.now ≡ cell gap i }
 {
     if gap == Some(i) { "hole" } else { "fa" }
 }
 
-// Appends the lines of all stages.
 fn push_stages(text: &mut Vec<u8>, gap: Option<u32>, n: u32) -> Result<(), NoMemory>
     ensures text { OnOk result (text.new.items ≡ text.old.items ++ flat_map (λ i. stage_line (cell gap i) n i) (range_with_len 0 n)) }
 {
@@ -53,7 +50,7 @@ fn push_stages(text: &mut Vec<u8>, gap: Option<u32>, n: u32) -> Result<(), NoMem
     Ok(())
 }
 
-/// Appends an adder in which one stage, if any, is the hole.
+/// Appends an adder; `gap` is the stage that is the box, if any, and stage 0 adds the least significant bits.
 pub fn push_adder(text: &mut Vec<u8>, gap: Option<u32>, n: u32) -> Result<(), NoMemory>
     ensures text { OnOk result (text.new.items ≡ text.old.items ++ adder gap n) }
 {
@@ -65,7 +62,7 @@ pub fn push_adder(text: &mut Vec<u8>, gap: Option<u32>, n: u32) -> Result<(), No
     Ok(())
 }
 
-/// Appends the module without a body.
+/// Appends the black box: a module with the ports of the full adder and nothing else.
 pub fn push_hole(text: &mut Vec<u8>) -> Result<(), NoMemory>
     ensures text { OnOk result (text.new.items ≡ text.old.items ++ hole) }
 {

@@ -1,4 +1,6 @@
-//! The two texts of a made pair.
+//! The two texts of a made pair. The box is the stage in the middle, so that carries reach it from below and leave it
+//! upwards. That the texts read and fit is tested at seventeen widths from 1 to 256 and not proved, so a caller needs a
+//! case for a refusal.
 
 ghost use Rattle.std.specs.Prelude.{◌≡◌, ◌≤◌, ◌<◌, length, IfOk};
 ghost use Rattle.bb_make.specs.Adders.{made_imp, made_spec};
@@ -7,7 +9,6 @@ use crate::adder::{push_adder, push_hole};
 use bb_bits::NoMemory;
 use std::alloc::Global;
 
-// The specification.
 fn spec(alloc: Global, n: u32) -> Result<Vec<u8>, NoMemory>
     ensures text { IfOk result (λ text. text.items ≡ made_spec n) }
 {
@@ -16,7 +17,6 @@ fn spec(alloc: Global, n: u32) -> Result<Vec<u8>, NoMemory>
     Ok(text)
 }
 
-// The implementation.
 fn imp(alloc: Global, n: u32) -> Result<Vec<u8>, NoMemory>
     ensures text { IfOk result (λ text. text.items ≡ made_imp n) }
 {
@@ -26,12 +26,12 @@ fn imp(alloc: Global, n: u32) -> Result<Vec<u8>, NoMemory>
     Ok(text)
 }
 
-/// The specification and the implementation of a made pair: an adder of `n` bits with its carry in and out, and the same adder in
-/// which the full adder in the middle is a box, `hole`. The top module of both is `add`; each text has less than 65,536 bytes.
+/// The specification and the implementation: an adder of `n` bits with its carry in and out, and the same adder in
+/// which stage n / 2 is a box, `hole`. The top module of both is `add`; each text has less than 65,536 bytes.
 ///
 /// # Errors
 ///
-/// Want of memory alone.
+/// Only `NoMemory`.
 pub fn texts(alloc: Global, n: u32) -> Result<(Vec<u8>, Vec<u8>), NoMemory>
     requires width { (1 ≤ n) × (n ≤ 256) }
     ensures spec { IfOk result (λ made. made.0.items ≡ made_spec n) }

@@ -1,13 +1,15 @@
-//! The names of an adder's ports and carries.
+//! The names of an adder's ports and carries. The two numbers are interleaved from the highest bit down: the order of
+//! the specification's ports is the order of variables, and for an adder interleaved operands keep BDDs linear in the
+//! width, while one number after the other makes them exponential (Knuth, TAOCP 4A, 7.1.4).
 
 ghost use Rattle.std.specs.Prelude.{◌≡◌, ◌≤◌, ◌++◌, codes, length, OnOk};
 ghost use Rattle.bb_make.specs.Adders.{carry, header, inputs, numbered, outputs};
-ghost use Rattle.bb_make.specs.Commas.{joined};
+ghost use Rattle.bb_make.specs.Commas.{comma_separated};
 
 use bb_bits::NoMemory;
 use itoa::Buffer;
 
-/// Appends a name with a number behind it.
+/// The number is in decimal, without leading zeros.
 pub fn push_numbered(text: &mut Vec<u8>, name: &str, i: u32) -> Result<(), NoMemory>
     ensures text { OnOk result (text.new.items ≡ text.old.items ++ numbered name.now i) }
 {
@@ -17,7 +19,7 @@ pub fn push_numbered(text: &mut Vec<u8>, name: &str, i: u32) -> Result<(), NoMem
     Ok(())
 }
 
-/// Appends the name of the carry into a stage, or out of the last one.
+/// `ci` into stage 0, `co` out of the last stage, and `c1`, `c2` and so on between.
 pub fn push_carry(text: &mut Vec<u8>, n: u32, i: u32) -> Result<(), NoMemory>
     ensures text { OnOk result (text.new.items ≡ text.old.items ++ carry n i) }
 {
@@ -30,7 +32,7 @@ pub fn push_carry(text: &mut Vec<u8>, n: u32, i: u32) -> Result<(), NoMemory>
     }
 }
 
-/// How many inputs an adder of `n` bits has: two for each bit, and the carry.
+/// Two for each bit, and the carry in.
 #[tactic(auto, using(crate::proofs::Joined::inputs_counted))]
 pub fn input_count(n: u32) -> u32
     requires width { n ≤ 256 }
@@ -39,7 +41,6 @@ pub fn input_count(n: u32) -> u32
     2 * n + 1
 }
 
-// Appends the two input bits of a place, and a comma behind each.
 fn push_bits(text: &mut Vec<u8>, i: u32) -> Result<(), NoMemory>
     ensures text { OnOk result (text.new.items ≡ text.old.items ++ (numbered (codes "a") i ++ codes "," ++ numbered (codes "b") i ++ codes ",")) }
 {
@@ -50,9 +51,8 @@ fn push_bits(text: &mut Vec<u8>, i: u32) -> Result<(), NoMemory>
     Ok(())
 }
 
-// Appends the inputs, joined by commas.
 fn push_inputs(text: &mut Vec<u8>, n: u32) -> Result<(), NoMemory>
-    ensures text { OnOk result (text.new.items ≡ text.old.items ++ joined (inputs n)) }
+    ensures text { OnOk result (text.new.items ≡ text.old.items ++ comma_separated (inputs n)) }
 {
     for i in (0..n).rev() {
         push_bits(text, i)?;
@@ -61,7 +61,6 @@ fn push_inputs(text: &mut Vec<u8>, n: u32) -> Result<(), NoMemory>
     Ok(())
 }
 
-// Appends the output bit of a place, and a comma.
 fn push_sum(text: &mut Vec<u8>, i: u32) -> Result<(), NoMemory>
     ensures text { OnOk result (text.new.items ≡ text.old.items ++ (numbered (codes "s") i ++ codes ",")) }
 {
@@ -70,9 +69,8 @@ fn push_sum(text: &mut Vec<u8>, i: u32) -> Result<(), NoMemory>
     Ok(())
 }
 
-// Appends the outputs, joined by commas.
 fn push_outputs(text: &mut Vec<u8>, n: u32) -> Result<(), NoMemory>
-    ensures text { OnOk result (text.new.items ≡ text.old.items ++ joined (outputs n)) }
+    ensures text { OnOk result (text.new.items ≡ text.old.items ++ comma_separated (outputs n)) }
 {
     for i in (0..n).rev() {
         push_sum(text, i)?;
@@ -81,7 +79,7 @@ fn push_outputs(text: &mut Vec<u8>, n: u32) -> Result<(), NoMemory>
     Ok(())
 }
 
-/// Appends the header of the adder, and the declarations of its ports.
+/// Ports are in the order of the header: all inputs and then all outputs, from the highest bit down.
 pub fn push_header(text: &mut Vec<u8>, n: u32) -> Result<(), NoMemory>
     ensures text { OnOk result (text.new.items ≡ text.old.items ++ header (codes "add") (inputs n) (outputs n)) }
 {

@@ -9,16 +9,16 @@ use Rattle.std.proofs.lemmas.List.Quantifiers.{all_pairs_remove}
 use Rattle.std.proofs.lemmas.Option.{same_Some}
 use Rattle.std.proofs.lemmas.Slice.Eq.{bytes_eq-Decides}
 use Rattle.bb_bits.specs.Names.{IsPrintable, same_name}
-use Rattle.bb_lists.proofs.Apart.{pairs_tail}
-use Rattle.bb_lists.proofs.Names.{same_self}
+use Rattle.bb_lemmas.proofs.Apart.{pairs_tail}
+use Rattle.bb_lemmas.proofs.Names.{same_self}
 use Rattle.bb_net.specs.Flats.{FlatNet, IsFlat}
-use Rattle.bb_match.specs.Refusals.{AreAmong, IsMissing, IsFirstMissing, compared, Cause, Box, Care, SpecInput, SpecOutput, ImpInput, ImpOutput, SpecRegister, ImpRegister, SpecClock, ImpClock, Clocks, Pins, IsTold, IsAbsent}
+use Rattle.bb_match.specs.Refusals.{AreAmong, IsMissing, IsFirstMissing, compared, PairCause, Box, Care, SpecInput, SpecOutput, ImpInput, ImpOutput, SpecRegister, ImpRegister, SpecClock, ImpClock, Clocks, Pins, IsReported, IsAbsent}
 use Rattle.bb_match.specs.Laws.{CareIsTakenOut, CareOutputsAreLeftOut, ComparedAreTheOthers, FittingNetsHaveTheirOutputs, WithoutOutputsAreFlat}
 use Rattle.bb_match.specs.Pairing.{without, without_output}
 use Rattle.bb_match.proofs.PairLaws.{outputs_among, pairs_head}
-use Rattle.bb_match.proofs.PlaceLemmas.{stands_at}
+use Rattle.bb_match.proofs.PlaceLemmas.{occurs_at}
 
--- a list without what stands at a place
+-- a list without what is at a place
 
 pub all_without : {A : Type 0} (P : A → Type 0) (k : ℕ) (xs : List A) → All P xs → All P (without k xs)
 all_without P k xs all = All-append P (take k xs) (drop (suc k) xs) (All-take P k xs all) (All-drop P (suc k) xs all)
@@ -31,7 +31,7 @@ length-without k xs within = omega (arith, length-remove xs k within)
 pub without_outputs_are_flat : WithoutOutputsAreFlat
 without_outputs_are_flat f k flat within = record {
   net = record {
-    front = flat.net.front;
+    prefix = flat.net.prefix;
     ordered = flat.net.ordered;
     listed = flat.net.listed;
     driven = flat.net.driven;
@@ -67,26 +67,26 @@ other_kept care (x ∷ xs) off = by (same_name care x) refl (other_kept care xs 
     by false e others = ap (λ l. x ∷ l) others
 
 compared_without : (care : List ℕ) (place : ℕ) (outs : List (List ℕ)) → AllPairs ◌≢◌ outs → slice_get outs place ≡ Some care → compared (Some care) outs ≡ without place outs
-compared_without care place [] apart stands = cc stands
-compared_without care zero (x ∷ xs) apart stands =
-    let is : x ≡ care = same_Some x care stands in
+compared_without care place [] apart occurs = cc occurs
+compared_without care zero (x ∷ xs) apart occurs =
+    let is : x ≡ care = same_Some x care occurs in
     ap (λ b. cond (not b) (x ∷ filter (λ text. not (same_name care text)) xs) (filter (λ text. not (same_name care text)) xs)) ((bytes_eq-Decides care x).1 (sym is)) ∙ other_kept care xs (subst (λ y. All (λ z. y ≢ z) xs) is (pairs_head ◌≢◌ x xs apart))
-compared_without care (suc place) (x ∷ xs) apart stands = by (same_name care x) refl (compared_without care place xs (pairs_tail ◌≢◌ x xs apart) stands)
+compared_without care (suc place) (x ∷ xs) apart occurs = by (same_name care x) refl (compared_without care place xs (pairs_tail ◌≢◌ x xs apart) occurs)
   where
     by : (b : Bool) → same_name care x ≡ b → compared (Some care) xs ≡ without place xs → cond (not b) (x ∷ compared (Some care) xs) (compared (Some care) xs) ≡ without (suc place) (x ∷ xs)
-    by true e others = absurd (All-contains (λ y. x ≢ y) xs care (pairs_head ◌≢◌ x xs apart) (stands_at xs care place stands) (sym ((bytes_eq-Decides care x).0 e)))
+    by true e others = absurd (All-contains (λ y. x ≢ y) xs care (pairs_head ◌≢◌ x xs apart) (occurs_at xs care place occurs) (sym ((bytes_eq-Decides care x).0 e)))
     by false e others = ap (λ l. x ∷ l) others
 
 pub compared_are_the_others : ComparedAreTheOthers
-compared_are_the_others care f place flat stands = compared_without care place f.outs flat.apart.outs stands
+compared_are_the_others care f place flat occurs = compared_without care place f.outs flat.apart.outs occurs
 
 -- causes without the care output
 
-module _ (care : List ℕ) (spec imp : FlatNet) (place : ℕ) (flat : IsFlat spec) (stands : slice_get spec.outs place ≡ Some care) where
+module _ (care : List ℕ) (spec imp : FlatNet) (place : ℕ) (flat : IsFlat spec) (occurs : slice_get spec.outs place ≡ Some care) where
   outs : compared (Some care) spec.outs ≡ without place spec.outs
-  outs = compared_without care place spec.outs flat.apart.outs stands
+  outs = compared_without care place spec.outs flat.apart.outs occurs
 
-  absent_into : (cause : Cause) → IsAbsent (Some care) spec imp cause → IsAbsent None (without_output place spec) imp cause
+  absent_into : (cause : PairCause) → IsAbsent (Some care) spec imp cause → IsAbsent None (without_output place spec) imp cause
   absent_into Box absent = absent
   absent_into Care absent = tt
   absent_into SpecInput absent = absent
@@ -100,9 +100,9 @@ module _ (care : List ℕ) (spec imp : FlatNet) (place : ℕ) (flat : IsFlat spe
   absent_into Clocks absent = absent
   absent_into Pins absent = absent
 
-  absent_from : (cause : Cause) → IsAbsent None (without_output place spec) imp cause → IsAbsent (Some care) spec imp cause
+  absent_from : (cause : PairCause) → IsAbsent None (without_output place spec) imp cause → IsAbsent (Some care) spec imp cause
   absent_from Box absent = absent
-  absent_from Care absent = stands_at spec.outs care place stands
+  absent_from Care absent = occurs_at spec.outs care place occurs
   absent_from SpecInput absent = absent
   absent_from SpecOutput absent = subst (λ l. AreAmong l imp.outs) (sym outs) absent
   absent_from ImpInput absent = absent
@@ -114,40 +114,40 @@ module _ (care : List ℕ) (spec imp : FlatNet) (place : ℕ) (flat : IsFlat spe
   absent_from Clocks absent = absent
   absent_from Pins absent = absent
 
-  told_into : (cause : Cause) (n : List ℕ) → IsTold (Some care) spec imp cause n → IsTold None (without_output place spec) imp cause n
-  told_into Box n told = told
-  told_into Care n told = absurd (told.1 (subst (Contains spec.outs) (same_Some care n told.0) (stands_at spec.outs care place stands)))
-  told_into SpecInput n told = told
-  told_into SpecOutput n told = subst (λ l. IsFirstMissing l imp.outs n) outs told
-  told_into ImpInput n told = told
-  told_into ImpOutput n told = subst (λ l. IsFirstMissing imp.outs l n) outs told
-  told_into SpecRegister n told = told
-  told_into ImpRegister n told = told
-  told_into SpecClock n told = told
-  told_into ImpClock n told = told
-  told_into Clocks n told = told
-  told_into Pins n told = told
+  reported_into : (cause : PairCause) (n : List ℕ) → IsReported (Some care) spec imp cause n → IsReported None (without_output place spec) imp cause n
+  reported_into Box n reported = reported
+  reported_into Care n reported = absurd (reported.1 (subst (Contains spec.outs) (same_Some care n reported.0) (occurs_at spec.outs care place occurs)))
+  reported_into SpecInput n reported = reported
+  reported_into SpecOutput n reported = subst (λ l. IsFirstMissing l imp.outs n) outs reported
+  reported_into ImpInput n reported = reported
+  reported_into ImpOutput n reported = subst (λ l. IsFirstMissing imp.outs l n) outs reported
+  reported_into SpecRegister n reported = reported
+  reported_into ImpRegister n reported = reported
+  reported_into SpecClock n reported = reported
+  reported_into ImpClock n reported = reported
+  reported_into Clocks n reported = reported
+  reported_into Pins n reported = reported
 
-  told_from : (cause : Cause) (n : List ℕ) → IsTold None (without_output place spec) imp cause n → IsTold (Some care) spec imp cause n
-  told_from Box n told = told
-  told_from Care n told = cc told.0
-  told_from SpecInput n told = told
-  told_from SpecOutput n told = subst (λ l. IsFirstMissing l imp.outs n) (sym outs) told
-  told_from ImpInput n told = told
-  told_from ImpOutput n told = subst (λ l. IsFirstMissing imp.outs l n) (sym outs) told
-  told_from SpecRegister n told = told
-  told_from ImpRegister n told = told
-  told_from SpecClock n told = told
-  told_from ImpClock n told = told
-  told_from Clocks n told = told
-  told_from Pins n told = told
+  reported_from : (cause : PairCause) (n : List ℕ) → IsReported None (without_output place spec) imp cause n → IsReported (Some care) spec imp cause n
+  reported_from Box n reported = reported
+  reported_from Care n reported = cc reported.0
+  reported_from SpecInput n reported = reported
+  reported_from SpecOutput n reported = subst (λ l. IsFirstMissing l imp.outs n) (sym outs) reported
+  reported_from ImpInput n reported = reported
+  reported_from ImpOutput n reported = subst (λ l. IsFirstMissing imp.outs l n) (sym outs) reported
+  reported_from SpecRegister n reported = reported
+  reported_from ImpRegister n reported = reported
+  reported_from SpecClock n reported = reported
+  reported_from ImpClock n reported = reported
+  reported_from Clocks n reported = reported
+  reported_from Pins n reported = reported
 
 pub care_is_taken_out : CareIsTakenOut
-care_is_taken_out care spec imp place flat stands = record {
-  fit = ((λ fit cause. absent_into care spec imp place flat stands cause (fit cause)), (λ fit cause. absent_from care spec imp place flat stands cause (fit cause)));
+care_is_taken_out care spec imp place flat occurs = record {
+  fit = ((λ fit cause. absent_into care spec imp place flat occurs cause (fit cause)), (λ fit cause. absent_from care spec imp place flat occurs cause (fit cause)));
   refused = λ fault. (
-    (λ r. record { cause = r.cause; name = r.name; is = r.is; told = told_into care spec imp place flat stands r.cause r.name r.told; earlier = λ other before. absent_into care spec imp place flat stands other (r.earlier other before) }),
-    (λ r. record { cause = r.cause; name = r.name; is = r.is; told = told_from care spec imp place flat stands r.cause r.name r.told; earlier = λ other before. absent_from care spec imp place flat stands other (r.earlier other before) }),
+    (λ r. record { cause = r.cause; name = r.name; is = r.is; reported = reported_into care spec imp place flat occurs r.cause r.name r.reported; earlier = λ other before. absent_into care spec imp place flat occurs other (r.earlier other before) }),
+    (λ r. record { cause = r.cause; name = r.name; is = r.is; reported = reported_from care spec imp place flat occurs r.cause r.name r.reported; earlier = λ other before. absent_from care spec imp place flat occurs other (r.earlier other before) }),
   );
 }
 

@@ -1,4 +1,4 @@
--- From what a check tells to a refusal: no cause before it holds.
+-- From what a check says to a refusal: no cause before it holds.
 use Rattle.std.proofs.Common.{◌≡◌, ◌⊎◌, ℕ, ◌+◌, List, [], ◌∷◌, Option, None, Some, Result, Ok, Err, refl, sym, subst, inl, inr}
 use Rattle.std.specs.Prelude.{slice_get, IfErr, IfOk, IsErrAnd, MatchResult, OnOk}
 use Rattle.bb_net.specs.Pairs.{BoxTexts}
@@ -8,7 +8,7 @@ use Rattle.bb_net.specs.Flats.{FlatNet, IsFlat}
 use Rattle.bb_match.specs.declared.fault.MatchFault.{MatchFault}
 use Rattle.bb_match.specs.declared.fault.MatchFault.TheVariants.{NoMemory}
 use Rattle.bb_match.specs.declared.fault.MatchFault.TheVariants as faults
-use Rattle.bb_match.specs.Refusals.{IsMissing, IsFirstMissing, HasNoClock, IsFirstWithoutClock, Cause, Box, Care, rank, fault_of, IsTold, Fit, IsFirstRefusal}
+use Rattle.bb_match.specs.Refusals.{IsMissing, IsFirstMissing, HasNoClock, IsFirstWithoutClock, PairCause, Box, Care, pair_cause_rank, match_fault_of, IsReported, Fit, IsFirstPairRefusal}
 use Rattle.bb_match.specs.Pairing.{without_output}
 use Rattle.bb_match.proofs.CareLemmas.{care_is_taken_out}
 use Rattle.bb_match.proofs.Decisions.{NoneBefore, none_at_first, none_more, refused}
@@ -26,36 +26,36 @@ pub on_ok_weaker : {A E : Type 0} (r : Result A E) (P Q : Type 0) → (P → Q) 
 on_ok_weaker (Ok x) P Q f h = f h
 on_ok_weaker (Err x) P Q f h = tt
 
--- it is want of memory, or tells a name of the cause
-abbrev pub Tells : Option (List ℕ) → FlatNet → FlatNet → Cause → MatchFault → Type 0
-Tells care spec imp cause fault = (fault ≡ NoMemory) ⊎ ((n : List ℕ) × (fault ≡ fault_of cause n) × IsTold care spec imp cause n)
+-- it is want of memory, or says a name of the cause
+abbrev pub Reports : Option (List ℕ) → FlatNet → FlatNet → PairCause → MatchFault → Type 0
+Reports care spec imp cause fault = (fault ≡ NoMemory) ⊎ ((n : List ℕ) × (fault ≡ match_fault_of cause n) × IsReported care spec imp cause n)
 
 abbrev pub MayRefuse : Option (List ℕ) → FlatNet → FlatNet → MatchFault → Type 0
-MayRefuse care spec imp fault = (fault ≡ NoMemory) ⊎ IsFirstRefusal care spec imp fault
+MayRefuse care spec imp fault = (fault ≡ NoMemory) ⊎ IsFirstPairRefusal care spec imp fault
 
-pub refusal : (care : Option (List ℕ)) (spec imp : FlatNet) (cause : Cause) (fault : MatchFault) → NoneBefore care spec imp (rank cause) → Tells care spec imp cause fault → MayRefuse care spec imp fault
+pub refusal : (care : Option (List ℕ)) (spec imp : FlatNet) (cause : PairCause) (fault : MatchFault) → NoneBefore care spec imp (pair_cause_rank cause) → Reports care spec imp cause fault → MayRefuse care spec imp fault
 refusal care spec imp cause fault before (inl none) = inl none
-refusal care spec imp cause fault before (inr told) = inr (subst (IsFirstRefusal care spec imp) (sym told.1) (refused care spec imp cause told.0 before told.2))
+refusal care spec imp cause fault before (inr reported) = inr (subst (IsFirstPairRefusal care spec imp) (sym reported.1) (refused care spec imp cause reported.0 before reported.2))
 
 -- where no care output is asked for, the specification does not lack one
-pub past_care : (spec imp : FlatNet) → spec.boxes ≡ [] → NoneBefore None spec imp (rank Care + 1)
+pub past_care : (spec imp : FlatNet) → spec.boxes ≡ [] → NoneBefore None spec imp (pair_cause_rank Care + 1)
 past_care spec imp none = none_more None spec imp Care (none_more None spec imp Box (none_at_first None spec imp) none) tt
 
 -- what is answered where there is no cause, and where there is one
 
 pub only_fit : (care : Option (List ℕ)) (spec imp : FlatNet) (fault : MatchFault) → MayRefuse care spec imp fault → Fit care spec imp → fault ≡ NoMemory
 only_fit care spec imp fault (inl none) fit = none
-only_fit care spec imp fault (inr told) fit = absurd (not_fit_and_refused care spec imp fault fit told)
+only_fit care spec imp fault (inr reported) fit = absurd (not_fit_and_refused care spec imp fault fit reported)
 
-pub only_fault : (care : Option (List ℕ)) (spec imp : FlatNet) (fault first : MatchFault) → MayRefuse care spec imp fault → IsFirstRefusal care spec imp first → (fault ≡ first) ⊎ (fault ≡ NoMemory)
+pub only_fault : (care : Option (List ℕ)) (spec imp : FlatNet) (fault first : MatchFault) → MayRefuse care spec imp fault → IsFirstPairRefusal care spec imp first → (fault ≡ first) ⊎ (fault ≡ NoMemory)
 only_fault care spec imp fault first (inl none) is = inr none
-only_fault care spec imp fault first (inr told) is = inl (first_refusals_are_one care spec imp fault first told is)
+only_fault care spec imp fault first (inr reported) is = inl (first_refusals_are_one care spec imp fault first reported is)
 
 pub match_err : {A E : Type 0} (r : Result A E) (Q : E → Type 0) (e : E) → IsErrAnd r (λ x. x ≡ e) → Q e → MatchResult r (λ x. ⊥) Q
 match_err (Ok x) Q e same q = same
 match_err (Err x) Q e same q = subst Q (sym same) q
 
--- what the checks of one kind tell
+-- what the checks of one kind say
 
 abbrev pub Missing : (List ℕ → MatchFault) → List (List ℕ) → MatchFault → List (List ℕ) → Type 0
 Missing kind others fault texts = (fault ≡ NoMemory) ⊎ ((n : List ℕ) × (fault ≡ kind n) × IsFirstMissing texts others n)
@@ -63,25 +63,25 @@ Missing kind others fault texts = (fault ≡ NoMemory) ⊎ ((n : List ℕ) × (f
 abbrev pub WithBox : MatchFault → List BoxTexts → Type 0
 WithBox fault boxes = (fault ≡ NoMemory) ⊎ ((box : BoxTexts) × (rest : List BoxTexts) × (boxes ≡ box ∷ rest) × (fault ≡ faults.SpecBox box.path))
 
-pub box_told : (care : Option (List ℕ)) (spec imp : FlatNet) (fault : MatchFault) → WithBox fault spec.boxes → Tells care spec imp Box fault
-box_told care spec imp fault (inl none) = inl none
-box_told care spec imp fault (inr told) = inr (told.0.path, told.3, (told.0, told.1, told.2, refl))
+pub box_reported : (care : Option (List ℕ)) (spec imp : FlatNet) (fault : MatchFault) → WithBox fault spec.boxes → Reports care spec imp Box fault
+box_reported care spec imp fault (inl none) = inl none
+box_reported care spec imp fault (inr reported) = inr (reported.0.path, reported.3, (reported.0, reported.1, reported.2, refl))
 
 abbrev pub WithoutCare : List ℕ → MatchFault → List (List ℕ) → Type 0
 WithoutCare care fault outs = (fault ≡ NoMemory) ⊎ ((fault ≡ faults.NoCare care) × IsMissing outs care)
 
-pub care_told : (care : List ℕ) (spec imp : FlatNet) (fault : MatchFault) → WithoutCare care fault spec.outs → Tells (Some care) spec imp Care fault
-care_told care spec imp fault (inl none) = inl none
-care_told care spec imp fault (inr told) = inr (care, told.0, (refl, told.1))
+pub care_reported : (care : List ℕ) (spec imp : FlatNet) (fault : MatchFault) → WithoutCare care fault spec.outs → Reports (Some care) spec imp Care fault
+care_reported care spec imp fault (inl none) = inl none
+care_reported care spec imp fault (inr reported) = inr (care, reported.0, (refl, reported.1))
 
 -- a refusal without the care output is one with it
 pub taken_out : (care : List ℕ) (spec imp : FlatNet) (place : ℕ) (fault : MatchFault) → IsFlat spec → slice_get spec.outs place ≡ Some care → MayRefuse None (without_output place spec) imp fault → MayRefuse (Some care) spec imp fault
-taken_out care spec imp place fault flat stands (inl none) = inl none
-taken_out care spec imp place fault flat stands (inr told) = inr (((care_is_taken_out care spec imp place flat stands).refused fault).1 told)
+taken_out care spec imp place fault flat occurs (inl none) = inl none
+taken_out care spec imp place fault flat occurs (inr reported) = inr (((care_is_taken_out care spec imp place flat occurs).refused fault).1 reported)
 
 abbrev pub WithoutClock : MatchFault → List Reg → Type 0
 WithoutClock fault regs = (fault ≡ NoMemory) ⊎ ((r : Reg) × IsFirst HasNoClock regs r × (fault ≡ faults.ClockNotInput r.text))
 
-pub clock_told : (f : FlatNet) (fault : MatchFault) → WithoutClock fault f.regs → (fault ≡ NoMemory) ⊎ ((n : List ℕ) × (fault ≡ faults.ClockNotInput n) × IsFirstWithoutClock f n)
-clock_told f fault (inl none) = inl none
-clock_told f fault (inr told) = inr (told.0.text, told.2, (told.0, told.1, refl))
+pub clock_reported : (f : FlatNet) (fault : MatchFault) → WithoutClock fault f.regs → (fault ≡ NoMemory) ⊎ ((n : List ℕ) × (fault ≡ faults.ClockNotInput n) × IsFirstWithoutClock f n)
+clock_reported f fault (inl none) = inl none
+clock_reported f fault (inr reported) = inr (reported.0.text, reported.2, (reported.0, reported.1, refl))

@@ -4,19 +4,19 @@ use Rattle.std.specs.Prelude.{IsTrue, MatchBool}
 use Rattle.std.proofs.lemmas.List.{length-map, get_or-map, get_or_default}
 use Rattle.std.proofs.lemmas.Option.{slice_get_within, get_or_from_slice_get}
 use Rattle.std.proofs.lemmas.Slice.Eq.{bytes_eq-Decides}
-use Rattle.bb_lists.proofs.Bits.{same_or_not}
+use Rattle.bb_lemmas.proofs.Bits.{same_or_not}
 use Rattle.bb_bits.specs.Names.{same_name}
 use Rattle.bb_net.specs.declared.flat.Reg.{Reg}
 use Rattle.bb_net.specs.Flats.{FlatNet}
 use Rattle.bb_net.specs.CutPoints.{register_texts, clock_text}
 use Rattle.bb_match.specs.Inside.Places.{ArePlaces, text_place}
-use Rattle.bb_match.specs.Refusals.{IsClockedApart, IsClockedAlike}
-use Rattle.bb_lists.proofs.Orders.{less_or_same}
+use Rattle.bb_match.specs.Refusals.{IsClockedApart, HasSameClock}
+use Rattle.bb_lemmas.proofs.Orders.{less_or_same}
 use Rattle.bb_match.proofs.Decisions.{decide_optional}
 use Rattle.bb_match.proofs.PlaceLemmas.{place_right}
 
-pub apart_not_alike : (f g : FlatNet) (r : Reg) → IsClockedApart f g r → IsClockedAlike f g r → ⊥
-apart_not_alike f g r apart alike =
+pub apart_not_isomorphic : (f g : FlatNet) (r : Reg) → IsClockedApart f g r → HasSameClock f g r → ⊥
+apart_not_isomorphic f g r apart alike =
     let same = alike apart.0 apart.1 apart.2 in
     elim apart.3 [ inl edge ↦ edge same.0 | inr clock ↦ clock same.1 ]
 
@@ -33,7 +33,7 @@ one_place regs j k q apart lj lk same = elim (less_or_same j k) [
     long : length (map (λ r. r.text) regs) ≡ length regs
     long = length-map regs (λ r. r.text)
 
--- the register that stands at the place of a text
+-- the register that is at the place of a text
 place_there : (g : FlatNet) (entries : List (List ℕ × ℕ)) (q : Reg) → ArePlaces (register_texts g) entries → Contains g.regs q
     → (text_place entries q.text < length g.regs) × ((get_or g.regs (text_place entries q.text) q).text ≡ q.text)
 place_there g entries q places has =
@@ -44,25 +44,25 @@ place_there g entries q places has =
     let within : text_place entries q.text < length g.regs = omega (arith, slice_get_within texts (text_place entries q.text) q.text got, long) in
     (within, sym (get_or-map (λ r. r.text) g.regs (text_place entries q.text) q q.text within) ∙ get_or_from_slice_get texts (text_place entries q.text) q.text q.text got)
 
--- no register stands there
-pub alike_past : (f g : FlatNet) (r : Reg) (entries : List (List ℕ × ℕ)) (regs : List Reg) (k : ℕ) → ArePlaces (register_texts g) entries → regs ≡ g.regs → k ≡ text_place entries r.text → length regs ≤ k → IsClockedAlike f g r
-alike_past f g r entries regs k places all at past q has same =
+-- no register is there
+pub isomorphic_past : (f g : FlatNet) (r : Reg) (entries : List (List ℕ × ℕ)) (regs : List Reg) (k : ℕ) → ArePlaces (register_texts g) entries → regs ≡ g.regs → k ≡ text_place entries r.text → length regs ≤ k → HasSameClock f g r
+isomorphic_past f g r entries regs k places all at past q has same =
     let there = place_there g entries q places has in
     absurd (omega (arith, past, ap length all, at, subst (λ t. text_place entries t < length g.regs) same there.0))
 
--- one of another text stands there
-pub alike_other : (f g : FlatNet) (r p : Reg) (entries : List (List ℕ × ℕ)) (regs : List Reg) (k : ℕ) → ArePlaces (register_texts g) entries → regs ≡ g.regs → k ≡ text_place entries r.text → p ≡ get_or regs k p → same_name p.text r.text ≡ false
-    → IsClockedAlike f g r
-alike_other f g r p entries regs k places all place at off q has same =
+-- one of another text is there
+pub isomorphic_other : (f g : FlatNet) (r p : Reg) (entries : List (List ℕ × ℕ)) (regs : List Reg) (k : ℕ) → ArePlaces (register_texts g) entries → regs ≡ g.regs → k ≡ text_place entries r.text → p ≡ get_or regs k p → same_name p.text r.text ≡ false
+    → HasSameClock f g r
+isomorphic_other f g r p entries regs k places all place at off q has same =
     let there = place_there g entries q places has in
     let within : text_place entries r.text < length g.regs = subst (λ t. text_place entries t < length g.regs) same there.0 in
     let p_at : p ≡ get_or g.regs (text_place entries r.text) p = at ∙ ap₂ (λ l j. get_or l j p) all place in
     let is : p.text ≡ r.text = ap (λ x. x.text) (p_at ∙ get_or_default g.regs (text_place entries r.text) p q within) ∙ ap (λ t. (get_or g.regs (text_place entries t) q).text) (sym same) ∙ there.1 ∙ same in
     absurd (true≢false (sym ((bytes_eq-Decides p.text r.text).1 is) ∙ off))
 
--- the one of that text stands there
-alike_there : (f g : FlatNet) (r p : Reg) (k : ℕ) → AllPairs ◌≢◌ (register_texts g) → p ≡ get_or g.regs k p → k < length g.regs → p.text ≡ r.text → (p.falling ≡ r.falling) × (clock_text g p ≡ clock_text f r) → IsClockedAlike f g r
-alike_there f g r p k apart at within is alike q has same =
+-- the one of that text is there
+isomorphic_there : (f g : FlatNet) (r p : Reg) (k : ℕ) → AllPairs ◌≢◌ (register_texts g) → p ≡ get_or g.regs k p → k < length g.regs → p.text ≡ r.text → (p.falling ≡ r.falling) × (clock_text g p ≡ clock_text f r) → HasSameClock f g r
+isomorphic_there f g r p k apart at within is alike q has same =
     let p_at : p ≡ get_or g.regs k q = at ∙ get_or_default g.regs k p q within in
     let one : has.0 ≡ k = one_place g.regs has.0 k q apart has.1 within (ap (λ x. x.text) has.2 ∙ same ∙ sym is ∙ ap (λ x. x.text) p_at) in
     let same_reg : p ≡ q = p_at ∙ ap (λ i. get_or g.regs i q) (sym one) ∙ has.2 in
@@ -76,13 +76,13 @@ apart_there f g r p k at within is off = (p, (k, within, sym at), is, by (same_o
     by (inl edge) (inr clock) = inr clock
     by (inl edge) (inl clock) = absurd (off (edge, clock))
 
-pub told_there : (f g : FlatNet) (r p : Reg) (entries : List (List ℕ × ℕ)) (regs : List Reg) (k : ℕ) (b : Bool) → AllPairs ◌≢◌ (register_texts g) → regs ≡ g.regs → p ≡ get_or regs k p → k < length regs → same_name p.text r.text ≡ true
-    → (IsTrue b ↔ ((p.falling ≡ r.falling) × (clock_text g p ≡ clock_text f r))) → MatchBool (not b) (IsClockedApart f g r) (IsClockedAlike f g r)
-told_there f g r p entries regs k b apart all at within same told =
+pub reported_there : (f g : FlatNet) (r p : Reg) (entries : List (List ℕ × ℕ)) (regs : List Reg) (k : ℕ) (b : Bool) → AllPairs ◌≢◌ (register_texts g) → regs ≡ g.regs → p ≡ get_or regs k p → k < length regs → same_name p.text r.text ≡ true
+    → (IsTrue b ↔ ((p.falling ≡ r.falling) × (clock_text g p ≡ clock_text f r))) → MatchBool (not b) (IsClockedApart f g r) (HasSameClock f g r)
+reported_there f g r p entries regs k b apart all at within same reported =
     let p_at : p ≡ get_or g.regs k p = at ∙ ap (λ l. get_or l k p) all in
     let there : k < length g.regs = subst (λ l. k < length l) all within in
-    by b told p_at there ((bytes_eq-Decides p.text r.text).0 same)
+    by b reported p_at there ((bytes_eq-Decides p.text r.text).0 same)
   where
-    by : (b : Bool) → (IsTrue b ↔ ((p.falling ≡ r.falling) × (clock_text g p ≡ clock_text f r))) → p ≡ get_or g.regs k p → k < length g.regs → p.text ≡ r.text → MatchBool (not b) (IsClockedApart f g r) (IsClockedAlike f g r)
-    by true h p_at there is = alike_there f g r p k apart p_at there is (h.0 refl)
+    by : (b : Bool) → (IsTrue b ↔ ((p.falling ≡ r.falling) × (clock_text g p ≡ clock_text f r))) → p ≡ get_or g.regs k p → k < length g.regs → p.text ≡ r.text → MatchBool (not b) (IsClockedApart f g r) (HasSameClock f g r)
+    by true h p_at there is = isomorphic_there f g r p k apart p_at there is (h.0 refl)
     by false h p_at there is = apart_there f g r p k p_at there is (λ alike. true≢false (sym (h.1 alike)))

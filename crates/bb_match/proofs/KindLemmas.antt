@@ -10,11 +10,11 @@ use Rattle.std.proofs.lemmas.Slice.Zip.{AllZip-long}
 use Rattle.indexmap.specs.IndexSet.{insert_key}
 use Rattle.bb_bits.specs.Names.{same_name}
 use Rattle.bb_net.specs.Flats.{PinsGoByModules}
-use Rattle.bb_net.specs.Kinds.{AreInOrder, AreKinds, FitKinds, shown}
+use Rattle.bb_net.specs.Kinds.{AreNumberedInOrder, AreKinds, FitKinds, shown}
 use Rattle.bb_net.specs.Laws.KindLaws.{KindsAreOne, KindsGrowAgain, KindsGrowNew, ModulesFit, PlacesAreKinds, PlacesFit}
 use Rattle.bb_net.specs.Netlists.{Pins}
 use Rattle.bb_net.specs.Pairs.{BoxTexts, NamesPins, box_key}
-use Rattle.bb_lists.proofs.Members.{none_of}
+use Rattle.bb_lemmas.proofs.Members.{none_of}
 
 -- the kinds of keys, and the keys that they show
 pub record AreKindsSo (keys : List (List ℕ)) (kinds : List ℕ) (seen : List (List ℕ)) : Type 0 where
@@ -28,7 +28,7 @@ pub record Growth : Type 0 where
   pub new : KindsGrowNew
   pub shown_again : (kinds : List ℕ) (keys : List (List ℕ)) (kind : ℕ) (key : List ℕ) → length keys ≡ length kinds → Contains kinds kind → shown (kinds ++ kind ∷ []) (keys ++ key ∷ []) ≡ shown kinds keys
   pub shown_new : (kinds : List ℕ) (keys : List (List ℕ)) (kind : ℕ) (key : List ℕ) → length keys ≡ length kinds → (Contains kinds kind → ⊥) → shown (kinds ++ kind ∷ []) (keys ++ key ∷ []) ≡ shown kinds keys ++ key ∷ []
-  pub counts : (kinds : List ℕ) (keys : List (List ℕ)) (kind : ℕ) → AreInOrder kinds → length keys ≡ length kinds → (kind < length (shown kinds keys)) ↔ Contains kinds kind
+  pub counts : (kinds : List ℕ) (keys : List (List ℕ)) (kind : ℕ) → AreNumberedInOrder kinds → length keys ≡ length kinds → (kind < length (shown kinds keys)) ↔ Contains kinds kind
 
 pub kinds_begin : (keys : List (List ℕ)) (kinds : List ℕ) (seen : List (List ℕ)) → keys ≡ [] → kinds ≡ [] → seen ≡ [] → AreKindsSo keys kinds seen
 kinds_begin [] [] [] a b c = record {
@@ -40,7 +40,7 @@ kinds_begin (x ∷ xs) kinds seen a b c = cc a
 kinds_begin [] (x ∷ xs) seen a b c = cc b
 kinds_begin [] [] (x ∷ xs) a b c = cc c
 
-module _ (growth : Growth) (keys : List (List ℕ)) (kinds : List ℕ) (seen now : List (List ℕ)) (key : List ℕ) (kind : ℕ) (so : AreKindsSo keys kinds seen) (stands : slice_get now kind ≡ Some key) where
+module _ (growth : Growth) (keys : List (List ℕ)) (kinds : List ℕ) (seen now : List (List ℕ)) (key : List ℕ) (kind : ℕ) (so : AreKindsSo keys kinds seen) (occurs : slice_get now kind ≡ Some key) where
   long : length keys ≡ length kinds
   long = sym so.are.count
 
@@ -52,7 +52,7 @@ module _ (growth : Growth) (keys : List (List ℕ)) (kinds : List ℕ) (seen now
   }
     where
       at : slice_get (shown kinds keys) kind ≡ Some key
-      at = ap (λ l. slice_get l kind) (sym (stays ∙ so.shows)) ∙ stands
+      at = ap (λ l. slice_get l kind) (sym (stays ∙ so.shows)) ∙ occurs
 
       there : kind < length (shown kinds keys)
       there = slice_get_within (shown kinds keys) kind key at
@@ -65,15 +65,15 @@ module _ (growth : Growth) (keys : List (List ℕ)) (kinds : List ℕ) (seen now
   }
     where
       at : get_or (seen ++ key ∷ []) kind [] ≡ key
-      at = get_or_from_slice_get (seen ++ key ∷ []) kind key [] (ap (λ l. slice_get l kind) (sym more) ∙ stands)
+      at = get_or_from_slice_get (seen ++ key ∷ []) kind key [] (ap (λ l. slice_get l kind) (sym more) ∙ occurs)
 
       within : kind < length (seen ++ key ∷ [])
-      within = slice_get_within (seen ++ key ∷ []) kind key (ap (λ l. slice_get l kind) (sym more) ∙ stands)
+      within = slice_get_within (seen ++ key ∷ []) kind key (ap (λ l. slice_get l kind) (sym more) ∙ occurs)
 
-      -- the new key stands behind those that were seen
+      -- the new key follows those that were seen
       place : kind ≡ length seen
       place = elim (cases_lt kind (length seen)) [
-        | inl below ↦ absurd (none (kind, below, sym (get_or_append_left seen (key ∷ []) key kind below) ∙ get_or_from_slice_get (seen ++ key ∷ []) kind key key (ap (λ l. slice_get l kind) (sym more) ∙ stands)))
+        | inl below ↦ absurd (none (kind, below, sym (get_or_append_left seen (key ∷ []) key kind below) ∙ get_or_from_slice_get (seen ++ key ∷ []) kind key key (ap (λ l. slice_get l kind) (sym more) ∙ occurs)))
         | inr past ↦ omega (arith, past, within, length-append seen (key ∷ []))
       ]
 
@@ -84,12 +84,12 @@ pub grow : (growth : Growth) (keys : List (List ℕ)) (kinds : List ℕ) (seen n
     → (k : List ℕ) × (slice_get now kind ≡ Some k) × (same_name key k ≡ true) → AreKindsSo (keys ++ key ∷ []) (kinds ++ kind ∷ []) now
 grow growth keys kinds seen now key kind so put stored = by (list_any (same_name key) seen) refl
   where
-    stands : slice_get now kind ≡ Some key
-    stands = stored.1 ∙ ap Some (sym ((bytes_eq-Decides key stored.0).0 stored.2))
+    occurs : slice_get now kind ≡ Some key
+    occurs = stored.1 ∙ ap Some (sym ((bytes_eq-Decides key stored.0).0 stored.2))
 
     by : (b : Bool) → list_any (same_name key) seen ≡ b → AreKindsSo (keys ++ key ∷ []) (kinds ++ kind ∷ []) now
-    by true e = grow_again growth keys kinds seen now key kind so stands (put ∙ ap (λ b. if b then seen else seen ++ key ∷ []) e)
-    by false e = grow_new growth keys kinds seen now key kind so stands (put ∙ ap (λ b. if b then seen else seen ++ key ∷ []) e)
+    by true e = grow_again growth keys kinds seen now key kind so occurs (put ∙ ap (λ b. if b then seen else seen ++ key ∷ []) e)
+    by false e = grow_new growth keys kinds seen now key kind so occurs (put ∙ ap (λ b. if b then seen else seen ++ key ∷ []) e)
         (λ has. true≢false (sym ((bytes_eq-Decides key key).1 refl) ∙ none_of (same_name key) seen e key has))
 
 -- the modules of the first boxes, and of one more

@@ -13,7 +13,7 @@ pub first_at : {A : Type 0} (P Q : A → Type 0) → ((x : A) → P x → Q x �
 first_at P Q clash xs i x lt at before holds = record {
   before = take i xs;
   after = drop (suc i) xs;
-  stands = split_at xs i x lt at;
+  occurs = split_at xs i x lt at;
   holds = holds;
   earlier = λ y has p. clash y p (All-contains Q (take i xs) y before has);
 }

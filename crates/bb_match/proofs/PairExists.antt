@@ -1,4 +1,4 @@
--- Two netlists that fit have a pair, where no care output is asked for: texts that stand in a list have places there, by which a netlist can be rearranged.
+-- Two netlists that fit have a pair, where no care output is asked for: texts that are in a list have places there, by which a netlist can be rearranged.
 use Rattle.std.proofs.Common.{ℕ, Bool, List, [], ◌∷◌, map, All, Contains, refl, ap, ap₂, ◌∙◌}
 use Rattle.std.specs.Prelude.{None, Some}
 use Rattle.std.proofs.lemmas.List.Elements.{All-head, All-tail}
@@ -14,7 +14,7 @@ use Rattle.bb_match.proofs.KindLemmas.{Fitting}
 use Rattle.bb_match.proofs.PairLemmas.{beside, numbers_count, numbers_there, pair_of, pair_with, picks_there, small}
 use Rattle.bb_match.proofs.PairLaws.{inputs_among, outputs_among}
 
--- what stands in a list has places there
+-- what is in a list has places there
 pub places_exist : {A : Type 0} (xs us : List A) → All (Contains xs) us → (ps : List ℕ) × Picks xs ps us
 places_exist xs [] all = ([], refl)
 places_exist xs (u ∷ us) all =

@@ -1,4 +1,4 @@
--- Two netlists have one pair where no care output is asked for: places in lists without repetition are fixed by what stands there, and each place of the new
+-- Two netlists have one pair where no care output is asked for: places in lists without repetition are fixed by what is there, and each place of the new
 -- netlist is the new place of a cell.
 use Rattle.std.proofs.Common.{◌≡◌, ◌≢◌, ℕ, zero, suc, ◌+◌, ◌<◌, ◌≤◌, false, List, [], ◌∷◌, ◌++◌, map, length, get_or, All, AllPairs, Contains, refl, sym, ap, subst, ◌∙◌, inl, inr, arith}
 use Rattle.std.specs.Prelude.{slice_get, Bool, None, Some}
@@ -17,8 +17,8 @@ use Rattle.bb_net.specs.Flats.{FlatNet, IsFlat}
 use Rattle.bb_net.specs.CutPoints.{TopInput, State, TopOutput, NextState, register_texts, cut_inputs, cut_outputs}
 use Rattle.bb_match.specs.Refusals.{AreAmong, Fit, SpecInput, SpecRegister}
 use Rattle.bb_match.specs.Pairing.{IsPlainPairOf, Picks}
-use Rattle.bb_lists.proofs.Apart.{pairs_tail}
-use Rattle.bb_lists.proofs.Picked.{one_place, picked_at, same_places}
+use Rattle.bb_lemmas.proofs.Apart.{pairs_tail}
+use Rattle.bb_lemmas.proofs.Picked.{one_place, picked_at, same_places}
 use Rattle.bb_match.proofs.PairLemmas.{input_count, inputs_below, same_inputs, mk_pair}
 
 -- lists without repetition
@@ -48,7 +48,7 @@ outputs_apart f flat =
     apart_both (map TopOutput f.outs) (map NextState (register_texts f)) (apart_map TopOutput (λ a b e. cc e) f.outs flat.apart.outs) (apart_map NextState (λ a b e. cc e) (register_texts f) flat.apart.regs)
     (cross_map TopOutput NextState (λ a b e. cc e) f.outs (register_texts f))
 
--- inputs, or outputs, whose texts stand among those of another netlist stand among its
+-- inputs, or outputs, whose texts are among those of another netlist are among its
 
 mapped : {A : Type 0} (f : List ℕ → A) (ns : List (List ℕ)) (n : List ℕ) → Contains ns n → Contains (map f ns) (f n)
 mapped f ns n has = (has.0, omega (arith, has.1, length-map ns f), get_or-map f ns has.0 n (f n) has.1 ∙ ap f has.2)

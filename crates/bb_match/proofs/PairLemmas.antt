@@ -21,7 +21,7 @@ use Rattle.bb_match.specs.Inside.Places.{ArePlaces, text_place}
 use Rattle.bb_match.specs.Pairing.{Picks, IsPlainPairOf, input_text, output_name}
 use Rattle.bb_match.proofs.KindLemmas.{Fitting, kinds_fit}
 use Rattle.bb_match.proofs.PlaceLemmas.{place_fits}
-use Rattle.bb_match.proofs.PickLemmas.{placed, at_front, at_back, picks_both, picks_length, picks_within, one_length}
+use Rattle.bb_match.proofs.PickLemmas.{placed, at_prefix, at_back, picks_both, picks_length, picks_within, one_length}
 
 -- counts
 
@@ -53,14 +53,14 @@ same_inputs spec imp a b fit =
 
 pub inputs_below : (net : Netlist) → IsNetlist net → net.inputs + 2 ≤ length net.cells
 inputs_below net is =
-    let cells : length (take (net.inputs + 2) net.cells) ≡ length (first_cells net.inputs) = ap length is.front in
+    let cells : length (take (net.inputs + 2) net.cells) ≡ length (first_cells net.inputs) = ap length is.prefix in
     let inputs : length (first_cells net.inputs) ≡ net.inputs + 2 = first_length net.inputs in
     omega (arith, cells, inputs, length-take (net.inputs + 2) net.cells)
   where
     first_length : (n : ℕ) → length (first_cells n) ≡ n + 2
     first_length n =
-        let front : length (map Input (range_with_len 0 n)) ≡ n = length-map (range_with_len 0 n) Input ∙ length-range_with_len 0 n in
-        omega (arith, front)
+        let prefix : length (map Input (range_with_len 0 n)) ≡ n = length-map (range_with_len 0 n) Input ∙ length-range_with_len 0 n in
+        omega (arith, prefix)
 
 pub ins_below : (f : FlatNet) (bound : ℕ) → IsFlat f → 2000000 < bound → length f.ins + length f.regs < bound
 ins_below f bound flat h = omega (arith, h, flat.named.inputs, flat.small.cells, inputs_below f.net flat.net)
@@ -98,40 +98,40 @@ next_places_fit f texts entries bound e places flat h =
 pub numbers_picked : (spec imp : FlatNet) (ins regs : List (List ℕ × ℕ)) → ArePlaces spec.ins ins → ArePlaces (register_texts spec) regs → Fit None spec imp
     → Picks (cut_inputs spec) (map (λ text. 0 + text_place ins text) imp.ins ++ map (λ text. length spec.ins + text_place regs text) (register_texts imp)) (cut_inputs imp)
 numbers_picked spec imp ins regs at_ins at_regs fit =
-    let front : List CutInput = map TopInput spec.ins in
-    let long : length front ≡ length spec.ins = length-map spec.ins TopInput in
+    let prefix : List CutInput = map TopInput spec.ins in
+    let long : length prefix ≡ length spec.ins = length-map spec.ins TopInput in
     picks_both (cut_inputs spec) (map (λ text. 0 + text_place ins text) imp.ins) (map (λ text. length spec.ins + text_place regs text) (register_texts imp)) (map TopInput imp.ins) (map State (register_texts imp))
-    (placed TopInput (cut_inputs spec) 0 spec.ins ins imp.ins at_ins (at_front TopInput spec.ins (map State (register_texts spec))) (fit ImpInput))
+    (placed TopInput (cut_inputs spec) 0 spec.ins ins imp.ins at_ins (at_prefix TopInput spec.ins (map State (register_texts spec))) (fit ImpInput))
     (placed State (cut_inputs spec) (length spec.ins) (register_texts spec) regs (register_texts imp) at_regs
-    (λ k n e. subst (λ b. slice_get (cut_inputs spec) (b + k) ≡ Some (State n)) long (at_back State front (register_texts spec) k n e)) (fit ImpRegister))
+    (λ k n e. subst (λ b. slice_get (cut_inputs spec) (b + k) ≡ Some (State n)) long (at_back State prefix (register_texts spec) k n e)) (fit ImpRegister))
 
 pub outputs_picked : (spec imp : FlatNet) (outs regs : List (List ℕ × ℕ)) → ArePlaces imp.outs outs → ArePlaces (register_texts imp) regs → Fit None spec imp
     → Picks (cut_outputs imp) (map (λ text. 0 + text_place outs text) spec.outs ++ map (λ text. length imp.outs + text_place regs text) (register_texts spec)) (cut_outputs spec)
 outputs_picked spec imp outs regs at_outs at_regs fit =
-    let front : List CutOutput = map TopOutput imp.outs in
-    let long : length front ≡ length imp.outs = length-map imp.outs TopOutput in
+    let prefix : List CutOutput = map TopOutput imp.outs in
+    let long : length prefix ≡ length imp.outs = length-map imp.outs TopOutput in
     picks_both (cut_outputs imp) (map (λ text. 0 + text_place outs text) spec.outs) (map (λ text. length imp.outs + text_place regs text) (register_texts spec)) (map TopOutput spec.outs) (map NextState (register_texts spec))
-    (placed TopOutput (cut_outputs imp) 0 imp.outs outs spec.outs at_outs (at_front TopOutput imp.outs (map NextState (register_texts imp))) (fit SpecOutput))
+    (placed TopOutput (cut_outputs imp) 0 imp.outs outs spec.outs at_outs (at_prefix TopOutput imp.outs (map NextState (register_texts imp))) (fit SpecOutput))
     (placed NextState (cut_outputs imp) (length imp.outs) (register_texts imp) regs (register_texts spec) at_regs
-    (λ k n e. subst (λ b. slice_get (cut_outputs imp) (b + k) ≡ Some (NextState n)) long (at_back NextState front (register_texts imp) k n e)) (fit SpecRegister))
+    (λ k n e. subst (λ b. slice_get (cut_outputs imp) (b + k) ≡ Some (NextState n)) long (at_back NextState prefix (register_texts imp) k n e)) (fit SpecRegister))
 
--- the places of texts in one list, and then of those in another behind it
-abbrev Behind : List (List ℕ × ℕ) → List (List ℕ × ℕ) → List (List ℕ) → List (List ℕ) → List (List ℕ) → List ℕ
-Behind first second base these those = map (λ text. 0 + text_place first text) these ++ map (λ text. length base + text_place second text) those
+-- the places of texts in one list, and then of those in another after it
+abbrev After : List (List ℕ × ℕ) → List (List ℕ × ℕ) → List (List ℕ) → List (List ℕ) → List (List ℕ) → List ℕ
+After first second base these those = map (λ text. 0 + text_place first text) these ++ map (λ text. length base + text_place second text) those
 
-same_behind : (first second : List (List ℕ × ℕ)) (base base' these these' those those' : List (List ℕ)) → base ≡ base' → these ≡ these' → those ≡ those' → Behind first second base these those ≡ Behind first second base' these' those'
-same_behind first second base base' these these' those those' b t o =
-    ap (λ l. Behind first second l these those) b ∙ ap (λ l. Behind first second base' l those) t ∙ ap (λ l. Behind first second base' these' l) o
+same_after : (first second : List (List ℕ × ℕ)) (base base' these these' those those' : List (List ℕ)) → base ≡ base' → these ≡ these' → those ≡ those' → After first second base these those ≡ After first second base' these' those'
+same_after first second base base' these these' those those' b t o =
+    ap (λ l. After first second l these those) b ∙ ap (λ l. After first second base' l those) t ∙ ap (λ l. After first second base' these' l) o
 
 pub numbers_made : (spec imp : FlatNet) (ins regs : List (List ℕ × ℕ)) (spec_ins imp_ins reg_texts : List (List ℕ)) (numbers : List ℕ) → ArePlaces spec.ins ins → ArePlaces (register_texts spec) regs → Fit None spec imp
     → spec_ins ≡ spec.ins → imp_ins ≡ imp.ins → reg_texts ≡ register_texts imp → numbers ≡ map (λ text. 0 + text_place ins text) imp_ins ++ map (λ text. length spec_ins + text_place regs text) reg_texts → Picks (cut_inputs spec) numbers (cut_inputs imp)
 numbers_made spec imp ins regs spec_ins imp_ins reg_texts numbers at_ins at_regs fit s i r made =
-    subst (λ l. Picks (cut_inputs spec) l (cut_inputs imp)) (sym (made ∙ same_behind ins regs spec_ins spec.ins imp_ins imp.ins reg_texts (register_texts imp) s i r)) (numbers_picked spec imp ins regs at_ins at_regs fit)
+    subst (λ l. Picks (cut_inputs spec) l (cut_inputs imp)) (sym (made ∙ same_after ins regs spec_ins spec.ins imp_ins imp.ins reg_texts (register_texts imp) s i r)) (numbers_picked spec imp ins regs at_ins at_regs fit)
 
 pub picks_made : (spec imp : FlatNet) (outs regs : List (List ℕ × ℕ)) (spec_outs imp_outs reg_texts : List (List ℕ)) (picks : List ℕ) → ArePlaces imp.outs outs → ArePlaces (register_texts imp) regs → Fit None spec imp
     → spec_outs ≡ spec.outs → imp_outs ≡ imp.outs → reg_texts ≡ register_texts spec → picks ≡ map (λ text. 0 + text_place outs text) spec_outs ++ map (λ text. length imp_outs + text_place regs text) reg_texts → Picks (cut_outputs imp) picks (cut_outputs spec)
 picks_made spec imp outs regs spec_outs imp_outs reg_texts picks at_outs at_regs fit s i r made =
-    subst (λ l. Picks (cut_outputs imp) l (cut_outputs spec)) (sym (made ∙ same_behind outs regs imp_outs imp.outs spec_outs spec.outs reg_texts (register_texts spec) i s r)) (outputs_picked spec imp outs regs at_outs at_regs fit)
+    subst (λ l. Picks (cut_outputs imp) l (cut_outputs spec)) (sym (made ∙ same_after outs regs imp_outs imp.outs spec_outs spec.outs reg_texts (register_texts spec) i s r)) (outputs_picked spec imp outs regs at_outs at_regs fit)
 
 -- what is asked of a rearrangement
 

@@ -1,4 +1,4 @@
--- What stands at the places of texts in a list, and how many texts two lists have of which each has those of the other.
+-- What is at the places of texts in a list, and how many texts two lists have of which each has those of the other.
 use Rattle.std.proofs.Common.{◌≡◌, ◌≢◌, ℕ, zero, suc, ◌+◌, ◌<◌, ◌≤◌, List, [], ◌∷◌, ◌++◌, map, length, get_or, All, AllPairs, Contains, Some, refl, sym, ap, ap₂, ◌∙◌, arith}
 use Rattle.std.specs.Prelude.{slice_get, remove}
 use Rattle.std.proofs.lemmas.List.{get_or_default, length-map, map-append}
@@ -11,15 +11,15 @@ use Rattle.bb_match.specs.Refusals.{AreAmong}
 use Rattle.bb_match.specs.Pairing.{Picks}
 use Rattle.bb_match.proofs.PlaceLemmas.{place_right}
 
--- where each text stands in a list that has what another list has, from a place on
+-- where each text is in a list that has what another list has, from a place on
 pub placed : {A : Type 0} (f : List ℕ → A) (xs : List A) (base : ℕ) (others : List (List ℕ)) (entries : List (List ℕ × ℕ)) (texts : List (List ℕ)) → ArePlaces others entries
     → ((k : ℕ) (n : List ℕ) → slice_get others k ≡ Some n → slice_get xs (base + k) ≡ Some (f n)) → AreAmong texts others → Picks xs (map (λ n. base + text_place entries n) texts) (map f texts)
 placed f xs base others entries [] places moves among = refl
 placed f xs base others entries (n ∷ ns) places moves among =
     ap₂ (λ x l. x ∷ l) (moves (text_place entries n) n (place_right others entries n places (All-head (Contains others) n ns among))) (placed f xs base others entries ns places moves (All-tail (Contains others) n ns among))
 
-pub at_front : {A : Type 0} (f : List ℕ → A) (others : List (List ℕ)) (more : List A) (k : ℕ) (n : List ℕ) → slice_get others k ≡ Some n → slice_get (map f others ++ more) (0 + k) ≡ Some (f n)
-at_front f others more k n e = let on : 0 + k ≡ k = omega arith in ap (slice_get (map f others ++ more)) on ∙ walk others k e
+pub at_prefix : {A : Type 0} (f : List ℕ → A) (others : List (List ℕ)) (more : List A) (k : ℕ) (n : List ℕ) → slice_get others k ≡ Some n → slice_get (map f others ++ more) (0 + k) ≡ Some (f n)
+at_prefix f others more k n e = let on : 0 + k ≡ k = omega arith in ap (slice_get (map f others ++ more)) on ∙ walk others k e
   where
     walk : (xs : List (List ℕ)) (k : ℕ) → slice_get xs k ≡ Some n → slice_get (map f xs ++ more) k ≡ Some (f n)
     walk [] zero e = cc e
@@ -30,7 +30,7 @@ at_front f others more k n e = let on : 0 + k ≡ k = omega arith in ap (slice_g
         some_one a b h = cc h
     walk (x ∷ xs) (suc k) e = walk xs k e
 
-pub at_back : {A : Type 0} (f : List ℕ → A) (front : List A) (others : List (List ℕ)) (k : ℕ) (n : List ℕ) → slice_get others k ≡ Some n → slice_get (front ++ map f others) (length front + k) ≡ Some (f n)
+pub at_back : {A : Type 0} (f : List ℕ → A) (prefix : List A) (others : List (List ℕ)) (k : ℕ) (n : List ℕ) → slice_get others k ≡ Some n → slice_get (prefix ++ map f others) (length prefix + k) ≡ Some (f n)
 at_back f [] others k n e = let on : 0 + k ≡ k = omega arith in ap (slice_get (map f others)) on ∙ within others k e
   where
     within : (xs : List (List ℕ)) (k : ℕ) → slice_get xs k ≡ Some n → slice_get (map f xs) k ≡ Some (f n)

@@ -60,8 +60,8 @@ places_end texts n entries e so = record { right = so.right; whole = subst (All 
 
 -- what an index says of a text
 
-pub stands_at : {A : Type 0} (xs : List A) (x : A) (k : ℕ) → slice_get xs k ≡ Some x → Contains xs x
-stands_at xs x k e = (k, slice_get_within xs k x e, get_or_from_slice_get xs k x x e)
+pub occurs_at : {A : Type 0} (xs : List A) (x : A) (k : ℕ) → slice_get xs k ≡ Some x → Contains xs x
+occurs_at xs x k e = (k, slice_get_within xs k x e, get_or_from_slice_get xs k x x e)
 
 pub missing_where_none : (others : List (List ℕ)) (entries : List (List ℕ × ℕ)) (n : List ℕ) → ArePlaces others entries → is_some (lookup (same_name n) entries) ≡ false → IsMissing others n
 missing_where_none others entries n places none has = true≢false (sym (All-contains (λ text. IsSome (lookup (same_name text) entries)) others n places.whole has) ∙ none)
@@ -70,7 +70,7 @@ pub there_where_some : (others : List (List ℕ)) (entries : List (List ℕ × �
 there_where_some others entries n places some = by (lookup (same_name n) entries) refl some
   where
     by : (o : Option ℕ) → lookup (same_name n) entries ≡ o → IsSome o → Contains others n
-    by (Some k) e h = stands_at others n k (places.right n k e)
+    by (Some k) e h = occurs_at others n k (places.right n k e)
     by None e h = absurd (true≢false (sym h))
 
 pub place_right : (others : List (List ℕ)) (entries : List (List ℕ × ℕ)) (n : List ℕ) → ArePlaces others entries → Contains others n → slice_get others (text_place entries n) ≡ Some n

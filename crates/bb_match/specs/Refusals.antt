@@ -1,9 +1,9 @@
--- Why two flat netlists cannot be laid beside each other. They have to have the same inputs, outputs and registers by their
--- texts, each register with the same clock at the same edge, so that they can be compared output by output and next state by next
--- state; the specification has to be complete. Where a care output is asked for, one by which the specification says at which vectors
--- the others count, it has to have that one besides, which is not compared and which the implementation lacks. There are twelve causes
--- in one order, and the first that holds is told, with a name. For each cause stands here when it holds and which name is told of it,
--- and beside it what holds where it does not.
+-- Why two flat netlists cannot be paired. They have to have the same inputs, outputs and registers by their texts, each
+-- register with the same clock at the same edge, so that they can be compared output by output and next state by next
+-- state; the specification has to be complete. Where a care output is requested, one by which the specification says at
+-- which vectors the others count, it has to have that one besides, which is not compared and which the implementation
+-- lacks. There are twelve causes in one order, and the first that holds is reported, with a name. For each cause the
+-- definitions say when it holds and which name is reported, and beside it what holds where it does not.
 use Rattle.std.specs.Prelude.{◌≡◌, ◌≢◌, ◌⊎◌, ℕ, ◌+◌, ◌<◌, ◌≤◌, not, List, [], ◌∷◌, All, Contains, IfSome, Option, None, Some}
 use Rattle.std.specs.List.{filter}
 use Rattle.bb_bits.specs.Names.{same_name}
@@ -26,7 +26,7 @@ IsFirstMissing texts others text = IsFirst (IsMissing others) texts text
 abbrev pub AreAmong : List (List ℕ) → List (List ℕ) → Type 0
 AreAmong texts others = All (Contains others) texts
 
--- the texts of the outputs that are compared: all but that of the care output, if one is asked for
+-- the texts of the outputs that are compared: all but that of the care output, if one is requested
 
 abbrev pub compared : Option (List ℕ) → List (List ℕ) → List (List ℕ)
 compared None outs = outs
@@ -48,11 +48,11 @@ IsClockedApart f g r = (q : Reg) × Contains g.regs q × (q.text ≡ r.text) × 
 abbrev pub IsFirstClockedApart : FlatNet → FlatNet → List ℕ → Type 0
 IsFirstClockedApart f g text = (r : Reg) × IsFirst (IsClockedApart f g) f.regs r × (text ≡ r.text)
 
-abbrev pub IsClockedAlike : FlatNet → FlatNet → Reg → Type 0
-IsClockedAlike f g r = (q : Reg) → Contains g.regs q → q.text ≡ r.text → (q.falling ≡ r.falling) × (clock_text g q ≡ clock_text f r)
+abbrev pub HasSameClock : FlatNet → FlatNet → Reg → Type 0
+HasSameClock f g r = (q : Reg) → Contains g.regs q → q.text ≡ r.text → (q.falling ≡ r.falling) × (clock_text g q ≡ clock_text f r)
 
-abbrev pub AreClockedAlike : FlatNet → FlatNet → Type 0
-AreClockedAlike f g = All (IsClockedAlike f g) f.regs
+abbrev pub HaveSameClocks : FlatNet → FlatNet → Type 0
+HaveSameClocks f g = All (HasSameClock f g) f.regs
 
 -- inputs, registers and all pins of boxes
 
@@ -62,73 +62,74 @@ most_pins = 2048
 abbrev pub input_and_pin_count : FlatNet → ℕ
 input_and_pin_count f = f.net.inputs + pin_count f.net.boxes
 
-pub data Cause : Type 0 where
+pub data PairCause : Type 0 where
   -- the specification has a box: the first in the order of the netlist
-  Box : Cause
+  Box : PairCause
   -- it has no output of the text of the care output
-  Care : Cause
-  -- an input or an output that the other lacks: inputs, then outputs of the specification, then those of the implementation
-  SpecInput : Cause
-  SpecOutput : Cause
-  ImpInput : Cause
-  ImpOutput : Cause
+  Care : PairCause
+  -- an input or an output that the other lacks: inputs, then outputs of the specification, then those of the
+  -- implementation
+  SpecInput : PairCause
+  SpecOutput : PairCause
+  ImpInput : PairCause
+  ImpOutput : PairCause
   -- a register that the other lacks
-  SpecRegister : Cause
-  ImpRegister : Cause
+  SpecRegister : PairCause
+  ImpRegister : PairCause
   -- a register whose clock is no input
-  SpecClock : Cause
-  ImpClock : Cause
+  SpecClock : PairCause
+  ImpClock : PairCause
   -- a register of both with another edge or another clock
-  Clocks : Cause
-  Pins : Cause
+  Clocks : PairCause
+  Pins : PairCause
 
 -- their order
-abbrev pub rank : Cause → ℕ
-rank Box = 0
-rank Care = 1
-rank SpecInput = 2
-rank SpecOutput = 3
-rank ImpInput = 4
-rank ImpOutput = 5
-rank SpecRegister = 6
-rank ImpRegister = 7
-rank SpecClock = 8
-rank ImpClock = 9
-rank Clocks = 10
-rank Pins = 11
+abbrev pub pair_cause_rank : PairCause → ℕ
+pair_cause_rank Box = 0
+pair_cause_rank Care = 1
+pair_cause_rank SpecInput = 2
+pair_cause_rank SpecOutput = 3
+pair_cause_rank ImpInput = 4
+pair_cause_rank ImpOutput = 5
+pair_cause_rank SpecRegister = 6
+pair_cause_rank ImpRegister = 7
+pair_cause_rank SpecClock = 8
+pair_cause_rank ImpClock = 9
+pair_cause_rank Clocks = 10
+pair_cause_rank Pins = 11
 
--- the refusal for a cause, told with a name
-abbrev pub fault_of : Cause → List ℕ → MatchFault
-fault_of Box n = faults.SpecBox n
-fault_of Care n = faults.NoCare n
-fault_of SpecInput n = faults.PortDiffers n
-fault_of SpecOutput n = faults.PortDiffers n
-fault_of ImpInput n = faults.PortDiffers n
-fault_of ImpOutput n = faults.PortDiffers n
-fault_of SpecRegister n = faults.RegDiffers n
-fault_of ImpRegister n = faults.RegDiffers n
-fault_of SpecClock n = faults.ClockNotInput n
-fault_of ImpClock n = faults.ClockNotInput n
-fault_of Clocks n = faults.ClockDiffers n
-fault_of Pins n = faults.TooManyPins
+-- the refusal for a cause, reported with a name
+abbrev pub match_fault_of : PairCause → List ℕ → MatchFault
+match_fault_of Box n = faults.SpecBox n
+match_fault_of Care n = faults.NoCare n
+match_fault_of SpecInput n = faults.PortDiffers n
+match_fault_of SpecOutput n = faults.PortDiffers n
+match_fault_of ImpInput n = faults.PortDiffers n
+match_fault_of ImpOutput n = faults.PortDiffers n
+match_fault_of SpecRegister n = faults.RegDiffers n
+match_fault_of ImpRegister n = faults.RegDiffers n
+match_fault_of SpecClock n = faults.ClockNotInput n
+match_fault_of ImpClock n = faults.ClockNotInput n
+match_fault_of Clocks n = faults.ClockDiffers n
+match_fault_of Pins n = faults.TooManyPins
 
--- the cause holds, and this name is told
-abbrev pub IsTold : Option (List ℕ) → FlatNet → FlatNet → Cause → List ℕ → Type 0
-IsTold care spec imp Box n = (box : BoxTexts) × (rest : List BoxTexts) × (spec.boxes ≡ box ∷ rest) × (n ≡ box.path)
-IsTold care spec imp Care n = (care ≡ Some n) × IsMissing spec.outs n
-IsTold care spec imp SpecInput n = IsFirstMissing spec.ins imp.ins n
-IsTold care spec imp SpecOutput n = IsFirstMissing (compared care spec.outs) imp.outs n
-IsTold care spec imp ImpInput n = IsFirstMissing imp.ins spec.ins n
-IsTold care spec imp ImpOutput n = IsFirstMissing imp.outs (compared care spec.outs) n
-IsTold care spec imp SpecRegister n = IsFirstMissing (register_texts spec) (register_texts imp) n
-IsTold care spec imp ImpRegister n = IsFirstMissing (register_texts imp) (register_texts spec) n
-IsTold care spec imp SpecClock n = IsFirstWithoutClock spec n
-IsTold care spec imp ImpClock n = IsFirstWithoutClock imp n
-IsTold care spec imp Clocks n = IsFirstClockedApart spec imp n
-IsTold care spec imp Pins n = most_pins < input_and_pin_count imp
+-- the cause holds, and this name is reported
+abbrev pub IsReported : Option (List ℕ) → FlatNet → FlatNet → PairCause → List ℕ → Type 0
+IsReported care spec imp Box n = (box : BoxTexts) × (rest : List BoxTexts) × (spec.boxes ≡ box ∷ rest) × (n ≡ box.path)
+IsReported care spec imp Care n = (care ≡ Some n) × IsMissing spec.outs n
+IsReported care spec imp SpecInput n = IsFirstMissing spec.ins imp.ins n
+IsReported care spec imp SpecOutput n = IsFirstMissing (compared care spec.outs) imp.outs n
+IsReported care spec imp ImpInput n = IsFirstMissing imp.ins spec.ins n
+IsReported care spec imp ImpOutput n = IsFirstMissing imp.outs (compared care spec.outs) n
+IsReported care spec imp SpecRegister n = IsFirstMissing (register_texts spec) (register_texts imp) n
+IsReported care spec imp ImpRegister n = IsFirstMissing (register_texts imp) (register_texts spec) n
+IsReported care spec imp SpecClock n = IsFirstWithoutClock spec n
+IsReported care spec imp ImpClock n = IsFirstWithoutClock imp n
+IsReported care spec imp Clocks n = IsFirstClockedApart spec imp n
+IsReported care spec imp Pins n = most_pins < input_and_pin_count imp
 
 -- what holds where the cause does not
-abbrev pub IsAbsent : Option (List ℕ) → FlatNet → FlatNet → Cause → Type 0
+abbrev pub IsAbsent : Option (List ℕ) → FlatNet → FlatNet → PairCause → Type 0
 IsAbsent care spec imp Box = spec.boxes ≡ []
 IsAbsent care spec imp Care = IfSome care (Contains spec.outs)
 IsAbsent care spec imp SpecInput = AreAmong spec.ins imp.ins
@@ -139,21 +140,22 @@ IsAbsent care spec imp SpecRegister = AreAmong (register_texts spec) (register_t
 IsAbsent care spec imp ImpRegister = AreAmong (register_texts imp) (register_texts spec)
 IsAbsent care spec imp SpecClock = HaveClocks spec
 IsAbsent care spec imp ImpClock = HaveClocks imp
-IsAbsent care spec imp Clocks = AreClockedAlike spec imp
+IsAbsent care spec imp Clocks = HaveSameClocks spec imp
 IsAbsent care spec imp Pins = input_and_pin_count imp ≤ most_pins
 
 -- they fit: there is no cause to refuse them
 abbrev pub Fit : Option (List ℕ) → FlatNet → FlatNet → Type 0
-Fit care spec imp = (cause : Cause) → IsAbsent care spec imp cause
+Fit care spec imp = (cause : PairCause) → IsAbsent care spec imp cause
 
--- a cause holds, and none before it, where Told says of a cause which names are told, and Absent when it does not hold
-pub record IsFirstCause (Told : Cause → List ℕ → Type 0) (Absent : Cause → Type 0) (fault : MatchFault) : Type 0 where
-  pub cause : Cause
+-- a cause holds, and none before it, where Told says of a cause which names are reported, and Absent when it does not
+-- hold
+pub record IsFirstCause (Reported : PairCause → List ℕ → Type 0) (Absent : PairCause → Type 0) (fault : MatchFault) : Type 0 where
+  pub cause : PairCause
   pub name : List ℕ
-  pub is : fault ≡ fault_of cause name
-  pub told : Told cause name
-  pub earlier : (other : Cause) → rank other < rank cause → Absent other
+  pub is : fault ≡ match_fault_of cause name
+  pub reported : Reported cause name
+  pub earlier : (other : PairCause) → pair_cause_rank other < pair_cause_rank cause → Absent other
 
 -- the first refusal of two netlists
-abbrev pub IsFirstRefusal : Option (List ℕ) → FlatNet → FlatNet → MatchFault → Type 0
-IsFirstRefusal care spec imp = IsFirstCause (IsTold care spec imp) (IsAbsent care spec imp)
+abbrev pub IsFirstPairRefusal : Option (List ℕ) → FlatNet → FlatNet → MatchFault → Type 0
+IsFirstPairRefusal care spec imp = IsFirstCause (IsReported care spec imp) (IsAbsent care spec imp)

@@ -1,4 +1,4 @@
-//! The care output: where it stands among the outputs of the specification, and the specification without it.
+//! The care output: found among the outputs of the specification by its name, and taken out of them.
 ghost use Rattle.std.specs.Prelude.{◌≡◌, ◌⊎◌, ◌<◌, ◌^◌, length, slice_get, IfErr, IfNone, IfOk, IfSome, Some};
 ghost use Rattle.bb_net.specs.Flats.{IsFlat};
 ghost use Rattle.bb_match.specs.declared.fault.MatchFault.TheVariants as faults;
@@ -11,7 +11,6 @@ use bb_care::{numbers_below, with_outs};
 use bb_net::{Flat, FlatParts, Net};
 use std::alloc::Global;
 
-// The place of a text.
 fn place_of(texts: &[Name], text: &[u8]) -> Option<usize>
     ensures some { IfSome result (λ place. slice_get texts.now place ≡ Some text.now) }
     ensures none { IfNone result (IsMissing texts.now text.now) }
@@ -24,7 +23,7 @@ fn place_of(texts: &[Name], text: &[u8]) -> Option<usize>
     None
 }
 
-/// The place of the care output among outputs, which are refused where it is none of them.
+/// `NoCare` where none of the outputs has this name.
 pub(crate) fn care_place(alloc: Global, outs: &[Name], care: &[u8]) -> Result<usize, MatchFault>
     ensures ok { IfOk result (λ place. slice_get outs.now place ≡ Some care.now) }
     ensures fault { IfErr result (λ fault. (fault ≡ faults.NoMemory) ⊎ ((fault ≡ faults.NoCare care.now) × IsMissing outs.now care.now)) }
@@ -37,7 +36,6 @@ pub(crate) fn care_place(alloc: Global, outs: &[Name], care: &[u8]) -> Result<us
     }
 }
 
-// A netlist without an output.
 fn net_without(alloc: Global, net: Net, place: usize) -> Result<Net, NoMemory>
     requires there { place < length net.outs }
     requires few { length net.outs < 2 ^ 32 }
@@ -48,7 +46,7 @@ fn net_without(alloc: Global, net: Net, place: usize) -> Result<Net, NoMemory>
     with_outs(alloc, net, &picks)
 }
 
-/// A flat netlist without an output of the top.
+/// Only an output of the top is taken out; registers come after these and keep their order.
 pub(crate) fn without_output(alloc: Global, flat: Flat, place: usize) -> Result<Flat, NoMemory>
     requires there { place < length flat.outs }
     ensures rest { IfOk result (λ rest. rest ≡ without_output place flat) }

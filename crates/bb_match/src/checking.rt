@@ -1,4 +1,5 @@
-//! The causes for which two netlists are refused, tried in their order.
+//! The causes for which two netlists are refused, tried in the order of their ranks. The order is part of the report: a
+//! register that one side lacks, or a clock that is no input, is reported as such before any clocks are compared.
 ghost use Rattle.std.specs.Prelude.{◌≡◌, ◌⊎◌, ◌∷◌, ◌+◌, ◌<◌, ◌≤◌, [], ℕ, List, All, None, IsSome, IfErr, OnOk};
 ghost use Rattle.bb_net.specs.Pairs.{BoxTexts, pin_count};
 ghost use Rattle.bb_bits.specs.Closures.{IsFirst};
@@ -6,7 +7,7 @@ ghost use Rattle.bb_net.specs.declared.flat.Reg.{Reg};
 ghost use Rattle.bb_match.specs.declared.fault.MatchFault.TheVariants as faults;
 ghost use Rattle.bb_net.specs.CutPoints.{register_texts};
 ghost use Rattle.bb_match.specs.Inside.Places.{ArePlaces, IsIndexOf};
-ghost use Rattle.bb_match.specs.Refusals.{AreAmong, AreClockedAlike, Fit, HasNoClock, IsFirstClockedApart, IsFirstMissing, IsFirstRefusal, most_pins};
+ghost use Rattle.bb_match.specs.Refusals.{AreAmong, HaveSameClocks, Fit, HasNoClock, IsFirstClockedApart, IsFirstMissing, IsFirstPairRefusal, most_pins};
 
 use crate::clocks::{first_clocked_apart, first_without_clock};
 use crate::fault::MatchFault;
@@ -16,7 +17,7 @@ use crate::places::{Places, first_missing};
 use bb_bits::Name;
 use bb_net::{BoxName, Flat, Net, Reg};
 
-/// Refuses a box.
+/// A specification has to be complete.
 pub(crate) fn check_boxes(boxes: &[BoxName]) -> Result<(), MatchFault>
     ensures ok { OnOk result (boxes.now ≡ []) }
     ensures fault { IfErr result (λ fault. (fault ≡ faults.NoMemory) ⊎ ((box : BoxTexts) × (rest : List BoxTexts) × (boxes.now ≡ box ∷ rest) × (fault ≡ faults.SpecBox box.path))) }
@@ -29,7 +30,6 @@ pub(crate) fn check_boxes(boxes: &[BoxName]) -> Result<(), MatchFault>
     }
 }
 
-// Refuses a bit of a port that has no place among the others.
 fn check_ports(others: &Places, texts: &[Name]) -> Result<(), MatchFault>
     ensures ok { (list : List (List ℕ)) → ArePlaces list others.now.entries → OnOk result (AreAmong texts.now list) }
     ensures fault { (list : List (List ℕ)) → ArePlaces list others.now.entries → IfErr result (λ fault. (fault ≡ faults.NoMemory) ⊎ ((n : List ℕ) × (fault ≡ faults.PortDiffers n) × IsFirstMissing texts.now list n)) }
@@ -42,7 +42,6 @@ fn check_ports(others: &Places, texts: &[Name]) -> Result<(), MatchFault>
     }
 }
 
-// Refuses a register that has no place among the others.
 fn check_registers(others: &Places, texts: &[Name]) -> Result<(), MatchFault>
     ensures ok { (list : List (List ℕ)) → ArePlaces list others.now.entries → OnOk result (AreAmong texts.now list) }
     ensures fault { (list : List (List ℕ)) → ArePlaces list others.now.entries → IfErr result (λ fault. (fault ≡ faults.NoMemory) ⊎ ((n : List ℕ) × (fault ≡ faults.RegDiffers n) × IsFirstMissing texts.now list n)) }
@@ -55,7 +54,6 @@ fn check_registers(others: &Places, texts: &[Name]) -> Result<(), MatchFault>
     }
 }
 
-// Refuses a register whose clock is no input.
 fn check_clocks(regs: &[Reg]) -> Result<(), MatchFault>
     ensures ok { OnOk result (All (λ r. IsSome r.clock) regs.now) }
     ensures fault { IfErr result (λ fault. (fault ≡ faults.NoMemory) ⊎ ((r : Reg) × IsFirst HasNoClock regs.now r × (fault ≡ faults.ClockNotInput r.text))) }
@@ -68,10 +66,9 @@ fn check_clocks(regs: &[Reg]) -> Result<(), MatchFault>
     }
 }
 
-// Refuses a register with another edge or another clock in the implementation.
-fn check_clocks_alike(spec: &Flat, imp: &Flat, imp_regs: &Places) -> Result<(), MatchFault>
+fn check_same_clocks(spec: &Flat, imp: &Flat, imp_regs: &Places) -> Result<(), MatchFault>
     requires places { ArePlaces (register_texts imp.now) imp_regs.now.entries }
-    ensures ok { OnOk result (AreClockedAlike spec.now imp.now) }
+    ensures ok { OnOk result (HaveSameClocks spec.now imp.now) }
     ensures fault { IfErr result (λ fault. (fault ≡ faults.NoMemory) ⊎ ((n : List ℕ) × (fault ≡ faults.ClockDiffers n) × IsFirstClockedApart spec.now imp.now n)) }
 {
     match first_clocked_apart(spec, imp, imp_regs) {
@@ -82,7 +79,6 @@ fn check_clocks_alike(spec: &Flat, imp: &Flat, imp_regs: &Places) -> Result<(), 
     }
 }
 
-// Refuses too many inputs and pins.
 fn check_pins(net: &Net) -> Result<(), MatchFault>
     ensures ok { OnOk result (net.now.inputs + pin_count net.now.boxes ≤ most_pins) }
     ensures fault { IfErr result (λ fault. (fault ≡ faults.TooManyPins) × (most_pins < net.now.inputs + pin_count net.now.boxes)) }
@@ -94,7 +90,7 @@ fn check_pins(net: &Net) -> Result<(), MatchFault>
     }
 }
 
-/// Refuses two flat netlists for the first cause that holds, where no care output is asked for.
+/// Without a care output; with one, that output is taken out of the specification before.
 pub(crate) fn check(
     spec: &Flat,
     of_spec: &Index,
@@ -104,7 +100,7 @@ pub(crate) fn check(
     requires of_spec { IsIndexOf spec.now of_spec.now.reg_texts.items of_spec.now.ins.entries of_spec.now.regs.entries of_spec.now.outs.entries }
     requires of_imp { IsIndexOf imp.now of_imp.now.reg_texts.items of_imp.now.ins.entries of_imp.now.regs.entries of_imp.now.outs.entries }
     ensures ok { OnOk result (Fit None spec.now imp.now) }
-    ensures fault { IfErr result (λ fault. (fault ≡ faults.NoMemory) ⊎ IsFirstRefusal None spec.now imp.now fault) }
+    ensures fault { IfErr result (λ fault. (fault ≡ faults.NoMemory) ⊎ IsFirstPairRefusal None spec.now imp.now fault) }
 {
     check_boxes(spec.boxes())?;
     check_ports(&of_imp.ins, spec.ins())?;
@@ -115,6 +111,6 @@ pub(crate) fn check(
     check_registers(&of_spec.regs, &of_imp.reg_texts)?;
     check_clocks(spec.regs())?;
     check_clocks(imp.regs())?;
-    check_clocks_alike(spec, imp, &of_imp.regs)?;
+    check_same_clocks(spec, imp, &of_imp.regs)?;
     check_pins(imp.net())
 }

@@ -1,16 +1,17 @@
-//! The edges and clocks of registers.
+//! The edges and clocks of registers. Clocks are compared by the names of inputs, since a register that stores at
+//! another time is another register, whatever its next state.
 ghost use Rattle.std.specs.Prelude.{◌≡◌, ◌↔◌, All, IsTrue, IsSome, IfSome, IfNone, MatchBool, option_map};
 ghost use Rattle.bb_net.specs.declared.flat.Reg.{Reg};
 ghost use Rattle.bb_bits.specs.Closures.{IsFirst};
 ghost use Rattle.bb_net.specs.CutPoints.{register_texts, clock_text};
 ghost use Rattle.bb_match.specs.Inside.Places.{ArePlaces};
-ghost use Rattle.bb_match.specs.Refusals.{HasNoClock, IsClockedApart, IsClockedAlike, AreClockedAlike};
+ghost use Rattle.bb_match.specs.Refusals.{HasNoClock, IsClockedApart, HasSameClock, HaveSameClocks};
 
 use crate::places::{Places, text_place};
 use bb_bits::Name;
 use bb_net::{Flat, Reg};
 
-/// The first register whose clock is no input.
+/// In register order. Such a clock is gated or derived, and no name says when it has an edge.
 pub(crate) fn first_without_clock(regs: &[Reg]) -> Option<&Reg>
     ensures some { IfSome result (λ r. IsFirst HasNoClock regs.now r.now) }
     ensures none { IfNone result (All (λ r. IsSome r.clock) regs.now) }
@@ -23,7 +24,6 @@ pub(crate) fn first_without_clock(regs: &[Reg]) -> Option<&Reg>
     None
 }
 
-// The text of the input that is the clock of a register, if one is.
 fn clock_text<'a>(flat: &'a Flat, reg: &Reg) -> Option<&'a Name>
     ensures text { option_map (λ text. text.now) result ≡ clock_text flat.now reg.now }
 {
@@ -31,25 +31,24 @@ fn clock_text<'a>(flat: &'a Flat, reg: &Reg) -> Option<&'a Name>
     ins.get(reg.clock? as usize)
 }
 
-// Whether a register of the one and a register of the other have one edge, and clocks of one text.
-fn are_alike(spec: &Flat, r: &Reg, imp: &Flat, q: &Reg) -> bool
+// Where this is called both clocks are inputs, so equal names mean one clock.
+fn have_same_clock(spec: &Flat, r: &Reg, imp: &Flat, q: &Reg) -> bool
     ensures alike { IsTrue result ↔ ((q.now.falling ≡ r.now.falling) × (clock_text imp.now q.now ≡ clock_text spec.now r.now)) }
 {
     q.falling == r.falling && clock_text(imp, q) == clock_text(spec, r)
 }
 
-// Whether the implementation has a register with another edge or another clock.
 fn is_clocked_apart(spec: &Flat, imp: &Flat, places: &Places, r: &Reg) -> bool
     requires places { ArePlaces (register_texts imp.now) places.now.entries }
-    ensures apart { MatchBool result (IsClockedApart spec.now imp.now r.now) (IsClockedAlike spec.now imp.now r.now) }
+    ensures apart { MatchBool result (IsClockedApart spec.now imp.now r.now) (HasSameClock spec.now imp.now r.now) }
 {
     match imp.regs().get(text_place(places, &r.text) as usize) {
-        Some(q) => q.text == r.text && !are_alike(spec, r, imp, q),
+        Some(q) => q.text == r.text && !have_same_clock(spec, r, imp, q),
         None => false,
     }
 }
 
-/// The first register of the specification that has another edge or another clock in the implementation.
+/// In the order of the specification's registers.
 pub(crate) fn first_clocked_apart<'a>(
     spec: &'a Flat,
     imp: &Flat,
@@ -57,7 +56,7 @@ pub(crate) fn first_clocked_apart<'a>(
 ) -> Option<&'a Reg>
     requires places { ArePlaces (register_texts imp.now) places.now.entries }
     ensures some { IfSome result (λ r. IsFirst (IsClockedApart spec.now imp.now) spec.now.regs r.now) }
-    ensures none { IfNone result (AreClockedAlike spec.now imp.now) }
+    ensures none { IfNone result (HaveSameClocks spec.now imp.now) }
 {
     for r in spec.regs() {
         if is_clocked_apart(spec, imp, places, r) {

@@ -1,4 +1,7 @@
-//! A flat netlist's texts, indexed by their places.
+//! The names of a flat netlist, indexed by their places.
+//!
+//! An index has for each name of a list a place at which it is, and whatever place that is, it is right. So no proof
+//! needs the order of its entries, and that names differ matters only where two registers are compared.
 ghost use Rattle.std.specs.Prelude.{◌≡◌, map, IfOk};
 ghost use Rattle.bb_match.specs.Inside.Places.{IsIndexOf};
 
@@ -7,7 +10,7 @@ use bb_bits::{Name, NoMemory};
 use bb_net::{Flat, Reg};
 use std::alloc::Global;
 
-/// The texts of a flat netlist's registers, and the places of all its texts.
+/// `reg_texts` has the names of the registers in their order; the others give places.
 #[derive(Drop)]
 pub(crate) struct Index {
     pub reg_texts: Vec<Name>,
@@ -17,7 +20,7 @@ pub(crate) struct Index {
 }
 
 impl Index {
-    /// The texts of the registers alone.
+    /// Moves the names out: the pair needs them once more, for its inputs.
     pub fn into_reg_texts(self) -> Vec<Name>
         ensures texts { result ≡ self.reg_texts }
     {
@@ -25,7 +28,6 @@ impl Index {
     }
 }
 
-// The texts of registers.
 fn texts_of(alloc: Global, regs: &[Reg]) -> Result<Vec<Name>, NoMemory>
     ensures texts { IfOk result (λ texts. texts.items ≡ map (λ r. r.text) regs.now) }
 {
@@ -36,7 +38,7 @@ fn texts_of(alloc: Global, regs: &[Reg]) -> Result<Vec<Name>, NoMemory>
     Ok(texts)
 }
 
-/// The index of a flat netlist.
+/// The netlist keeps its names; the index has copies to look them up.
 pub(crate) fn index_of(alloc: Global, flat: &Flat) -> Result<Index, NoMemory>
     ensures index { IfOk result (λ index. IsIndexOf flat.now index.reg_texts.items index.ins.entries index.regs.entries index.outs.entries) }
 {

@@ -1,4 +1,5 @@
-//! Two netlists that fit, joined as a pair.
+//! Joins two netlists that fit. The specification stays as it is and only the implementation's inputs and outputs are
+//! permuted, so a report lists everything as the specification does.
 ghost use Rattle.std.specs.Prelude.{◌≡◌, ◌++◌, length, map, None, IfOk, OnOk};
 ghost use Rattle.bb_net.specs.Flats.{IsFlat};
 ghost use Rattle.bb_net.specs.CutPoints.{TopOutput, NextState, register_texts, cut_inputs, cut_outputs};
@@ -9,12 +10,12 @@ ghost use Rattle.bb_match.specs.Refusals.{Fit};
 use crate::index::Index;
 use crate::kinds::kinds_of;
 use crate::parts::PairParts;
-use crate::places::places_behind;
+use crate::places::places_after;
 use bb_bits::{Name, NoMemory};
 use bb_net::{Flat, FlatParts, OutName, Reg};
 use std::alloc::Global;
 
-/// The numbers that the inputs of the implementation have in the specification.
+/// Port bits by name, then registers by name, which come after all port bits.
 pub(crate) fn input_numbers(
     alloc: Global,
     spec: &Flat,
@@ -28,7 +29,7 @@ pub(crate) fn input_numbers(
     ensures numbers { IfOk result (λ numbers. Picks (cut_inputs spec.now) numbers.items (cut_inputs imp.now)) }
 {
     let ins = spec.ins();
-    places_behind(
+    places_after(
         alloc,
         &of_spec.ins,
         imp.ins(),
@@ -38,7 +39,7 @@ pub(crate) fn input_numbers(
     )
 }
 
-/// The numbers that the outputs of the specification have in the implementation.
+/// The reverse direction of `input_numbers`: outputs are picked in the order of the specification.
 pub(crate) fn output_picks(
     alloc: Global,
     spec: &Flat,
@@ -52,7 +53,7 @@ pub(crate) fn output_picks(
     ensures picks { IfOk result (λ picks. Picks (cut_outputs imp.now) picks.items (cut_outputs spec.now)) }
 {
     let outs = imp.outs();
-    places_behind(
+    places_after(
         alloc,
         &of_imp.outs,
         spec.outs(),
@@ -62,7 +63,6 @@ pub(crate) fn output_picks(
     )
 }
 
-// Puts the names of outputs of the top at the end of a list.
 fn add_outs(outs: Vec<Name>, names: &mut Vec<OutName>) -> Result<(), NoMemory>
     ensures added { OnOk result (names.new.items ≡ names.old.items ++ map (λ text. output_name (TopOutput text)) outs.items) }
 {
@@ -72,7 +72,6 @@ fn add_outs(outs: Vec<Name>, names: &mut Vec<OutName>) -> Result<(), NoMemory>
     Ok(())
 }
 
-// Puts the names of the next states of registers at the end of a list.
 fn add_next_states(regs: Vec<Reg>, names: &mut Vec<OutName>) -> Result<(), NoMemory>
     ensures added { OnOk result (names.new.items ≡ names.old.items ++ map (λ r. output_name (NextState r.text)) regs.items) }
 {
@@ -85,7 +84,7 @@ fn add_next_states(regs: Vec<Reg>, names: &mut Vec<OutName>) -> Result<(), NoMem
     Ok(())
 }
 
-// The names of outputs of the top and then of the next states of registers.
+// In the order of a flat netlist's outputs.
 fn out_names(alloc: Global, outs: Vec<Name>, regs: Vec<Reg>) -> Result<Vec<OutName>, NoMemory>
     ensures names { IfOk result (λ names. names.items ≡ map (λ text. output_name (TopOutput text)) outs.items ++ map (λ r. output_name (NextState r.text)) regs.items) }
 {
@@ -95,7 +94,7 @@ fn out_names(alloc: Global, outs: Vec<Name>, regs: Vec<Reg>) -> Result<Vec<OutNa
     Ok(names)
 }
 
-/// What the pair of two netlists that fit is made of, where the numbers of the inputs and the picked outputs are given.
+/// `numbers` are those of the implementation's inputs, `picks` the outputs to be taken from it.
 pub(crate) fn joined(
     alloc: Global,
     spec: Flat,

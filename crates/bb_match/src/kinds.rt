@@ -1,4 +1,5 @@
-//! The kinds of boxes.
+//! Sharing classes of boxes: each box has the class of its key, its path or, with `shared`, its module. Nothing else of
+//! a pair depends on sharing.
 ghost use Rattle.std.specs.Prelude.{◌≢◌, ◌<◌, ◌^◌, AllPairs, length, map, IfOk};
 ghost use Rattle.bb_net.specs.Kinds.{AreKinds};
 ghost use Rattle.bb_net.specs.Pairs.{BoxTexts, box_key};
@@ -8,7 +9,7 @@ use bb_net::{BoxName, keys_are_shown, kinds_are_shown, kinds_may_differ, own_kin
 use indexmap::IndexSet;
 use std::alloc::Global;
 
-// The kinds of boxes that share the contents of their modules: each is the place of its module in the order of first appearance.
+// An insertion-ordered set gives each module the place of its first appearance, which is its class.
 fn module_kinds(alloc: Global, boxes: &[BoxName]) -> Result<Vec<u32>, NoMemory>
     requires small { length boxes.now < 2 ^ 32 }
     ensures kinds { IfOk result (λ kinds. AreKinds (map (λ (b : BoxTexts). b.module) boxes.now) kinds.items) }
@@ -24,7 +25,7 @@ fn module_kinds(alloc: Global, boxes: &[BoxName]) -> Result<Vec<u32>, NoMemory>
     Ok(kinds)
 }
 
-/// The kinds of boxes: each is of the kind of its key.
+/// Without sharing each box is of a class of its own, as paths differ.
 pub(crate) fn kinds_of(alloc: Global, boxes: &[BoxName], shared: bool) -> Result<Vec<u32>, NoMemory>
     requires small { length boxes.now < 2 ^ 32 }
     requires apart { AllPairs ◌≢◌ (map (λ (b : BoxTexts). b.path) boxes.now) }

@@ -1,4 +1,7 @@
-//! Two flat netlists, laid beside each other by the names of their inputs, outputs and registers.
+//! Pairing: two flat netlists are matched by the names of their inputs, outputs and registers, or refused.
+//!
+//! Registers are matched by name alone, and no correspondence is searched: each register is cut, so every check is a
+//! combinational one and a verdict holds from every state.
 #![tactic(auto)]
 
 mod care;

@@ -1,17 +1,17 @@
-//! What a pair is made of.
+//! The parts of a pair before it keeps what every pair keeps: a care output changes both netlists after they are
+//! joined.
 ghost use Rattle.std.specs.Prelude.{◌≡◌, ◌<◌, length, IfOk};
-ghost use Rattle.bb_care.specs.Cared.{cared};
+ghost use Rattle.bb_care.specs.Constrained.{constrained};
 ghost use Rattle.bb_care.specs.Laws.{HasRoom};
 ghost use Rattle.bb_net.specs.Pairs.{IsPair};
 
 use bb_bits::{Name, NoMemory};
-use bb_care::cared_nets;
-use bb_care::laws::cared_are_pairs;
+use bb_care::constrained_nets;
+use bb_care::laws::constrained_pairs_are_pairs;
 use bb_net::{BoxName, Net, OutName, Pair};
 use std::alloc::Global;
 use std::marker::Model;
 
-/// What a pair is made of: two netlists, with the texts of their inputs, outputs and boxes, and the kinds of the boxes.
 #[derive(Drop)]
 pub(crate) struct PairParts {
     pub spec: Net,
@@ -31,7 +31,7 @@ impl Model for PairParts {
 }
 
 impl PairParts {
-    /// The pair of these parts.
+    /// Without a care output the parts are a pair as they are.
     pub fn into_pair(self) -> Pair
         requires kept { IsPair self }
         ensures pair { result ≡ self }
@@ -41,14 +41,15 @@ impl PairParts {
         )
     }
 
-    /// The pair of these parts whose outputs count only where a cell of the specification is 1.
-    pub fn cared(self, alloc: Global, care: u32) -> Result<Pair, NoMemory>
+    /// `care` is the place of a cell of the specification. Both netlists get one more And for each output, so that no
+    /// check has to know of care outputs.
+    pub fn constrained(self, alloc: Global, care: u32) -> Result<Pair, NoMemory>
         requires kept { IsPair self }
         requires room { HasRoom self }
         requires care { care < length self.spec.cells }
-        ensures pair { IfOk result (λ p. p ≡ cared care self) }
+        ensures pair { IfOk result (λ p. p ≡ constrained care self) }
     {
-        cared_are_pairs();
+        constrained_pairs_are_pairs();
         let PairParts {
             spec,
             imp,
@@ -58,7 +59,7 @@ impl PairParts {
             kinds,
         } = self;
         let places = Vec::from_slice(alloc, spec.outs())?;
-        let both = cared_nets(alloc, spec, &places, care, imp)?;
+        let both = constrained_nets(alloc, spec, &places, care, imp)?;
         Ok(Pair::of(both.spec, both.imp, ins, outs, boxes, kinds))
     }
 }

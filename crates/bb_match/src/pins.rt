@@ -1,4 +1,4 @@
-//! How many inputs and pins of boxes there may be.
+//! The bound on inputs and pins of boxes. It counts down from the bound, so no sum can overflow.
 ghost use Rattle.std.specs.Prelude.{◌≡◌, ◌+◌, ◌<◌, ◌≤◌, length, IfSome, IfNone, MatchBool};
 ghost use Rattle.bb_net.specs.Pairs.{pin_count};
 ghost use Rattle.bb_match.specs.Refusals.{most_pins};
@@ -7,7 +7,6 @@ use bb_net::BoxPins;
 
 const MOST_PINS: usize = 2048;
 
-// What is left of so many pins without those of a box.
 fn left_without(left: usize, pins: &BoxPins) -> Option<usize>
     ensures some { IfSome result (λ rest. rest + (length pins.now.ins + length pins.now.outs) ≡ left) }
     ensures none { IfNone result (left < length pins.now.ins + length pins.now.outs) }
@@ -16,7 +15,7 @@ fn left_without(left: usize, pins: &BoxPins) -> Option<usize>
         .checked_sub(pins.outs().len())
 }
 
-/// Whether inputs and pins of boxes are too many together.
+/// More than 2,048 together.
 pub(crate) fn are_too_many(inputs: u32, boxes: &[BoxPins]) -> bool
     ensures many { MatchBool result (most_pins < inputs + pin_count boxes.now) (inputs + pin_count boxes.now ≤ most_pins) }
 {

@@ -1,4 +1,5 @@
-//! The places of texts in a list.
+//! The places of names in a list, by a hash map that keeps the order in which names are inserted. Of equal names the
+//! last one's place is kept; any of them would do.
 ghost use Rattle.std.specs.Prelude.{◌≡◌, ◌<◌, ◌+◌, ◌++◌, ◌^◌, ℕ, List, length, map, IfOk, OnOk, IfSome, IfNone};
 ghost use Rattle.bb_match.specs.Inside.Places.{ArePlaces, text_place};
 ghost use Rattle.bb_match.specs.Refusals.{IsFirstMissing, AreAmong};
@@ -7,10 +8,8 @@ use bb_bits::{Name, NoMemory};
 use indexmap::IndexMap;
 use std::alloc::Global;
 
-/// A place of each text of a list.
 pub(crate) type Places = IndexMap<Name, u32>;
 
-/// The places of the texts of a list.
 pub(crate) fn places_of(alloc: Global, texts: &[Name]) -> Result<Places, NoMemory>
     requires small { length texts.now < 2 ^ 32 }
     ensures places { IfOk result (λ places. ArePlaces texts.now places.entries) }
@@ -22,14 +21,13 @@ pub(crate) fn places_of(alloc: Global, texts: &[Name]) -> Result<Places, NoMemor
     Ok(places)
 }
 
-/// The place of a text, and 0 where it has none.
+/// 0 where it has none: total, for callers that have made sure of it.
 pub(crate) fn text_place(places: &Places, text: &Name) -> u32
     ensures place { result ≡ text_place places.now.entries text.now }
 {
     places.get(text).copied().unwrap_or(0)
 }
 
-/// The first of these texts that has no place.
 pub(crate) fn first_missing<'a>(places: &Places, texts: &'a [Name]) -> Option<&'a Name>
     ensures some { (others : List (List ℕ)) → ArePlaces others places.now.entries → IfSome result (λ text. IsFirstMissing texts.now others text.now) }
     ensures none { (others : List (List ℕ)) → ArePlaces others places.now.entries → IfNone result (AreAmong texts.now others) }
@@ -42,7 +40,7 @@ pub(crate) fn first_missing<'a>(places: &Places, texts: &'a [Name]) -> Option<&'
     None
 }
 
-/// Puts the places of texts, each moved by a base, at the end of a list.
+/// `base` is the place at which the list that `places` indexes begins.
 pub(crate) fn add_places(
     places: &Places,
     base: u32,
@@ -58,8 +56,8 @@ pub(crate) fn add_places(
     Ok(())
 }
 
-/// The places of these texts in one list, and then of those in another, which begins behind the first, at the base.
-pub(crate) fn places_behind(
+/// The second list comes right after the first, so its places count from `base`.
+pub(crate) fn places_after(
     alloc: Global,
     first: &Places,
     these: &[Name],

@@ -1,6 +1,6 @@
 -- nets without boxes
 use Rattle.std.proofs.Common.{◌≡◌, ◌≤◌, Bool, List, [], ◌∷◌, length, refl, sym, ap, ◌∙◌, subst, arith}
-use Rattle.bb_net.specs.Agreement.{AllRight}
+use Rattle.bb_net.specs.Equivalence.{AllRight}
 use Rattle.bb_net.specs.Conditions.{AllSometimesRight, HasAlwaysWrong}
 use Rattle.bb_net.specs.Netlists.{Netlist}
 use Rattle.bb_net.specs.Values.{flat, output_pins}

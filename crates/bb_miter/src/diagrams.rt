@@ -1,4 +1,5 @@
-//! A vector at which two netlists differ, or that there is none, by decision diagrams.
+//! Equivalence by the BDDs of the check of all outputs: without boxes there is nothing to quantify, so that check is a
+//! comparison.
 
 ghost use Rattle.std.specs.Prelude.{◌≤◌, IfOk, OnOk, IfSome, IfNone, IsErrOf};
 ghost use Rattle.bb_bits.specs.Truth.{IsBeadOfAny};
@@ -10,7 +11,7 @@ use bb_net::Net;
 use bb_sym::{RungFault, output_of};
 use std::alloc::Global;
 
-/// A vector at which some output differs. None where the two are equivalent.
+/// The least vector at which some output differs; none where the netlists are equivalent.
 ///
 /// # Errors
 ///

@@ -1,4 +1,6 @@
-//! Whether two netlists without boxes have the same outputs at every vector.
+//! Comparison of two netlists without boxes, by simulation and by BDDs; the SAT side is in `bb_expand`. The calls take
+//! netlists and not a pair, since the search fills an implementation anew in each iteration and would have to copy the
+//! specification for a pair.
 #![tactic(auto)]
 
 mod diagrams;

@@ -1,4 +1,6 @@
-//! Patterns at which two netlists differ.
+//! Samples from simulation, cheapest first: several vectors at once are wanted, since with few at a time the solver has
+//! to guess what many would settle. With at most twelve inputs all vectors come after the drawn patterns: a single
+//! failing vector is seldom drawn.
 
 ghost use Rattle.std.specs.Prelude.{◌≡◌, ◌≢◌, ◌≤◌, [], All, AllPairs, length, map, vec_items, IfOk, OnOk};
 ghost use Rattle.bb_miter.specs.Inside.Equivalence.{AreComparable, DiffersAt, SameAt};
@@ -11,14 +13,14 @@ use bb_tern::{differ_at, laws, patterns};
 use indexmap::IndexSet;
 use std::alloc::Global;
 
-/// How many patterns go through the nets at once.
+/// One lane for each bit of a word.
 const LANES: usize = 64;
 
-/// How many patterns are drawn, behind those with at most one bit that differs from the others.
+/// Drawn patterns come after those in which at most one bit differs from the others.
 const DRAWN: u32 = 512;
 
-/// Vectors at which some output differs, at most `wanted` and no two of them one. There are none only where all outputs are the same at
-/// all patterns of a simulation, of which 512 are drawn from `seed`.
+/// At most `wanted` vectors, pairwise different. Empty only where all outputs agree at all patterns of a simulation, of
+/// which 512 are drawn from `seed`; that proves nothing.
 pub fn differing_patterns(
     alloc: Global,
     spec: &Net,
@@ -42,7 +44,7 @@ pub fn differing_patterns(
     Ok(vectors)
 }
 
-// Adds those of all vectors at which some output differs, where inputs are few.
+// The list of all vectors is made only where too few were found.
 fn add_others(
     alloc: Global,
     spec: &Net,
@@ -65,7 +67,7 @@ fn add_others(
     add_differing(alloc, spec, imp, &others, wanted, found)
 }
 
-// Adds those of the patterns at which some output differs, until so many are found.
+// In order, until `wanted` are found; the set drops repeated patterns.
 fn add_differing(
     alloc: Global,
     spec: &Net,
@@ -92,7 +94,6 @@ fn add_differing(
     Ok(())
 }
 
-// The same for at most 64 patterns.
 fn add_differing_among(
     alloc: Global,
     spec: &Net,

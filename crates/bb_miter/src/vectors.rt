@@ -1,4 +1,4 @@
-//! Lists of vectors.
+//! All vectors of few inputs, for netlists that simulation can exhaust.
 
 ghost use Rattle.std.specs.Prelude.{◌≡◌, ◌≢◌, All, AllPairs, length, map, vec_items, IfOk};
 
@@ -6,10 +6,10 @@ use bb_bits::NoMemory;
 use indexmap::IndexSet;
 use std::alloc::Global;
 
-// With at most so many inputs all vectors are tried: they are at most as many as the patterns that a simulation may draw.
+// 2^12 vectors are at most as many as the patterns that a simulation may draw.
 const FEW: u32 = 12;
 
-/// All vectors of so many inputs where these are few, and else none.
+/// Empty where there are more than `FEW` inputs.
 pub(crate) fn vectors(alloc: Global, inputs: u32) -> Result<Vec<Vec<bool>>, NoMemory>
     ensures { IfOk result (λ vectors. All (λ x. length x.items ≡ inputs) vectors.items) }
 {
@@ -22,7 +22,7 @@ pub(crate) fn vectors(alloc: Global, inputs: u32) -> Result<Vec<Vec<bool>>, NoMe
     Ok(vectors)
 }
 
-// The vector that is spelled by a number, its last bit first.
+// Bit `i` of `number` is input `i`. Any order would do, since all are tried.
 fn vector(alloc: Global, inputs: u32, number: u32) -> Result<Vec<bool>, NoMemory>
     ensures { IfOk result (λ x. length x.items ≡ inputs) }
 {
@@ -35,7 +35,7 @@ fn vector(alloc: Global, inputs: u32, number: u32) -> Result<Vec<bool>, NoMemory
     Ok(x)
 }
 
-/// The vectors of a set, in its order.
+/// In order of insertion, so that runs repeat.
 pub(crate) fn list_of(alloc: Global, found: IndexSet<Vec<bool>>) -> Result<Vec<Vec<bool>>, NoMemory>
     ensures vectors { IfOk result (λ vectors. vectors.items ≡ found.keys) }
     ensures distinct { IfOk result (λ vectors. AllPairs ◌≢◌ (map vec_items vectors.items)) }

@@ -11,7 +11,7 @@ use Rattle.bb_names.specs.declared.fault.NameFault.{NameFault}
 use Rattle.bb_names.specs.declared.fault.NameFault.TheVariants as faults
 use Rattle.bb_names.specs.Faults.{IsFirstFault, faults_of, statement_faults, twice, unknown, wrong_select, wrong_width, wrong_role}
 use Rattle.bb_names.specs.Inside.Firsts.{first_of, noted, nothing, first_fault, Answers}
-use Rattle.bb_names.specs.Spots.{Spot}
+use Rattle.bb_names.specs.Sites.{Site}
 use Rattle.bb_bits.specs.Earlier.{each_from}
 use Rattle.bb_names.proofs.Noting.{first_of-append, each_from-append, each_from-push, seen-more}
 
@@ -23,13 +23,13 @@ first-then : {A B : Type 0} (f : A → B) (xs : List A) (rest : List B) (o : Opt
 first-then f xs rest o e = first_of-append (map f xs) rest ∙ ap (λ z. option_or z (first_of rest)) (first_of-map f xs) ∙ ap (option_or (option_map f (first_of xs))) e
 
 -- the first fault of a statement is the leftmost of the first kind that was found
-pub statement-first : (text : List PlainModule) (m : PlainModule) (line : ℕ) (spots : List Spot) → first_of (statement_faults text m line spots) ≡ first_fault line (noted text m nothing spots)
-statement-first text m line spots =
-    first-then (faults.Twice line) (flat_map (twice text m) spots) _ _
-    (first-then (faults.Unknown line) (flat_map (unknown text m) spots) _ _
-    (first-then (faults.Select line) (flat_map (wrong_select text m) spots) _ _
-    (first-then (faults.Width line) (flat_map (wrong_width text m) spots) _ _
-    (ap first_of (append-nil (map (faults.Role line) (flat_map (wrong_role text m) spots))) ∙ first_of-map (faults.Role line) (flat_map (wrong_role text m) spots)))))
+pub statement-first : (text : List PlainModule) (m : PlainModule) (line : ℕ) (sites : List Site) → first_of (statement_faults text m line sites) ≡ first_fault line (noted text m nothing sites)
+statement-first text m line sites =
+    first-then (faults.Twice line) (flat_map (twice text m) sites) _ _
+    (first-then (faults.Unknown line) (flat_map (unknown text m) sites) _ _
+    (first-then (faults.Select line) (flat_map (wrong_select text m) sites) _ _
+    (first-then (faults.Width line) (flat_map (wrong_width text m) sites) _ _
+    (ap first_of (append-nil (map (faults.Role line) (flat_map (wrong_role text m) sites))) ∙ first_of-map (faults.Role line) (flat_map (wrong_role text m) sites)))))
 
 pub first-empty : {A : Type 0} (xs : List A) → first_of xs ≡ None → xs ≡ []
 first-empty [] h = refl
@@ -57,9 +57,9 @@ each-found gives v xs i x a within at before here =
     ∙ first_of-append (gives (map v (take i xs)) (v x)) (each_from gives (map v (take i xs) ++ v x ∷ []) (map v (drop (suc i) xs)))
     ∙ ap (λ o. option_or o (first_of (each_from gives (map v (take i xs) ++ v x ∷ []) (map v (drop (suc i) xs))))) here
 
--- an answer about what stands behind nothing
-pub answers-behind : {A : Type 0} (r : Result A NameFault) (front back all : List NameFault) → front ≡ [] → all ≡ front ++ back → Answers r back → Answers r all
-answers-behind r front back all none is h = subst (Answers r) (sym (is ∙ ap (λ z. z ++ back) none)) h
+-- an answer about what follows nothing
+pub answers-after : {A : Type 0} (r : Result A NameFault) (prefix back all : List NameFault) → prefix ≡ [] → all ≡ prefix ++ back → Answers r back → Answers r all
+answers-after r prefix back all none is h = subst (Answers r) (sym (is ∙ ap (λ z. z ++ back) none)) h
 
 -- an error that is handed on
 pub err_answers : {A : Type 0} (r : Result A NameFault) (fault : NameFault) (all : List NameFault) → IsErrAnd r (λ e. e ≡ fault) → (fault ≡ faults.NoMemory) ⊎ (first_of all ≡ Some fault) → Answers r all
@@ -68,15 +68,15 @@ err_answers (Err e) fault all same (inl no_memory) = inl (same ∙ no_memory)
 err_answers (Err e) fault all same (inr first) = inr (first ∙ ap Some (sym same))
 
 -- the first of the front is the first of all
-pub front_answers : (front back : List NameFault) (fault : NameFault) → (fault ≡ faults.NoMemory) ⊎ (first_of front ≡ Some fault) → (fault ≡ faults.NoMemory) ⊎ (first_of (front ++ back) ≡ Some fault)
-front_answers front back fault (inl no_memory) = inl no_memory
-front_answers front back fault (inr first) = inr (first_of-append front back ∙ ap (λ o. option_or o (first_of back)) first)
+pub prefix_answers : (prefix back : List NameFault) (fault : NameFault) → (fault ≡ faults.NoMemory) ⊎ (first_of prefix ≡ Some fault) → (fault ≡ faults.NoMemory) ⊎ (first_of (prefix ++ back) ≡ Some fault)
+prefix_answers prefix back fault (inl no_memory) = inl no_memory
+prefix_answers prefix back fault (inr first) = inr (first_of-append prefix back ∙ ap (λ o. option_or o (first_of back)) first)
 
 -- an item's first fault is the module's, where nothing before it has one
-pub item_answers : {X Y : Type 0} (gives : List Y → Y → List NameFault) (v : X → Y) (xs : List X) (i : ℕ) (x : X) (front : List NameFault) (fault : NameFault) → i < length xs → x ≡ get_or xs i x → front ≡ [] → each_from gives [] (map v (take i xs)) ≡ []
-    → (fault ≡ faults.NoMemory) ⊎ (first_of (gives (map v (take i xs)) (v x)) ≡ Some fault) → (fault ≡ faults.NoMemory) ⊎ (first_of (front ++ each_from gives [] (map v xs)) ≡ Some fault)
-item_answers gives v xs i x front fault within at none before (inl no_memory) = inl no_memory
-item_answers gives v xs i x front fault within at none before (inr first) = inr (ap (λ z. first_of (z ++ each_from gives [] (map v xs))) none ∙ each-found gives v xs i x fault within at before first)
+pub item_answers : {X Y : Type 0} (gives : List Y → Y → List NameFault) (v : X → Y) (xs : List X) (i : ℕ) (x : X) (prefix : List NameFault) (fault : NameFault) → i < length xs → x ≡ get_or xs i x → prefix ≡ [] → each_from gives [] (map v (take i xs)) ≡ []
+    → (fault ≡ faults.NoMemory) ⊎ (first_of (gives (map v (take i xs)) (v x)) ≡ Some fault) → (fault ≡ faults.NoMemory) ⊎ (first_of (prefix ++ each_from gives [] (map v xs)) ≡ Some fault)
+item_answers gives v xs i x prefix fault within at none before (inl no_memory) = inl no_memory
+item_answers gives v xs i x prefix fault within at none before (inr first) = inr (ap (λ z. first_of (z ++ each_from gives [] (map v xs))) none ∙ each-found gives v xs i x fault within at before first)
 
 pub first-head : {A : Type 0} (xs : List A) (x : A) → first_of xs ≡ Some x → (rest : List A) × (xs ≡ x ∷ rest)
 first-head [] x h = absurd (grind (arith, h))

@@ -69,19 +69,19 @@ clash-step A a K k I i P s t r D L J T R =
     ∙ same-five (both A D a) (both K L k) refl (absorbed T i) (rows P s r t R)
 
 -- what declarations say of a name, against one more
-abbrev pub told_clash : PlainModule → List ℕ → DeclaredAs → List Declaration → Bool
-told_clash m n d all =
+abbrev pub reported_clash : PlainModule → List ℕ → DeclaredAs → List Declaration → Bool
+reported_clash m n d all =
     (list_any (λ x. same_name x.name n && is_some x.dir) all && is_some d.dir)
     || ((list_any (λ x. same_name x.name n && is_some x.kind) all && is_some d.kind)
     || (list_any (λ x. same_name x.name n && x.instance) all
     || ((list_any (λ x. same_name x.name n) all && d.instance)
     || (is_port m n && (not (declares_supply (named n d)) && list_any (λ x. (same_name x.name n && not (declares_supply x)) && not (same_range x.range d.range)) all)))))
 
-pub clash-any : (m : PlainModule) (n : List ℕ) (d : DeclaredAs) (all : List Declaration) → list_any (λ x. clashes m x (named n d)) all ≡ told_clash m n d all
+pub clash-any : (m : PlainModule) (n : List ℕ) (d : DeclaredAs) (all : List Declaration) → list_any (λ x. clashes m x (named n d)) all ≡ reported_clash m n d all
 clash-any m n d [] = grind arith
 clash-any m n d (x ∷ xs) = by (same_name x.name n) refl (clash-any m n d xs)
   where
-    by : (b : Bool) → same_name x.name n ≡ b → list_any (λ y. clashes m y (named n d)) xs ≡ told_clash m n d xs → (clashes m x (named n d) || list_any (λ y. clashes m y (named n d)) xs) ≡ told_clash m n d (x ∷ xs)
+    by : (b : Bool) → same_name x.name n ≡ b → list_any (λ y. clashes m y (named n d)) xs ≡ reported_clash m n d xs → (clashes m x (named n d) || list_any (λ y. clashes m y (named n d)) xs) ≡ reported_clash m n d (x ∷ xs)
     by false e rest = rw e rest
     by true e rest = rw e (
         ap₂ (λ p z. (((((is_some x.dir && is_some d.dir) || (is_some x.kind && is_some d.kind)) || x.instance) || d.instance) || (((p && not (declares_supply x)) && not (declares_supply (named n d))) && not (same_range x.range d.range))) || z)

@@ -3,8 +3,8 @@ use Rattle.std.proofs.Common.{◌≡◌, ℕ, ◌*◌, Bool, ◌&&◌, List, [],
 use Rattle.std.specs.Prelude.{max, sum}
 use Rattle.std.specs.List.{flat_map, list_all}
 use Rattle.bb_ast.specs.Assignable.{assigning, is_assignable}
-use Rattle.bb_names.specs.Inside.Firsts.{inner_spots, spots_of_part, words_width}
-use Rattle.bb_names.specs.Spots.{Use, inside, with_inside, part_spots, spots_in}
+use Rattle.bb_names.specs.Inside.Firsts.{inner_sites, sites_of_part, words_width}
+use Rattle.bb_names.specs.Sites.{Use, inside, with_inside, part_sites, sites_in}
 use Rattle.bb_names.specs.Widths.{Ranges, greatest, widths, own_width}
 use Rattle.bb_ast.specs.declared.expr.Expr.{Expr, out-Expr}
 use Rattle.bb_ast.specs.declared.expr.Op.{Op}
@@ -46,27 +46,27 @@ all-map p v (x ∷ xs) = ap (λ b. p (v x) && b) (all-map p v xs)
 pub assignable-concat : (all : List Expression) → is_assignable (Concat (listed_parts all)) ≡ list_all is_assignable all
 assignable-concat all = ap (list_all (λ e. e)) (sees_parts (λ x a. a) assigning all) ∙ all-map (λ e. e) is_assignable all
 
--- what stands in an expression by its form
-pub spots-chain : (how : Use) (e : Expression) (rest : List (Op × Expression)) → inner_spots how (Chain e (operands rest)) ≡ spots_in how e ++ flat_map (λ x. spots_in how x.1) rest
-spots-chain how e rest =
-    ap (λ z. spots_in how e ++ flat_map (λ x. with_inside x.1) z) (sees_operands (λ x spots. (x, spots)) (inside how) rest)
-    ∙ ap (λ z. spots_in how e ++ z) (flat_map-map (λ x. with_inside x.1) (λ x. (x.0, (x.1, inner_spots how x.1))) rest)
+-- what is in an expression by its form
+pub sites-chain : (how : Use) (e : Expression) (rest : List (Op × Expression)) → inner_sites how (Chain e (operands rest)) ≡ sites_in how e ++ flat_map (λ x. sites_in how x.1) rest
+sites-chain how e rest =
+    ap (λ z. sites_in how e ++ flat_map (λ x. with_inside x.1) z) (sees_operands (λ x sites. (x, sites)) (inside how) rest)
+    ∙ ap (λ z. sites_in how e ++ z) (flat_map-map (λ x. with_inside x.1) (λ x. (x.0, (x.1, inner_sites how x.1))) rest)
 
-pub spots-words : (how : Use) (e : Expression) (rest : List (WordOp × Expression)) → inner_spots how (Words e (word_operands rest)) ≡ spots_in how e ++ flat_map (λ x. spots_in how x.1) rest
-spots-words how e rest =
-    ap (λ z. spots_in how e ++ flat_map (λ x. with_inside x.1) z) (sees_words (λ x spots. (x, spots)) (inside how) rest)
-    ∙ ap (λ z. spots_in how e ++ z) (flat_map-map (λ x. with_inside x.1) (λ x. (x.0, (x.1, inner_spots how x.1))) rest)
+pub sites-words : (how : Use) (e : Expression) (rest : List (WordOp × Expression)) → inner_sites how (Words e (word_operands rest)) ≡ sites_in how e ++ flat_map (λ x. sites_in how x.1) rest
+sites-words how e rest =
+    ap (λ z. sites_in how e ++ flat_map (λ x. with_inside x.1) z) (sees_words (λ x sites. (x, sites)) (inside how) rest)
+    ∙ ap (λ z. sites_in how e ++ z) (flat_map-map (λ x. with_inside x.1) (λ x. (x.0, (x.1, inner_sites how x.1))) rest)
 
-pub spots-cond : (how : Use) (all : List (Expression × Expression)) (last : Expression) → inner_spots how (Cond (arms all) last) ≡ flat_map (λ x. spots_in how x.0 ++ spots_in how x.1) all ++ spots_in how last
-spots-cond how all last =
-    ap (λ z. flat_map (λ x. with_inside x.0 ++ with_inside x.1) z ++ spots_in how last) (sees_arms (λ x spots. (x, spots)) (inside how) all)
-    ∙ ap (λ z. z ++ spots_in how last) (flat_map-map (λ x. with_inside x.0 ++ with_inside x.1) (λ x. ((x.0, inner_spots how x.0), (x.1, inner_spots how x.1))) all)
+pub sites-cond : (how : Use) (all : List (Expression × Expression)) (last : Expression) → inner_sites how (Cond (arms all) last) ≡ flat_map (λ x. sites_in how x.0 ++ sites_in how x.1) all ++ sites_in how last
+sites-cond how all last =
+    ap (λ z. flat_map (λ x. with_inside x.0 ++ with_inside x.1) z ++ sites_in how last) (sees_arms (λ x sites. (x, sites)) (inside how) all)
+    ∙ ap (λ z. z ++ sites_in how last) (flat_map-map (λ x. with_inside x.0 ++ with_inside x.1) (λ x. ((x.0, inner_sites how x.0), (x.1, inner_sites how x.1))) all)
 
-pub spots-concat : (how : Use) (all : List Expression) → inner_spots how (Concat (listed_parts all)) ≡ flat_map (spots_of_part how) all
-spots-concat how all = ap (flat_map part_spots) (sees_parts (λ x spots. (x, spots)) (inside how) all) ∙ flat_map-map part_spots (λ x. (x, inner_spots how x)) all
+pub sites-concat : (how : Use) (all : List Expression) → inner_sites how (Concat (listed_parts all)) ≡ flat_map (sites_of_part how) all
+sites-concat how all = ap (flat_map part_sites) (sees_parts (λ x sites. (x, sites)) (inside how) all) ∙ flat_map-map part_sites (λ x. (x, inner_sites how x)) all
 
-pub spots-repeat : (how : Use) (k : ℕ) (all : List Expression) → inner_spots how (Repeat k (listed_parts all)) ≡ flat_map (spots_of_part how) all
-spots-repeat how k all = ap (flat_map part_spots) (sees_parts (λ x spots. (x, spots)) (inside how) all) ∙ flat_map-map part_spots (λ x. (x, inner_spots how x)) all
+pub sites-repeat : (how : Use) (k : ℕ) (all : List Expression) → inner_sites how (Repeat k (listed_parts all)) ≡ flat_map (sites_of_part how) all
+sites-repeat how k all = ap (flat_map part_sites) (sees_parts (λ x sites. (x, sites)) (inside how) all) ∙ flat_map-map part_sites (λ x. (x, inner_sites how x)) all
 
 -- the own width by the form
 map-map : {X Y Z : Type 0} (g : Y → Z) (v : X → Y) (xs : List X) → map g (map v xs) ≡ map (λ x. g (v x)) xs

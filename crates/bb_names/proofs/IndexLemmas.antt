@@ -1,4 +1,4 @@
--- What an index of names tells is what the module says.
+-- What an index of names says is what the module says.
 use Rattle.std.proofs.Common.{◌≡◌, ℕ, ◌+◌, Bool, true, false, cond, not, ◌||◌, ◌&&◌, List, [], ◌∷◌, ◌++◌, Option, None, Some, is_some, refl, sym, ap, ap₂, ◌∙◌, arith, map, filter, length, if◌then◌else◌}
 use Rattle.std.proofs.lemmas.Grind.{common_steps}
 use Rattle.std.proofs.lemmas.List.{map-append}
@@ -11,7 +11,7 @@ use Rattle.bb_ast.specs.declared.module.Dir.{Dir}
 use Rattle.bb_ast.specs.declared.module.Module.{Module}
 use Rattle.bb_ast.specs.Inside.Views.{module_view}
 use Rattle.bb_names.specs.Faults.{is_input}
-use Rattle.bb_names.specs.Spots.{module_named}
+use Rattle.bb_names.specs.Sites.{module_named}
 use Rattle.std.specs.List.{find, list_any, position_from, take-map}
 use Rattle.std.specs.Option.{option_and_then, option_or}
 use Rattle.bb_bits.specs.Names.{same_name}

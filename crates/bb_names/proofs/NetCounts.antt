@@ -119,9 +119,9 @@ nets-count m =
     )
 
 -- in a source, by its size
-pub member-size : (size : PlainModule → ℕ) (front back : List PlainModule) (m : PlainModule) → size m ≤ sum_by size (front ++ m ∷ back)
+pub member-size : (size : PlainModule → ℕ) (prefix back : List PlainModule) (m : PlainModule) → size m ≤ sum_by size (prefix ++ m ∷ back)
 member-size size [] back m = rw (sum_by-cons size m back) (omega arith)
-member-size size (x ∷ front) back m = rw (sum_by-cons size x (front ++ m ∷ back)) (omega (arith, member-size size front back m))
+member-size size (x ∷ prefix) back m = rw (sum_by-cons size x (prefix ++ m ∷ back)) (omega (arith, member-size size prefix back m))
 
-pub few_nets : (m : PlainModule) (front back : List PlainModule) → source_size (front ++ m ∷ back) ≤ 33554432 → length (net_names m) < 2 ^ 32
-few_nets m front back small = omega (arith, nets-count m, member-size (λ x. 2 + module_size x) front back m, small)
+pub few_nets : (m : PlainModule) (prefix back : List PlainModule) → source_size (prefix ++ m ∷ back) ≤ 33554432 → length (net_names m) < 2 ^ 32
+few_nets m prefix back small = omega (arith, nets-count m, member-size (λ x. 2 + module_size x) prefix back m, small)

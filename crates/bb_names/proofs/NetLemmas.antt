@@ -42,7 +42,7 @@ pub nets-flat : (items : List PlainItem) → names_of_nets (flat_map (λ item. d
 nets-flat [] = refl
 nets-flat (item ∷ items) = nets-append (declared_by item.body) (flat_map (λ x. declared_by x.body) items) ∙ ap (λ z. nets_declared_by item.body ++ z) (nets-flat items)
 
--- a list of distinct names is the list of each where it stands first
+-- a list of distinct names is the list of each where it is first
 kept : (x : List ℕ) (xs : List (List ℕ)) → AllByRecursion (λ y. same_name x y ≡ false) xs → filter (λ y. not (same_name x y)) xs ≡ xs
 kept x [] apart = refl
 kept x (y ∷ ys) apart = ap (λ b. cond (not b) (y ∷ filter (λ z. not (same_name x z)) ys) (filter (λ z. not (same_name x z)) ys)) apart.0 ∙ ap (λ zs. y ∷ zs) (kept x ys apart.1)
@@ -87,7 +87,7 @@ names_in_order m none heads items all implicit empty first second third is disti
     among : (n : List ℕ) → has_name n (head_names m) ≡ true → has_name n (all_added [] (head_names m)) ≡ true
     among n e = ap (has_name n) (all_added-new (head_names m)) ∙ has-once n (head_names m) ∙ e
 
--- names, each placed behind those before it
+-- names, each placed after those before it
 
 pub placed-names : (k : ℕ) (names : List (List ℕ)) → map (λ e. e.0) (placed k names) ≡ names
 placed-names k [] = refl
@@ -148,10 +148,10 @@ placed-turn name v xs i x old mid new within at before step =
 pub placed-all : {X Y : Type 0} (name : Y → List ℕ) (v : X → Y) (xs : List X) (i : ℕ) (old new : List (List ℕ × ℕ)) → length xs ≤ i → new ≡ all_placed old (map name (map v (take i xs))) → new ≡ all_placed old (map name (map v xs))
 placed-all name v xs i old new past here = here ∙ ap (λ z. all_placed old (map name z)) (seen-all v xs i past)
 
--- a new name goes behind the others
-pub inserted-behind : (entries : List (List ℕ × ℕ)) (n : List ℕ) (p : ℕ) → is_some (lookup (same_name n) entries) ≡ false → insert_entry same_name entries n p ≡ entries ++ (n, p) ∷ []
-inserted-behind [] n p new = refl
-inserted-behind (e ∷ es) n p new = by (same_name n e.0) new (inserted-behind es n p)
+-- a new name goes after the others
+pub inserted-after : (entries : List (List ℕ × ℕ)) (n : List ℕ) (p : ℕ) → is_some (lookup (same_name n) entries) ≡ false → insert_entry same_name entries n p ≡ entries ++ (n, p) ∷ []
+inserted-after [] n p new = refl
+inserted-after (e ∷ es) n p new = by (same_name n e.0) new (inserted-after es n p)
   where
     by : (b : Bool) → is_some (if b then Some e.1 else lookup (same_name n) es) ≡ false → (is_some (lookup (same_name n) es) ≡ false → insert_entry same_name es n p ≡ es ++ (n, p) ∷ [])
         → (if b then (e.0, p) ∷ es else e ∷ insert_entry same_name es n p) ≡ e ∷ es ++ (n, p) ∷ []

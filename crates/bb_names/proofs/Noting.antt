@@ -1,4 +1,4 @@
--- What is found among spots that are looked at one after another.
+-- What is found among sites that are looked at one after another.
 use Rattle.std.proofs.Common.{zero, suc, drop, ap₂, ◌||◌, ◌≡◌, ℕ, ◌+◌, ◌<◌, ◌≤◌, Bool, true, false, not, List, [], ◌∷◌, ◌++◌, length, take, map, get_or, Option, None, Some, refl, sym, ap, ◌∙◌, arith, append_assoc, append-nil, if◌then◌else◌}
 use Rattle.std.proofs.lemmas.Grind.{flat_map-append, common_steps}
 use Rattle.std.proofs.lemmas.List.Folds.{list_any-append}
@@ -17,9 +17,9 @@ use Rattle.bb_names.specs.declared.faults.found.Found.{Found}
 use Rattle.std.specs.Prelude.{◌==◌, is_none, codes, nat_lt, option_map, min}
 use Rattle.bb_ast.specs.Syntax.{Expression}
 use Rattle.bb_ast.specs.Names.{names_in}
-use Rattle.bb_names.specs.Faults.{Rows, told_if, width_in, twice, unknown, wrong_select, wrong_width, wrong_role}
-use Rattle.bb_names.specs.Inside.Firsts.{AreSame, terminal_spots, first_of, first_told, noted, noted_width, spots_of_part}
-use Rattle.bb_names.specs.Spots.{gate_spots, Spot, Use, Clock, Whole, Number, Placed, Declared as DeclaredSpot, is_plain, spots_in, declared_spots}
+use Rattle.bb_names.specs.Faults.{Rows, reported_if, width_in, twice, unknown, wrong_select, wrong_width, wrong_role}
+use Rattle.bb_names.specs.Inside.Firsts.{AreSame, terminal_sites, first_of, first_reported, noted, noted_width, sites_of_part}
+use Rattle.bb_names.specs.Sites.{gate_sites, Site, Use, Clock, Whole, Number, Placed, Declared as DeclaredSite, is_plain, sites_in, declared_sites}
 use Rattle.bb_names.specs.Declarations.{Declaration}
 use Rattle.bb_bits.specs.Earlier.{each_from, has_name}
 use Rattle.bb_names.proofs.Searches.{option_or-none, option_or-assoc}
@@ -34,21 +34,21 @@ pub first_of-append : {A : Type 0} (xs ys : List A) → first_of (xs ++ ys) ≡ 
 first_of-append [] ys = refl
 first_of-append (x ∷ xs) ys = refl
 
-pub first_told-append : (rows : Rows) (text : List PlainModule) (m : PlainModule) (a b : List Spot) → first_told rows text m (a ++ b) ≡ option_or (first_told rows text m a) (first_told rows text m b)
-first_told-append rows text m a b = ap first_of (flat_map-append (rows text m) a b) ∙ first_of-append (flat_map (rows text m) a) (flat_map (rows text m) b)
+pub first_reported-append : (rows : Rows) (text : List PlainModule) (m : PlainModule) (a b : List Site) → first_reported rows text m (a ++ b) ≡ option_or (first_reported rows text m a) (first_reported rows text m b)
+first_reported-append rows text m a b = ap first_of (flat_map-append (rows text m) a b) ∙ first_of-append (flat_map (rows text m) a) (flat_map (rows text m) b)
 
-slot : (rows : Rows) (text : List PlainModule) (m : PlainModule) (x : Option (List ℕ)) (a b : List Spot)
-    → option_or (option_or x (first_told rows text m a)) (first_told rows text m b) ≡ option_or x (first_told rows text m (a ++ b))
-slot rows text m x a b = option_or-assoc x (first_told rows text m a) (first_told rows text m b) ∙ ap (option_or x) (sym (first_told-append rows text m a b))
+slot : (rows : Rows) (text : List PlainModule) (m : PlainModule) (x : Option (List ℕ)) (a b : List Site)
+    → option_or (option_or x (first_reported rows text m a)) (first_reported rows text m b) ≡ option_or x (first_reported rows text m (a ++ b))
+slot rows text m x a b = option_or-assoc x (first_reported rows text m a) (first_reported rows text m b) ∙ ap (option_or x) (sym (first_reported-append rows text m a b))
 
-pub noted-append : (text : List PlainModule) (m : PlainModule) (f : Found) (a b : List Spot) → noted text m (noted text m f a) b ≡ noted text m f (a ++ b)
+pub noted-append : (text : List PlainModule) (m : PlainModule) (f : Found) (a b : List Site) → noted text m (noted text m f a) b ≡ noted text m f (a ++ b)
 noted-append text m f a b = found-same (slot twice text m f.twice a b) (slot unknown text m f.unknown a b) (slot wrong_select text m f.select a b) (slot wrong_width text m f.width a b) (slot wrong_role text m f.role a b)
 
 pub noted-none : (text : List PlainModule) (m : PlainModule) (f : Found) → noted text m f [] ≡ f
 noted-none text m f = found-same (option_or-none f.twice) (option_or-none f.unknown) (option_or-none f.select) (option_or-none f.width) (option_or-none f.role)
 
 -- two steps in turn
-pub noted-then : (text : List PlainModule) (m : PlainModule) (f mid new : Found) (a b : List Spot) → mid ≡ noted text m f a → new ≡ noted text m mid b → new ≡ noted text m f (a ++ b)
+pub noted-then : (text : List PlainModule) (m : PlainModule) (f mid new : Found) (a b : List Site) → mid ≡ noted text m f a → new ≡ noted text m mid b → new ≡ noted text m f (a ++ b)
 noted-then text m f mid new a b first second = second ∙ ap (λ z. noted text m z b) first ∙ noted-append text m f a b
 
 -- a loop over a list that is seen through a function
@@ -61,13 +61,13 @@ seen-all v xs i past = ap (map v) (take_all i xs past)
 pub flat_map-push : {X Y : Type 0} (g : X → List Y) (xs : List X) (x : X) → flat_map g (xs ++ x ∷ []) ≡ flat_map g xs ++ g x
 flat_map-push g xs x = flat_map-append g xs (x ∷ []) ∙ ap (λ z. flat_map g xs ++ z) (append-nil (g x))
 
-pub noted-turn : {X Y : Type 0} (text : List PlainModule) (m : PlainModule) (g : Y → List Spot) (v : X → Y) (xs : List X) (i : ℕ) (x : X) (f mid new : Found)
+pub noted-turn : {X Y : Type 0} (text : List PlainModule) (m : PlainModule) (g : Y → List Site) (v : X → Y) (xs : List X) (i : ℕ) (x : X) (f mid new : Found)
     → i < length xs → x ≡ get_or xs i x → mid ≡ noted text m f (flat_map g (map v (take i xs))) → new ≡ noted text m mid (g (v x)) → new ≡ noted text m f (flat_map g (map v (take (i + 1) xs)))
 noted-turn text m g v xs i x f mid new within at before step =
     noted-then text m f mid new (flat_map g (map v (take i xs))) (g (v x)) before step
     ∙ ap (noted text m f) (sym (ap (flat_map g) (seen-more v xs i x within at) ∙ flat_map-push g (map v (take i xs)) (v x)))
 
-pub noted-all : {X Y : Type 0} (text : List PlainModule) (m : PlainModule) (g : Y → List Spot) (v : X → Y) (xs : List X) (i : ℕ) (f new : Found)
+pub noted-all : {X Y : Type 0} (text : List PlainModule) (m : PlainModule) (g : Y → List Site) (v : X → Y) (xs : List X) (i : ℕ) (f new : Found)
     → length xs ≤ i → new ≡ noted text m f (flat_map g (map v (take i xs))) → new ≡ noted text m f (flat_map g (map v xs))
 noted-all text m g v xs i f new past here = here ∙ ap (λ z. noted text m f (flat_map g z)) (seen-all v xs i past)
 
@@ -81,25 +81,25 @@ each_from-append gives before (x ∷ xs) ys =
 pub each_from-push : {A B : Type 0} (gives : List A → A → List B) (before xs : List A) (x : A) → each_from gives before (xs ++ x ∷ []) ≡ each_from gives before xs ++ gives (before ++ xs) x
 each_from-push gives before xs x = each_from-append gives before xs (x ∷ []) ∙ ap (λ z. each_from gives before xs ++ z) (append-nil (gives (before ++ xs) x))
 
--- one name or word that is told or not
-pub told-one : (b : Bool) (n : List ℕ) → first_of (told_if b n ++ []) ≡ (if b then Some n else None)
-told-one true n = refl
-told-one false n = refl
+-- one name or word that is reported or not
+pub reported-one : (b : Bool) (n : List ℕ) → first_of (reported_if b n ++ []) ≡ (if b then Some n else None)
+reported-one true n = refl
+reported-one false n = refl
 
--- a spot of which names are told: its rows one by one
-pub noted-one : (text : List PlainModule) (m : PlainModule) (f : Found) (spot : Spot) (t u s w r : Option (List ℕ))
-    → t ≡ option_or f.twice (first_of (twice text m spot ++ [])) → u ≡ option_or f.unknown (first_of (unknown text m spot ++ [])) → s ≡ option_or f.select (first_of (wrong_select text m spot ++ []))
-    → w ≡ option_or f.width (first_of (wrong_width text m spot ++ [])) → r ≡ option_or f.role (first_of (wrong_role text m spot ++ [])) → found_of t u s w r ≡ noted text m f (spot ∷ [])
-noted-one text m f spot t u s w r a b c d e = found-same a b c d e
+-- a site of which names are reported: its rows one by one
+pub noted-one : (text : List PlainModule) (m : PlainModule) (f : Found) (site : Site) (t u s w r : Option (List ℕ))
+    → t ≡ option_or f.twice (first_of (twice text m site ++ [])) → u ≡ option_or f.unknown (first_of (unknown text m site ++ [])) → s ≡ option_or f.select (first_of (wrong_select text m site ++ []))
+    → w ≡ option_or f.width (first_of (wrong_width text m site ++ [])) → r ≡ option_or f.role (first_of (wrong_role text m site ++ [])) → found_of t u s w r ≡ noted text m f (site ∷ [])
+noted-one text m f site t u s w r a b c d e = found-same a b c d e
 
--- nothing is told of an expression as a whole but its width
-pub noted-whole : (text : List PlainModule) (m : PlainModule) (f mid : Found) (e : Expression) (inner : List Spot) (w : Option (List ℕ)) → mid ≡ noted text m f inner
-    → w ≡ option_or f.width (option_or (first_of (wrong_width text m (Whole e))) (first_told wrong_width text m inner)) → found_of mid.twice mid.unknown mid.select w mid.role ≡ noted text m f (Whole e ∷ inner)
+-- nothing is reported of an expression as a whole but its width
+pub noted-whole : (text : List PlainModule) (m : PlainModule) (f mid : Found) (e : Expression) (inner : List Site) (w : Option (List ℕ)) → mid ≡ noted text m f inner
+    → w ≡ option_or f.width (option_or (first_of (wrong_width text m (Whole e))) (first_reported wrong_width text m inner)) → found_of mid.twice mid.unknown mid.select w mid.role ≡ noted text m f (Whole e ∷ inner)
 noted-whole text m f mid e inner w before width =
     found-same (ap (λ z. z.twice) before) (ap (λ z. z.unknown) before) (ap (λ z. z.select) before)
     (width ∙ ap (option_or f.width) (sym (first_of-append (wrong_width text m (Whole e)) (flat_map (wrong_width text m) inner)))) (ap (λ z. z.role) before)
 
--- a word that stands to the left
+-- a word that is to the left
 pub put-left : (o word inner mid new : Option (List ℕ)) → mid ≡ option_or o inner → is_none o ≡ true → new ≡ option_or word mid → new ≡ option_or o (option_or word inner)
 put-left None word inner mid new before none put = put ∙ ap (option_or word) before
 put-left (Some x) word inner mid new before none put = absurd (grind (arith, none))
@@ -110,57 +110,57 @@ kept-left (Some x) word inner mid before none = before
 
 -- a part: a plain number first
 pub noted-part : (text : List PlainModule) (m : PlainModule) (f : Found) (how : Use) (e : Expression) (b : Bool) (w : Option (List ℕ)) (new : Found) → is_plain e ≡ b
-    → w ≡ option_or f.width (if b then Some (codes "decimal") else None) → new ≡ noted text m (record f { width = w }) (spots_in how e) → new ≡ noted text m f (spots_of_part how e)
+    → w ≡ option_or f.width (if b then Some (codes "decimal") else None) → new ≡ noted text m (record f { width = w }) (sites_in how e) → new ≡ noted text m f (sites_of_part how e)
 noted-part text m f how e true w new is put step =
-    step ∙ ap (λ z. noted text m z (spots_in how e)) (found-same (sym (option_or-none f.twice)) (sym (option_or-none f.unknown)) (sym (option_or-none f.select)) put (sym (option_or-none f.role)))
-    ∙ noted-append text m f (Number ∷ []) (spots_in how e) ∙ ap (λ c. noted text m f (if c then Number ∷ spots_in how e else spots_in how e)) (sym is)
+    step ∙ ap (λ z. noted text m z (sites_in how e)) (found-same (sym (option_or-none f.twice)) (sym (option_or-none f.unknown)) (sym (option_or-none f.select)) put (sym (option_or-none f.role)))
+    ∙ noted-append text m f (Number ∷ []) (sites_in how e) ∙ ap (λ c. noted text m f (if c then Number ∷ sites_in how e else sites_in how e)) (sym is)
 noted-part text m f how e false w new is put step =
-    step ∙ ap (λ z. noted text m z (spots_in how e)) (found-same refl refl refl (put ∙ option_or-none f.width) refl) ∙ ap (λ c. noted text m f (if c then Number ∷ spots_in how e else spots_in how e)) (sym is)
+    step ∙ ap (λ z. noted text m z (sites_in how e)) (found-same refl refl refl (put ∙ option_or-none f.width) refl) ∙ ap (λ c. noted text m f (if c then Number ∷ sites_in how e else sites_in how e)) (sym is)
 
--- a word about a width before all that stands in an expression
-pub noted-wide : (text : List PlainModule) (m : PlainModule) (f mid : Found) (width wanted : ℕ) (word : List ℕ) (spots : List Spot) (w : Option (List ℕ)) → mid ≡ noted text m f spots
-    → w ≡ option_or f.width (option_or (first_of (told_if (not (width == wanted)) word)) (first_told wrong_width text m spots)) → found_of mid.twice mid.unknown mid.select w mid.role ≡ noted_width text m f width wanted word spots
-noted-wide text m f mid width wanted word spots w before put =
+-- a word about a width before all that is in an expression
+pub noted-wide : (text : List PlainModule) (m : PlainModule) (f mid : Found) (width wanted : ℕ) (word : List ℕ) (sites : List Site) (w : Option (List ℕ)) → mid ≡ noted text m f sites
+    → w ≡ option_or f.width (option_or (first_of (reported_if (not (width == wanted)) word)) (first_reported wrong_width text m sites)) → found_of mid.twice mid.unknown mid.select w mid.role ≡ noted_width text m f width wanted word sites
+noted-wide text m f mid width wanted word sites w before put =
     found-same (ap (λ z. z.twice) before) (ap (λ z. z.unknown) before) (ap (λ z. z.select) before)
-    (put ∙ sym (option_or-assoc f.width (first_of (told_if (not (width == wanted)) word)) (first_told wrong_width text m spots))) (ap (λ z. z.role) before)
+    (put ∙ sym (option_or-assoc f.width (first_of (reported_if (not (width == wanted)) word)) (first_reported wrong_width text m sites))) (ap (λ z. z.role) before)
 
 -- a loop in which each element is looked at after the earlier ones
-pub each-turn : {X Y : Type 0} (text : List PlainModule) (m : PlainModule) (gives : List Y → Y → List Spot) (v : X → Y) (xs : List X) (i : ℕ) (x : X) (f mid new : Found)
+pub each-turn : {X Y : Type 0} (text : List PlainModule) (m : PlainModule) (gives : List Y → Y → List Site) (v : X → Y) (xs : List X) (i : ℕ) (x : X) (f mid new : Found)
     → i < length xs → x ≡ get_or xs i x → mid ≡ noted text m f (each_from gives [] (map v (take i xs))) → new ≡ noted text m mid (gives (map v (take i xs)) (v x)) → new ≡ noted text m f (each_from gives [] (map v (take (i + 1) xs)))
 each-turn text m gives v xs i x f mid new within at before step =
     noted-then text m f mid new (each_from gives [] (map v (take i xs))) (gives (map v (take i xs)) (v x)) before step
     ∙ ap (noted text m f) (sym (ap (each_from gives []) (seen-more v xs i x within at) ∙ each_from-push gives [] (map v (take i xs)) (v x)))
 
-pub each-all : {X Y : Type 0} (text : List PlainModule) (m : PlainModule) (gives : List Y → Y → List Spot) (v : X → Y) (xs : List X) (i : ℕ) (f new : Found)
+pub each-all : {X Y : Type 0} (text : List PlainModule) (m : PlainModule) (gives : List Y → Y → List Site) (v : X → Y) (xs : List X) (i : ℕ) (f new : Found)
     → length xs ≤ i → new ≡ noted text m f (each_from gives [] (map v (take i xs))) → new ≡ noted text m f (each_from gives [] (map v xs))
 each-all text m gives v xs i f new past here = here ∙ ap (λ z. noted text m f (each_from gives [] z)) (seen-all v xs i past)
 
 -- one declaration alone
-pub spots-alone : (before : List Declaration) (d : Declaration) → declared_spots before (d ∷ []) ≡ DeclaredSpot before d ∷ []
-spots-alone before d = ap (λ b. DeclaredSpot b d ∷ []) (append-nil before)
+pub sites-alone : (before : List Declaration) (d : Declaration) → declared_sites before (d ∷ []) ≡ DeclaredSite before d ∷ []
+sites-alone before d = ap (λ b. DeclaredSite b d ∷ []) (append-nil before)
 
 first-nil : {A : Type 0} (xs : List A) → first_of (xs ++ []) ≡ first_of xs
 first-nil xs = ap first_of (append-nil xs)
 
--- a spot of which a width and a role are told, before all that stands in an expression
-pub noted-widely : (text : List PlainModule) (m : PlainModule) (f : Found) (spot : Spot) (r : Option (List ℕ)) (width wanted : ℕ) (word : List ℕ) (spots : List Spot) (new : Found)
-    → twice text m spot ≡ [] → unknown text m spot ≡ [] → wrong_select text m spot ≡ [] → first_of (told_if (not (width == wanted)) word) ≡ first_of (wrong_width text m spot)
-    → r ≡ option_or f.role (first_of (wrong_role text m spot)) → new ≡ noted_width text m (record f { role = r }) width wanted word spots → new ≡ noted text m f (spot ∷ spots)
-noted-widely text m f spot r width wanted word spots new none-twice none-unknown none-select told role step =
-    step ∙ ap (λ z. noted text m z spots) (noted-one text m f spot _ _ _ _ _
+-- a site of which a width and a role are reported, before all that is in an expression
+pub noted-widely : (text : List PlainModule) (m : PlainModule) (f : Found) (site : Site) (r : Option (List ℕ)) (width wanted : ℕ) (word : List ℕ) (sites : List Site) (new : Found)
+    → twice text m site ≡ [] → unknown text m site ≡ [] → wrong_select text m site ≡ [] → first_of (reported_if (not (width == wanted)) word) ≡ first_of (wrong_width text m site)
+    → r ≡ option_or f.role (first_of (wrong_role text m site)) → new ≡ noted_width text m (record f { role = r }) width wanted word sites → new ≡ noted text m f (site ∷ sites)
+noted-widely text m f site r width wanted word sites new none-twice none-unknown none-select reported role step =
+    step ∙ ap (λ z. noted text m z sites) (noted-one text m f site _ _ _ _ _
     (sym (ap (λ z. option_or f.twice (first_of (z ++ []))) none-twice ∙ option_or-none f.twice))
     (sym (ap (λ z. option_or f.unknown (first_of (z ++ []))) none-unknown ∙ option_or-none f.unknown))
     (sym (ap (λ z. option_or f.select (first_of (z ++ []))) none-select ∙ option_or-none f.select))
-    (ap (option_or f.width) (told ∙ sym (first-nil (wrong_width text m spot))))
-    (role ∙ ap (option_or f.role) (sym (first-nil (wrong_role text m spot)))))
-    ∙ noted-append text m f (spot ∷ []) spots
+    (ap (option_or f.width) (reported ∙ sym (first-nil (wrong_width text m site))))
+    (role ∙ ap (option_or f.role) (sym (first-nil (wrong_role text m site)))))
+    ∙ noted-append text m f (site ∷ []) sites
 
 -- a loop over a list with its places
 enumerate-push : {A : Type 0} (j : ℕ) (xs : List A) (x : A) → enumerate_from j (xs ++ x ∷ []) ≡ enumerate_from j xs ++ (j + length xs, x) ∷ []
 enumerate-push j [] x = ap (λ k. (k, x) ∷ []) {x = j} {y = j + 0} (omega arith)
 enumerate-push j (y ∷ ys) x = ap (λ z. (j, y) ∷ z) (enumerate-push (j + 1) ys x ∙ ap (λ k. enumerate_from (j + 1) ys ++ (k, x) ∷ []) {x = (j + 1) + length ys} {y = j + length (y ∷ ys)} (omega arith))
 
-pub place-turn : {X Y : Type 0} (text : List PlainModule) (m : PlainModule) (g : ℕ × Y → List Spot) (v : X → Y) (xs : List X) (i : ℕ) (x : X) (f mid new : Found)
+pub place-turn : {X Y : Type 0} (text : List PlainModule) (m : PlainModule) (g : ℕ × Y → List Site) (v : X → Y) (xs : List X) (i : ℕ) (x : X) (f mid new : Found)
     → i < length xs → x ≡ get_or xs i x → mid ≡ noted text m f (flat_map g (enumerate_from 0 (map v (take i xs)))) → new ≡ noted text m mid (g (i, v x)) → new ≡ noted text m f (flat_map g (enumerate_from 0 (map v (take (i + 1) xs))))
 place-turn text m g v xs i x f mid new within at before step =
     noted-then text m f mid new (flat_map g (enumerate_from 0 (map v (take i xs)))) (g (i, v x)) before step
@@ -186,11 +186,11 @@ same-more keys names new n same put q = ap (has_name q) put ∙ by (has_name n k
     by true e = ap (λ b. has_name q (if b then keys else keys ++ n ∷ [])) e ∙ there e (same_name q n) refl
     by false e = ap (λ b. has_name q (if b then keys else keys ++ n ∷ [])) e ∙ list_any-append (same_name q) keys (n ∷ []) ∙ ap (λ b. b || (same_name q n || false)) (same q)
 
-pub told-alone : (b : Bool) (n : List ℕ) → first_of (told_if b n) ≡ (if b then Some n else None)
-told-alone true n = refl
-told-alone false n = refl
+pub reported-alone : (b : Bool) (n : List ℕ) → first_of (reported_if b n) ≡ (if b then Some n else None)
+reported-alone true n = refl
+reported-alone false n = refl
 
-pub place-all : {X Y : Type 0} (text : List PlainModule) (m : PlainModule) (g : ℕ × Y → List Spot) (v : X → Y) (xs : List X) (i : ℕ) (f new : Found)
+pub place-all : {X Y : Type 0} (text : List PlainModule) (m : PlainModule) (g : ℕ × Y → List Site) (v : X → Y) (xs : List X) (i : ℕ) (f new : Found)
     → length xs ≤ i → new ≡ noted text m f (flat_map g (enumerate_from 0 (map v (take i xs)))) → new ≡ noted text m f (flat_map g (enumerate_from 0 (map v xs)))
 place-all text m g v xs i f new past here = here ∙ ap (λ z. noted text m f (flat_map g (enumerate_from 0 z))) (seen-all v xs i past)
 
@@ -198,7 +198,7 @@ place-all text m g v xs i f new past here = here ∙ ap (λ z. noted text m f (f
 pub placed-row : (text : List PlainModule) (m : PlainModule) (to : Option PlainModule) (n : List ℕ) (count : ℕ)
     → first_of (wrong_role text m (Placed to n count) ++ []) ≡ (if option_map_or (λ t. nat_lt (length t.heads) count) to false then Some n else None)
 placed-row text m None n count = refl
-placed-row text m (Some t) n count = told-one (nat_lt (length t.heads) count) n
+placed-row text m (Some t) n count = reported-one (nat_lt (length t.heads) count) n
 
 pub is_none-map : {A B : Type 0} (f : A → B) (o : Option A) → is_none (option_map f o) ≡ is_none o
 is_none-map f None = refl
@@ -244,22 +244,22 @@ drop-map f (suc n) [] = refl
 drop-map f (suc n) (x ∷ xs) = drop-map f n xs
 
 pub gate-split : (gate : Gate) (xs : List Expr) (k : ℕ) → k ≡ min (output_count gate (length xs)) (length xs)
-    → flat_map (terminal_spots gate true) (map expression (take k xs)) ++ flat_map (terminal_spots gate false) (map expression (drop k xs)) ≡ gate_spots gate (map expression xs)
+    → flat_map (terminal_sites gate true) (map expression (take k xs)) ++ flat_map (terminal_sites gate false) (map expression (drop k xs)) ≡ gate_sites gate (map expression xs)
 gate-split gate xs k least =
     let n = output_count gate (length xs) in
-    ap₂ (λ a b. flat_map (terminal_spots gate true) (map expression a) ++ flat_map (terminal_spots gate false) (map expression b)) (ap (λ z. take z xs) least ∙ (split-least n xs).0) (ap (λ z. drop z xs) least ∙ (split-least n xs).1)
-    ∙ ap₂ (λ a b. flat_map (terminal_spots gate true) a ++ flat_map (terminal_spots gate false) b) (sym (take-map expression n xs)) (sym (drop-map expression n xs))
-    ∙ ap (λ z. flat_map (terminal_spots gate true) (take (output_count gate z) (map expression xs)) ++ flat_map (terminal_spots gate false) (drop (output_count gate z) (map expression xs))) (sym (length-map xs expression))
+    ap₂ (λ a b. flat_map (terminal_sites gate true) (map expression a) ++ flat_map (terminal_sites gate false) (map expression b)) (ap (λ z. take z xs) least ∙ (split-least n xs).0) (ap (λ z. drop z xs) least ∙ (split-least n xs).1)
+    ∙ ap₂ (λ a b. flat_map (terminal_sites gate true) a ++ flat_map (terminal_sites gate false) b) (sym (take-map expression n xs)) (sym (drop-map expression n xs))
+    ∙ ap (λ z. flat_map (terminal_sites gate true) (take (output_count gate z) (map expression xs)) ++ flat_map (terminal_sites gate false) (drop (output_count gate z) (map expression xs))) (sym (length-map xs expression))
 
--- a spot of which nothing is told
-pub noted-silent : (text : List PlainModule) (m : PlainModule) (f : Found) (spot : Spot) (spots : List Spot) → twice text m spot ≡ [] → unknown text m spot ≡ [] → wrong_select text m spot ≡ [] → wrong_width text m spot ≡ [] → wrong_role text m spot ≡ []
-    → noted text m f spots ≡ noted text m f (spot ∷ spots)
-noted-silent text m f spot spots a b c d e = found-same
-    (ap (λ z. option_or f.twice (first_of (z ++ flat_map (twice text m) spots))) (sym a)) (ap (λ z. option_or f.unknown (first_of (z ++ flat_map (unknown text m) spots))) (sym b))
-    (ap (λ z. option_or f.select (first_of (z ++ flat_map (wrong_select text m) spots))) (sym c)) (ap (λ z. option_or f.width (first_of (z ++ flat_map (wrong_width text m) spots))) (sym d))
-    (ap (λ z. option_or f.role (first_of (z ++ flat_map (wrong_role text m) spots))) (sym e))
+-- a site of which nothing is reported
+pub noted-silent : (text : List PlainModule) (m : PlainModule) (f : Found) (site : Site) (sites : List Site) → twice text m site ≡ [] → unknown text m site ≡ [] → wrong_select text m site ≡ [] → wrong_width text m site ≡ [] → wrong_role text m site ≡ []
+    → noted text m f sites ≡ noted text m f (site ∷ sites)
+noted-silent text m f site sites a b c d e = found-same
+    (ap (λ z. option_or f.twice (first_of (z ++ flat_map (twice text m) sites))) (sym a)) (ap (λ z. option_or f.unknown (first_of (z ++ flat_map (unknown text m) sites))) (sym b))
+    (ap (λ z. option_or f.select (first_of (z ++ flat_map (wrong_select text m) sites))) (sym c)) (ap (λ z. option_or f.width (first_of (z ++ flat_map (wrong_width text m) sites))) (sym d))
+    (ap (λ z. option_or f.role (first_of (z ++ flat_map (wrong_role text m) sites))) (sym e))
 
--- a clock, whose first name is told
+-- a clock, whose first name is reported
 clock-row : {A : Type 0} (b : Bool) (xs : List A) → first_of xs ≡ None → (if b then [] else xs) ≡ []
 clock-row true xs h = refl
 clock-row false [] h = refl
@@ -268,6 +268,6 @@ clock-row false (x ∷ xs) h = absurd (grind (arith, h))
 pub clock-silent : (text : List PlainModule) (m : PlainModule) (e : Expression) → first_of (names_in e) ≡ None → wrong_width text m (Clock e) ≡ []
 clock-silent text m e h = clock-row (width_in m e == 1) (names_in e) h
 
-pub clock-told : (b : Bool) (n : List ℕ) (names : List (List ℕ)) → first_of names ≡ Some n → first_of (told_if (not b) n) ≡ first_of (if b then [] else names)
-clock-told true n names h = refl
-clock-told false n names h = sym h
+pub clock-reported : (b : Bool) (n : List ℕ) (names : List (List ℕ)) → first_of names ≡ Some n → first_of (reported_if (not b) n) ≡ first_of (if b then [] else names)
+clock-reported true n names h = refl
+clock-reported false n names h = sym h

@@ -1,4 +1,4 @@
--- Names that are added once, one after another, are the list of each where it stands first.
+-- Names that are added once, one after another, are the list of each where it is first.
 use Rattle.std.proofs.Common.{◌≡◌, ℕ, ◌+◌, ◌<◌, ◌≤◌, length, take, map, get_or, Bool, true, false, cond, not, ◌||◌, ◌&&◌, List, [], ◌∷◌, ◌++◌, refl, sym, ap, ◌∙◌, append_assoc, append-nil, filter, if◌then◌else◌}
 use Rattle.std.proofs.lemmas.Grind.{fold-append}
 use Rattle.std.proofs.lemmas.List.Elements.{filter-append}
@@ -87,8 +87,8 @@ grown-then entries old mid new xs ys first second =
 
 pub grown-once : (entries : List (List ℕ × Summary)) (declared : List ℕ → Bool) (names : List (List ℕ)) → ((n : List ℕ) → is_some (lookup (same_name n) entries) ≡ declared n)
     → grown entries [] names ≡ once (filter (λ n. not (declared n)) names)
-grown-once entries declared names tells =
-    all_added-new (filter (λ n. is_none (lookup (same_name n) entries)) names) ∙ ap once (filter-same (λ n. is_none (lookup (same_name n) entries)) (λ n. not (declared n)) names (λ n. ap not (tells n)))
+grown-once entries declared names reports =
+    all_added-new (filter (λ n. is_none (lookup (same_name n) entries)) names) ∙ ap once (filter-same (λ n. is_none (lookup (same_name n) entries)) (λ n. not (declared n)) names (λ n. ap not (reports n)))
 
 -- a loop over a list that is seen through a function
 pub grown-turn : {X Y : Type 0} (entries : List (List ℕ × Summary)) (g : Y → List (List ℕ)) (v : X → Y) (xs : List X) (i : ℕ) (x : X) (old mid new : List (List ℕ))

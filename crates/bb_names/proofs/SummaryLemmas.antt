@@ -13,7 +13,7 @@ use Rattle.bb_names.specs.declared.summary.Ranges.TheVariants.{NoRange}
 use Rattle.bb_names.specs.declared.summary.Summary.{Summary}
 use Rattle.bb_names.specs.Declarations.{Declaration}
 use Rattle.bb_names.specs.Faults.{declares_supply}
-use Rattle.bb_names.specs.Inside.Summaries.{named, Tells, plain_ranges, IsSummary, Describes}
+use Rattle.bb_names.specs.Inside.Summaries.{named, Reports, plain_ranges, IsSummary, Describes}
 use Rattle.bb_names.proofs.Searches.{find-other, find-this, any-push, any-other, any-this, found-any, first_said-push}
 
 pub same_equal : (a b : List ℕ) → same_name a b ≡ true → a ≡ b
@@ -40,7 +40,7 @@ summary-other n all s d miss h = record {
   dir = h.dir ∙ sym (ap (option_and_then (λ x. x.dir)) (find-other (λ x. same_name x.name n && is_some x.dir) all d (and-false _ (is_some d.dir) miss)));
   kind = h.kind ∙ sym (ap (option_and_then (λ x. x.kind)) (find-other (λ x. same_name x.name n && is_some x.kind) all d (and-false _ (is_some d.kind) miss)));
   instances = h.instances ∙ sym (any-other (λ x. same_name x.name n && x.instance) all d (and-false _ d.instance miss));
-  ranges = subst (Tells (option_map_or (λ x. x.ranges) s NoRange)) (sym (plain-other n all d miss)) h.ranges;
+  ranges = subst (Reports (option_map_or (λ x. x.ranges) s NoRange)) (sym (plain-other n all d miss)) h.ranges;
 }
 
 -- a declaration of this name
@@ -66,9 +66,9 @@ first_none n all miss = by (find (λ x. same_name x.name n) all) refl
     by None e = e
     by (Some x) e = grind (arith, miss, found-any (λ x. same_name x.name n) all, e)
 
-pub joined_first : (n : List ℕ) (all : List Declaration) (d : DeclaredAs) (ranges : Ranges) → Tells ranges (plain_ranges n all ++ (if declares_supply (named n d) then [] else d.range ∷ []))
+pub joined_first : (n : List ℕ) (all : List Declaration) (d : DeclaredAs) (ranges : Ranges) → Reports ranges (plain_ranges n all ++ (if declares_supply (named n d) then [] else d.range ∷ []))
     → IsSummary n all None → IsSummary n (all ++ named n d ∷ []) (Some (record { range = d.range; instance = d.instance; dir = d.dir; kind = d.kind; instances = d.instance; ranges = ranges }))
-joined_first n all d ranges tells h =
+joined_first n all d ranges reports h =
     let hit = same_self n in
     let first = first-range n all (named n d) None (first_none n all h.declared) hit in
     record {
@@ -78,7 +78,7 @@ joined_first n all d ranges tells h =
       dir = sym (first_said-push (λ x. same_name x.name n) (λ x. x.dir) all (named n d) ∙ ap (λ o. option_or o (if same_name n n then d.dir else None)) (sym h.dir) ∙ ap (λ b. if b then d.dir else None) hit);
       kind = sym (first_said-push (λ x. same_name x.name n) (λ x. x.kind) all (named n d) ∙ ap (λ o. option_or o (if same_name n n then d.kind else None)) (sym h.kind) ∙ ap (λ b. if b then d.kind else None) hit);
       instances = sym (any-push (λ x. same_name x.name n && x.instance) all (named n d) ∙ ap (λ b. b || (same_name n n && d.instance)) (sym h.instances) ∙ ap (λ b. b && d.instance) hit);
-      ranges = subst (Tells ranges) (sym (plain-this n all (named n d) hit)) tells;
+      ranges = subst (Reports ranges) (sym (plain-this n all (named n d) hit)) reports;
     }
 
 pub first_some : (n : List ℕ) (all : List Declaration) → true ≡ list_any (λ x. same_name x.name n) all → (x : Declaration) × (find (λ x. same_name x.name n) all ≡ Some x)
@@ -88,9 +88,9 @@ first_some n all there = by (find (λ x. same_name x.name n) all) refl
     by None e = absurd (grind (arith, there, found-any (λ x. same_name x.name n) all, e))
     by (Some x) e = (x, e)
 
-pub joined_more : (n : List ℕ) (all : List Declaration) (s : Summary) (d : DeclaredAs) (ranges : Ranges) → Tells ranges (plain_ranges n all ++ (if declares_supply (named n d) then [] else d.range ∷ []))
+pub joined_more : (n : List ℕ) (all : List Declaration) (s : Summary) (d : DeclaredAs) (ranges : Ranges) → Reports ranges (plain_ranges n all ++ (if declares_supply (named n d) then [] else d.range ∷ []))
     → IsSummary n all (Some s) → IsSummary n (all ++ named n d ∷ []) (Some (record { range = s.range; instance = s.instance; dir = option_or s.dir d.dir; kind = option_or s.kind d.kind; instances = s.instances || d.instance; ranges = ranges }))
-joined_more n all s d ranges tells h =
+joined_more n all s d ranges reports h =
     let hit = same_self n in
     let some = first_some n all h.declared in
     let first = first-range n all (named n d) (Some some.0) some.1 hit in
@@ -101,7 +101,7 @@ joined_more n all s d ranges tells h =
       dir = sym (first_said-push (λ x. same_name x.name n) (λ x. x.dir) all (named n d) ∙ ap (λ o. option_or o (if same_name n n then d.dir else None)) (sym h.dir) ∙ ap (λ b. option_or s.dir (if b then d.dir else None)) hit);
       kind = sym (first_said-push (λ x. same_name x.name n) (λ x. x.kind) all (named n d) ∙ ap (λ o. option_or o (if same_name n n then d.kind else None)) (sym h.kind) ∙ ap (λ b. option_or s.kind (if b then d.kind else None)) hit);
       instances = sym (any-push (λ x. same_name x.name n && x.instance) all (named n d) ∙ ap (λ b. b || (same_name n n && d.instance)) (sym h.instances) ∙ ap (λ b. s.instances || (b && d.instance)) hit);
-      ranges = subst (Tells ranges) (sym (plain-this n all (named n d) hit)) tells;
+      ranges = subst (Reports ranges) (sym (plain-this n all (named n d) hit)) reports;
     }
 
 -- the entries with what is said of one name more

@@ -1,4 +1,4 @@
--- Widths as far as 64 bits tell them.
+-- Widths as far as 64 bits say them.
 use Rattle.std.proofs.Common.{◌≡◌, ℕ, zero, suc, ◌+◌, ◌*◌, ◌<◌, ◌≤◌, ◌-◌, ◌^◌, List, [], ◌∷◌, ◌++◌, length, take, map, get_or, sym, ap, ap₂, ◌∙◌, arith, inl, inr}
 use Rattle.std.proofs.lemmas.Grind.{common_steps}
 use Rattle.std.proofs.lemmas.List.{map-append}
@@ -61,7 +61,7 @@ saturated-times a r x k f h = h ∙ ap (λ p. saturated (p * k)) f ∙ most-time
 saturated-one : (r : ℕ) → r ≡ 1 → r ≡ saturated 1
 saturated-one r h = omega (arith, h)
 
--- an operator on words whose operands are as wide as 64 bits tell
+-- an operator on words whose operands are as wide as 64 bits say
 pub saturated-operator : (op : WordOp) (a b r x y : ℕ) → a ≡ saturated x → b ≡ saturated y → r ≡ operator_width op a b → r ≡ saturated (operator_width op x y)
 saturated-operator ops.Plus a b r x y f g h = saturated-max a b r x y f g h
 saturated-operator ops.Minus a b r x y f g h = saturated-max a b r x y f g h

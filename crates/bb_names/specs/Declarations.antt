@@ -1,6 +1,6 @@
 -- What the declarations of a module say of a name (IEEE 1364-2005, 4.2, 4.11 and 12.3, in a profile). A declaration
--- counts for the module as a whole, also for what stands earlier; where a name is declared twice, the first declaration counts. An
--- undeclared name in a gate's terminal, in a connection or on the left of assign is a wire of one bit (4.5).
+-- counts for the module as a whole, also for uses before it; where a name is declared twice, the first declaration
+-- counts. An undeclared name in a gate's terminal, in a connection or on the left of assign is a wire of one bit (4.5).
 use Rattle.std.specs.Prelude.{ℕ, Bool, true, false, not, ◌&&◌, ◌||◌, if◌then◌else◌, List, [], ◌++◌, map, Option, Some, None, option_map, option_to_list, is_some, unwrap_or}
 use Rattle.std.specs.List.{find, filter, flat_map, list_any}
 use Rattle.std.specs.Option.{option_and_then, option_map_or}
@@ -102,7 +102,7 @@ implicit_places (Gates gate all) = flat_map (λ x. flat_map names_in x.1) all
 implicit_places (Calls target calls) = flat_map (λ x. names_in_conns x.1) calls
 implicit_places body = []
 
--- the implicit wires of a module, each as often as it stands in such a place
+-- the implicit wires of a module, each as often as it is used at such a place
 abbrev pub implicit_names : PlainModule → List (List ℕ)
 implicit_names m = filter (λ n. not (is_declared m n)) (flat_map (λ item. implicit_places item.body) m.items)
 

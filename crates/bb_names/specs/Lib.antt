@@ -3,6 +3,6 @@ pub mod Faults
 pub mod Laws
 pub mod Nets
 pub mod Ranges
-pub mod Spots
+pub mod Sites
 pub mod Widths
 pub mod Inside

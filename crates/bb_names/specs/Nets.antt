@@ -1,5 +1,6 @@
--- The nets of a module in net order: the ports in the order of the header, then the other declared nets in text order, then the
--- implicit wires in the order in which they first stand in a terminal, in a connection or on the left of assign.
+-- The nets of a module in net order: the ports in the order of the header, then the other declared nets in text order,
+-- then the implicit wires in the order in which they are first used in a terminal, in a connection or on the left of
+-- assign.
 use Rattle.std.specs.Prelude.{ℕ, Bool, true, false, not, ◌&&◌, List, ◌++◌, map, is_none}
 use Rattle.std.specs.List.{filter, list_all}
 use Rattle.bb_ast.specs.Syntax.{PlainBody, Ports, Nets, Regs, PlainModule}
@@ -23,6 +24,6 @@ is_of_empty m (Nets range nets) = list_all (λ x. is_none x.1 && is_port m x.0) 
 is_of_empty m (Regs range names) = list_all (is_port m) names
 is_of_empty m body = false
 
--- a module is empty where it declares its ports and nothing else
+-- a module is a black box where it declares its ports and nothing else
 abbrev pub is_empty : PlainModule → Bool
 is_empty m = list_all (λ item. is_of_empty m item.body) m.items

@@ -1,7 +1,8 @@
--- The own width of an expression (IEEE 1364-2005, 5.4.1, table 5-22, in a profile): a net has its own, a select has as many
--- bits as it names, a sized number has its size and a plain one 32. The operands of ~ and of a chain and the branches of a
--- conditional are as wide as the widest, and so is a sum or a difference; a shift is as wide as its left operand, and a comparison,
--- a truth of words or a reduction has one bit. Parts stand side by side, a replication's so many times.
+-- The own width of an expression (IEEE 1364-2005, 5.4.1, table 5-22, in a profile): a net has its own, a select has as
+-- many bits as it names, a sized number has its size and a plain one 32. The operands of ~ and of a chain and the
+-- branches of a conditional are as wide as the widest, and so is a sum or a difference; a shift is as wide as its left
+-- operand, and a comparison, a truth of words or a reduction has one bit. The widths of parts are added, and a
+-- replication multiplies them.
 use Rattle.std.specs.Prelude.{ℕ, ◌+◌, ◌*◌, List, [], ◌∷◌, Option, map, fold, max, sum, length}
 use Rattle.bb_ast.specs.declared.module.Range.{Range}
 use Rattle.bb_ast.specs.declared.operators.WordOp.{WordOp}
@@ -61,7 +62,7 @@ pub record Operand (A : Type 0) : Type 0 where
 abbrev pub alone : {A : Type 0} → Operand A → A
 alone x = x.at x.width
 
--- A definition by width: a case answers a function of the width of its context, and sees of an operand its own width and what it
+-- A definition by width: a case gives a function of the width of its context, and sees of an operand its own width and what it
 -- gives at each width. So in `a & 3'd1` at width 8, a being a net of one bit, the case of a chain sees a with the width 1 and the
 -- number with the width 3, and takes both at 8; that of a conditional takes the condition by itself, at its own width.
 abbrev pub fold_at : {A : Type 0} → Ranges → Cases (Operand A) (ℕ → A) → Expression → ℕ → A
@@ -98,8 +99,8 @@ second_at ops.Right l r w = r
 second_at ops.Both l r w = r
 second_at ops.Either l r w = r
 
--- an operator on words, what stands left of it and its right operand as one operand: gives is told the operator, the widths at which
--- it takes both, what they give there, and the width of the context
+-- an operator on words, the operand left of it and its right operand as one operand: gives has the operator, the widths
+-- at which it takes both, what they give there, and the width of the context
 abbrev pub word_step : {A : Type 0} → (WordOp → ℕ → ℕ → A → A → ℕ → A) → Operand A → WordOp × Operand A → Operand A
 word_step gives left x = record {
   width = operator_width x.0 left.width x.1.width;

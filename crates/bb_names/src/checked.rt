@@ -1,4 +1,7 @@
-//! A source without faults: its modules with their nets.
+//! A source without faults. The nets are kept with it, since every later stage numbers bits by them, while the index
+//! that found the faults is dropped module by module. Of its text a checked module keeps that it is well formed and no
+//! larger than the longest text that is read, both said of syntax: so another reader, or syntax that was never text,
+//! serves as well.
 
 ghost use Rattle.std.specs.Prelude.{◌≡◌, ◌<◌, ◌^◌, length, map, IfOk};
 ghost use Rattle.bb_ast.specs.Inside.Views.{module_view};
@@ -16,7 +19,9 @@ use indexmap::IndexMap;
 use std::alloc::Global;
 use std::marker::Model;
 
-/// A module with its nets in net order, the place of each net by its name, and whether the module is empty.
+/// Net order: the ports in the order of the header, then the other declared nets in text order, then the implicit
+/// wires. `index` has the place of each net by its name; `empty` says that the module declares its ports and nothing
+/// else, which makes it a black box.
 #[derive(Drop)]
 pub struct CheckedModule {
     pub module: Module,
@@ -25,7 +30,7 @@ pub struct CheckedModule {
     pub empty: bool,
 }
 
-/// The modules of a source without faults, in the order of the source.
+/// In the order of the source.
 #[derive(Drop)]
 pub struct Checked {
     modules: Vec<CheckedModule>,
@@ -62,7 +67,6 @@ fn checked_module(alloc: Global, of: IndexedModule) -> Result<CheckedModule, NoM
 }
 
 impl Checked {
-    /// The modules of a source without faults.
     pub(crate) fn new(alloc: Global, source: IndexedSource) -> Result<Checked, NoMemory>
         requires read { AreFormedAndSmall (map module_view source) }
         requires sound { IsSound (map module_view source) }
@@ -75,7 +79,7 @@ impl Checked {
         Ok(Checked { modules })
     }
 
-    /// The modules, in the order of the source. Each is kept with its nets, and no rule on names is broken.
+    /// In the order of the source. Each has its nets, and no rule on names is broken.
     pub fn modules(&self) -> &[CheckedModule]
         ensures modules { map module_facts result.now ≡ self.now }
         ensures checked { IsChecked self.now }

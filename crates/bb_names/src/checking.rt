@@ -1,4 +1,5 @@
-//! The faults of a source, or its modules with their nets.
+//! The call of the crate. All modules are indexed before the first is checked, since an instance may name a module that
+//! comes later in the text.
 
 ghost use Rattle.std.specs.Prelude.{◌≡◌, ◌⊎◌, IfOk, IfErr, MatchResult, map};
 ghost use Rattle.bb_ast.specs.Inside.Views.{module_view, source_view};
@@ -26,17 +27,17 @@ fn check_modules(alloc: Global, source: &IndexedSource) -> Result<(), NameFault>
 
 /// The modules of a source with their nets, or the first fault of the source.
 ///
-/// The statements are looked at one after another. In each, what is declared twice comes first, then what is not known,
-/// then bits that no net has, then widths, then what may not stand where it stands; and in each of these the leftmost.
+/// Statements are checked one by one. In each, what is declared twice comes first, then unknown names, then bits that
+/// no net has, then widths, then what is not allowed at its place; within one kind the leftmost comes first.
 pub fn check(alloc: Global, source: Source) -> Result<Checked, NameFault>
     requires read { AreFormedAndSmall (source_view source) }
 
-    // What is answered is the same modules, without a fault, or the first fault.
+    // A result is the same modules, without a fault; an error is the first fault or `NoMemory`.
     ensures ok { IfOk result (λ checked. map syntax checked ≡ source_view source) }
     ensures sound { IfOk result (λ checked. IsSound (source_view source)) }
     ensures fault { IfErr result (λ fault. (fault ≡ NoMemory) ⊎ IsFirstFault (source_view source) fault) }
 
-    // The modules are answered where there is no fault, and else the first, unless memory runs out.
+    // The modules come wherever there is no fault, and else the first fault, unless memory runs out.
     ensures only_sound { IsSound (source_view source) → IfErr result (λ fault. fault ≡ NoMemory) }
     ensures only_fault { (first : NameFault) → IsFirstFault (source_view source) first
         → MatchResult result (λ checked. ⊥) (λ fault. (fault ≡ first) ⊎ (fault ≡ NoMemory)) }

@@ -1,4 +1,5 @@
-//! The declarations of a module, by the names that they declare.
+//! All declarations of a module, by name. They are collected before any use is checked, because a declaration counts
+//! for the whole module, also for uses before it (IEEE 1364-2005, 4.11 in a profile).
 ghost use Rattle.std.specs.Prelude.{◌≡◌, ◌++◌, [], List, map, OnOk};
 ghost use Rattle.std.specs.List.{flat_map};
 ghost use Rattle.bb_ast.specs.Inside.Views.{head_view, body_view, named_view, call_view, module_view};
@@ -29,7 +30,6 @@ fn declare_heads(declared: &mut Declared, heads: &[Head]) -> Result<(), NoMemory
     Ok(())
 }
 
-/// Declares each of some names as the same.
 fn declare_names(declared: &mut Declared, names: &[Name], d: DeclaredAs) -> Result<(), NoMemory>
     ensures { (all : List Declaration) → Describes declared.old.entries all → OnOk result (Describes declared.new.entries (all ++ map (λ n. named n d) names.now)) }
 {
@@ -39,7 +39,6 @@ fn declare_names(declared: &mut Declared, names: &[Name], d: DeclaredAs) -> Resu
     Ok(())
 }
 
-/// Declares nets that may be assigned where they are declared.
 fn declare_nets(
     declared: &mut Declared,
     nets: &[(Name, Option<Expr>)],
@@ -80,7 +79,6 @@ fn declare_item(declared: &mut Declared, body: &Body) -> Result<(), NoMemory>
     }
 }
 
-/// Declares what a module declares, where nothing is declared yet.
 pub(crate) fn declare_all(declared: &mut Declared, parsed: &Module) -> Result<(), NoMemory>
     requires none { declared.old.entries ≡ [] }
     ensures { OnOk result (Describes declared.new.entries (declarations (module_view parsed.now))) }

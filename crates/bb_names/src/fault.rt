@@ -1,25 +1,27 @@
-//! Why a source is refused.
+//! The five kinds of faults, in the order in which they are reported of a statement.
 
 use bb_bits::Name;
 use std::alloc::{AllocError, AllocFailed};
 use thiserror::Error;
 
-/// Why a source is refused: the first fault, with the line of its statement's first token and what it speaks of.
+/// The first fault of a source. `line` is that of the statement's first token; `name` is the name at fault, or a word
+/// where nothing has a name, such as `wide`.
 #[derive(Debug, Drop, Error)]
 pub enum NameFault {
-    /// Declared twice, or a port connected twice.
+    /// A declaration that an earlier one leaves no room for, or a port that is connected twice.
     #[error("line {line}: a second time")]
     Twice { line: u32, name: Name },
-    /// Declared nowhere.
+    /// A name that nothing declares, and that is no implicit wire.
     #[error("line {line}: not known")]
     Unknown { line: u32, name: Name },
-    /// Bits that the net does not have.
+    /// Bits that the net does not have, which the standard reads as `x` (5.2.1), or in the other direction than its
+    /// range.
     #[error("line {line}: no such bits")]
     Select { line: u32, name: Name },
-    /// Too wide, or not as wide as it has to be.
+    /// Wider than 65,536 bits, or not as wide as the port, gate or clock that it is connected to.
     #[error("line {line}: a wrong width")]
     Width { line: u32, name: Name },
-    /// Not what may stand there.
+    /// A name or an expression of a kind that is not allowed at this place, such as an input port that is driven.
     #[error("line {line}: not of the kind that may stand there")]
     Role { line: u32, name: Name },
     #[error("out of memory")]

@@ -1,4 +1,6 @@
-//! The implicit wires of a module: what stands in terminals, in connections and on the left of `assign`, and is not declared.
+//! Implicit wires (IEEE 1364-2005, 4.5): an undeclared name in a terminal, in a connection or on the left of `assign`
+//! is a wire of one bit. On a right side it is a fault. An ordered set keeps each name once, in the order of first use,
+//! which is where net order has it.
 ghost use Rattle.std.specs.Prelude.{◌≡◌, ◌++◌, ◌∷◌, [], map, OnOk, IfOk};
 ghost use Rattle.std.specs.List.{flat_map};
 ghost use Rattle.bb_ast.specs.Names.{names_in};
@@ -12,7 +14,6 @@ use bb_bits::{Name, NoMemory};
 use indexmap::IndexSet;
 use std::alloc::Global;
 
-/// Adds a name that is not declared.
 fn add_name(set: &mut IndexSet<Name>, declared: &Declared, name: &Name) -> Result<(), NoMemory>
     ensures { OnOk result (set.new.keys ≡ grown declared.now.entries set.old.keys (name.now ∷ [])) }
 {
@@ -197,7 +198,7 @@ fn add_item(set: &mut IndexSet<Name>, declared: &Declared, body: &Body) -> Resul
     }
 }
 
-/// Adds the names of items that are implicit wires, each once, in the order in which they first stand there.
+/// In the order in which each is first used.
 pub(crate) fn add_implicit_wires(
     set: &mut IndexSet<Name>,
     declared: &Declared,

@@ -1,4 +1,5 @@
-//! Modules with an index of their names, so that a text is not searched anew for each name in it.
+//! Modules with an index of their names: each use of a name is one look-up, where the definitions search the
+//! declarations of the module anew.
 ghost use Rattle.std.specs.Prelude.{◌≡◌, [], map, option_to_list, IfOk, OnOk};
 ghost use Rattle.std.specs.List.{list_any, position_from};
 ghost use Rattle.bb_bits.specs.Names.{same_name};
@@ -19,10 +20,9 @@ use indexmap::{IndexMap, IndexSet};
 use std::alloc::Global;
 use std::marker::Model;
 
-/// What a module says of a name that stands for a net.
 #[derive(Clone, Copy)]
 pub(crate) struct NetFacts {
-    /// Declared, or an implicit wire.
+    /// Declared anywhere in the module, or an implicit wire.
     pub known: bool,
     pub instance: bool,
     pub range: Option<Range>,
@@ -30,7 +30,7 @@ pub(crate) struct NetFacts {
     pub dir: Option<Dir>,
 }
 
-/// The first place of each name of a header, what is declared of each name, and the implicit wires.
+/// What the whole module says, also after the statement that is being checked.
 #[derive(Drop)]
 struct NameIndex {
     ports: Places,
@@ -38,7 +38,6 @@ struct NameIndex {
     implicit: IndexSet<Name>,
 }
 
-/// A module with an index of its names.
 #[derive(Drop)]
 pub(crate) struct IndexedModule {
     module: Module,
@@ -63,7 +62,6 @@ impl Model for IndexedModule {
 }
 
 impl NameIndex {
-    /// An index of no names.
     fn new(alloc: Global) -> NameIndex
         ensures ports { result.ports.entries ≡ [] }
         ensures declared { result.declared.entries ≡ [] }
@@ -77,7 +75,6 @@ impl NameIndex {
     }
 }
 
-/// Notes the first place of each name in a header.
 fn note_ports(ports: &mut Places, heads: &[Head]) -> Result<(), NoMemory>
     requires none { ports.old.entries ≡ [] }
     ensures { OnOk result (ArePlaces ports.new.entries (map (λ head. head.name) (map head_view heads.now))) }
@@ -88,7 +85,6 @@ fn note_ports(ports: &mut Places, heads: &[Head]) -> Result<(), NoMemory>
     Ok(())
 }
 
-/// Notes what an index says of a module's names.
 fn note_names(names: &mut NameIndex, parsed: &Module) -> Result<(), NoMemory>
     requires ports { names.old.ports.entries ≡ [] }
     requires declared { names.old.declared.entries ≡ [] }
@@ -131,14 +127,14 @@ impl IndexedModule {
         self.module
     }
 
-    /// The implicit wires, in the order in which they first stand.
+    /// In the order of first use.
     pub(crate) fn implicit(&self) -> &IndexSet<Name>
         ensures { result.now.keys ≡ once (implicit_names (module_view self.now)) }
     {
         &self.names.implicit
     }
 
-    /// How many names are declared or stand for implicit wires; room is made for so many.
+    /// Only for reserving room: it saturates, and nothing is promised of it.
     pub(crate) fn name_count(&self) -> usize {
         self.names
             .declared
@@ -146,7 +142,6 @@ impl IndexedModule {
             .saturating_add(self.names.implicit.len())
     }
 
-    /// The first place of a name in the header.
     pub(crate) fn port_place(&self, name: &Name) -> Option<usize>
         ensures { result ≡ position_from (same_name name.now) 0 (head_names (module_view self.now)) }
     {
@@ -159,7 +154,7 @@ impl IndexedModule {
         self.names.ports.contains_key(name)
     }
 
-    /// What the module says of a name that stands for a net.
+    /// An instance's name is known, but has neither kind nor direction.
     pub(crate) fn facts(&self, name: &Name) -> NetFacts
         ensures known { result.known ≡ is_known (module_view self.now) name.now }
         ensures instance { result.instance ≡ is_instance (module_view self.now) name.now }
@@ -192,7 +187,7 @@ impl IndexedModule {
         }
     }
 
-    /// The direction of a port, where it has one.
+    /// None also for a name with a direction that is in no header.
     pub(crate) fn port_direction(&self, name: &Name) -> Option<Dir>
         ensures { result ≡ port_direction (module_view self.now) name.now }
     {
@@ -203,7 +198,7 @@ impl IndexedModule {
         }
     }
 
-    /// Whether a name of which this is said is that of an input port.
+    /// Takes the facts of the name, so that the map is not searched twice.
     pub(crate) fn is_input_port(&self, name: &Name, facts: NetFacts) -> bool
         requires { facts.dir ≡ direction_of (module_view self.now) name.now }
         ensures { result ≡ is_input_port (module_view self.now) name.now }

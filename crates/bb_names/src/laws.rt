@@ -1,20 +1,21 @@
-//! Laws of faults. Each function has a law as its contract and does nothing.
+//! Laws of faults: the contract of each empty function. They follow from one definition: the faults of a source are a
+//! list, and the first is its head.
 
 ghost use Rattle.bb_names.specs.Laws.{SoundOrFault, NotSoundAndFault, FirstFaultsAreOne};
 
-/// A source is sound, or it has a first fault.
+/// The list of faults is empty, or it has a head.
 #[tactic(auto, using(crate::proofs::FaultLaws::sound_or_fault))]
 pub fn sound_or_fault()
     ensures { SoundOrFault }
 {}
 
-/// No source is sound and has a fault.
+/// An empty list has no head.
 #[tactic(auto, using(crate::proofs::FaultLaws::not_sound_and_fault))]
 pub fn not_sound_and_fault()
     ensures { NotSoundAndFault }
 {}
 
-/// A source has one first fault at most.
+/// So a refusal names one fault, for every checker of the same rules.
 #[tactic(auto, using(crate::proofs::FaultLaws::first_faults_are_one))]
 pub fn first_faults_are_one()
     ensures { FirstFaultsAreOne }

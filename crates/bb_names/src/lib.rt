@@ -1,5 +1,6 @@
-//! Names, nets and faults: a source whose names, ranges and widths keep the rules, with the nets of its modules, or its first
-//! fault. What expressions come to is said above: here only their own widths count, since a rule on widths needs them.
+//! Names, nets and faults: the modules of a source with their nets, or the first rule on names, ranges and widths that
+//! it breaks (IEEE 1364-2005, clauses 4 to 7 and 12, in a profile). Values and cells of expressions are a crate of
+//! their own above: the two share definitions and no lemma, and a new operator changes this one by its width alone.
 #![tactic(auto)]
 
 mod checked;

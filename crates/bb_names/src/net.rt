@@ -1,9 +1,10 @@
-//! The nets of a module, as the crates above see them.
+//! The nets of a module as later stages see them. Range, kind and direction are those of all declarations of a name
+//! together, so that no later stage reads declarations again.
 
 use bb_ast::{Dir, Range};
 use bb_bits::Name;
 
-/// What drives a net: `Zero` and `One` are the supply nets.
+/// `Zero` and `One` are the supply nets, which nothing else may drive.
 #[derive(Clone, Copy, Debug, PartialEq, Eq)]
 pub enum NetKind {
     Wire,
@@ -12,7 +13,7 @@ pub enum NetKind {
     One,
 }
 
-/// A net of a module: its name, the indices of its bits where it has a range, its kind, and its direction where it is a port.
+/// `range` is as written, most significant index first; none is one bit. `port` is none for a net that is no port.
 #[derive(Debug, Drop)]
 pub struct NetInfo {
     pub name: Name,

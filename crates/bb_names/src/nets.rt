@@ -1,4 +1,6 @@
-//! The nets of a module in net order, and the place of each by its name.
+//! The nets of a module in net order. The names go into an ordered map first, which drops repeats and keeps the order
+//! of insertion; its keys are then the nets in order. So that each name is a net once, and at which place, is one fact
+//! about the map.
 ghost use Rattle.std.specs.Prelude.{◌≡◌, ◌<◌, ◌-◌, ◌^◌, min, ◌∷◌, [], ◌&&◌, is_none, map, length, IfOk, OnOk};
 ghost use Rattle.std.specs.List.{flat_map, list_all};
 ghost use Rattle.bb_ast.specs.Inside.Views.{module_view, body_view, head_view, item_view, named_view, optional_view};
@@ -14,10 +16,8 @@ use bb_bits::{Name, NoMemory};
 use indexmap::IndexMap;
 use std::alloc::Global;
 
-/// Names, each with its place among them.
 type NetIndex = IndexMap<Name, u32>;
 
-/// Nets with their places.
 #[derive(Drop)]
 pub(crate) struct Nets {
     pub all: Vec<NetInfo>,
@@ -36,8 +36,9 @@ fn net(of: &IndexedModule, name: &Name) -> Result<NetInfo, NoMemory>
     })
 }
 
-/// The place behind so many names, as far as 32 bits tell it.
-fn place_behind(count: usize) -> u32
+/// The next place. It saturates, so that an insertion needs no bound; with fewer than 2^32 names, which `nets_in`
+/// requires, it is exact.
+fn place_after(count: usize) -> u32
     ensures { result ≡ min count (2 ^ 32 - 1) }
 {
     if count < u32::MAX as usize {
@@ -47,12 +48,11 @@ fn place_behind(count: usize) -> u32
     }
 }
 
-/// Adds a name behind the others, unless it is one of them.
 fn add_name(index: &mut NetIndex, name: &Name) -> Result<(), NoMemory>
     ensures { OnOk result (index.new.entries ≡ all_placed index.old.entries (name.now ∷ [])) }
 {
     if !index.contains_key(name) {
-        let place = place_behind(index.len());
+        let place = place_after(index.len());
         index.insert(name.clone()?, place)?;
     }
     Ok(())
@@ -108,7 +108,6 @@ fn add_items(index: &mut NetIndex, items: &[Item]) -> Result<(), NoMemory>
     Ok(())
 }
 
-/// Adds the names of the nets of a module, in net order.
 fn add_all(index: &mut NetIndex, of: &IndexedModule) -> Result<(), NoMemory>
     requires none { index.old.entries ≡ [] }
     requires few { length (net_names (module_view of.now)) < 2 ^ 32 }
@@ -119,7 +118,6 @@ fn add_all(index: &mut NetIndex, of: &IndexedModule) -> Result<(), NoMemory>
     add_names(index, of.implicit().as_slice())
 }
 
-/// Adds what a module says of the nets of an index, in its order.
 fn add_nets(all: &mut Vec<NetInfo>, of: &IndexedModule, index: &NetIndex) -> Result<(), NoMemory>
     requires none { all.old.items ≡ [] }
     ensures { OnOk result (all.new.items ≡ map (net_of (module_view of.now)) (map (λ e. e.0) index.now.entries)) }
@@ -130,7 +128,7 @@ fn add_nets(all: &mut Vec<NetInfo>, of: &IndexedModule, index: &NetIndex) -> Res
     Ok(())
 }
 
-/// Adds the nets of a module, in net order.
+/// Room for all names is made once.
 fn fill(nets: &mut Nets, of: &IndexedModule) -> Result<(), NoMemory>
     requires none { nets.old.all.items ≡ [] }
     requires index { nets.old.index.entries ≡ [] }
@@ -157,14 +155,12 @@ pub(crate) fn nets_in(alloc: Global, of: &IndexedModule) -> Result<Nets, NoMemor
     Ok(nets)
 }
 
-/// Whether a wire is a port and is not assigned.
 fn is_plain_port(of: &IndexedModule, name: &Name, value: &Option<Expr>) -> bool
     ensures { result ≡ (is_none (optional_view value.now) && is_port (module_view of.now) name.now) }
 {
     value.is_none() && of.is_port(name)
 }
 
-/// Whether wires are all ports and none is assigned.
 fn are_ports(of: &IndexedModule, all: &[(Name, Option<Expr>)]) -> bool
     ensures { result ≡ list_all (λ x. is_none x.1 && is_port (module_view of.now) x.0) (map named_view all.now) }
 {
@@ -187,7 +183,7 @@ fn are_port_names(of: &IndexedModule, names: &[Name]) -> bool
     true
 }
 
-/// Whether an item declares ports and nothing else.
+/// A port may be declared again as `wire` or `reg`, which adds nothing to a black box; a wire with an assignment does.
 fn is_item_of_empty(of: &IndexedModule, body: &Body) -> bool
     ensures { result ≡ is_of_empty (module_view of.now) (body_view body.now) }
 {
@@ -199,7 +195,7 @@ fn is_item_of_empty(of: &IndexedModule, body: &Body) -> bool
     }
 }
 
-/// Whether a module declares its ports and nothing else.
+/// Such a module is a black box: one whose contents are looked for.
 pub(crate) fn is_empty_module(of: &IndexedModule) -> bool
     ensures { result ≡ is_empty (module_view of.now) }
 {

@@ -1,4 +1,5 @@
-//! The first place of each name in a list of names: where one stands twice, the first counts.
+//! The first place of each name in a list of names. The first counts, since a second one is a fault at its own place;
+//! so one look into the map says of a name whether it is that second one.
 ghost use Rattle.std.specs.Prelude.{◌≡◌, ◌++◌, ◌∷◌, [], ℕ, List, false, nat_lt, length, OnOk};
 ghost use Rattle.std.specs.Option.{option_map_or};
 ghost use Rattle.bb_names.specs.Inside.Indexed.{ArePlaces};
@@ -6,10 +7,8 @@ ghost use Rattle.bb_names.specs.Inside.Indexed.{ArePlaces};
 use bb_bits::{Name, NoMemory};
 use indexmap::IndexMap;
 
-/// The first place of each name.
 pub(crate) type Places = IndexMap<Name, usize>;
 
-/// One more name, at the place behind the others.
 pub(crate) fn note_place(places: &mut Places, name: &Name, place: usize) -> Result<(), NoMemory>
     ensures { (names : List (List ℕ)) → ArePlaces places.old.entries names → place ≡ length names → OnOk result (ArePlaces places.new.entries (names ++ name.now ∷ [])) }
 {

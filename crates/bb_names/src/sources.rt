@@ -1,11 +1,12 @@
-//! The modules of a source with an index of their names, so that each instance finds its module at once.
+//! The modules of a source by their names. A source with as many instances as modules would otherwise be searched once
+//! for each instance.
 ghost use Rattle.std.specs.Prelude.{◌≡◌, ◌++◌, ◌∷◌, [], List, length, map, option_map, IfOk, OnOk};
 ghost use Rattle.std.specs.Vec.{vec_len};
 ghost use Rattle.std.specs.List.{position_from};
 ghost use Rattle.bb_bits.specs.Names.{same_name};
 ghost use Rattle.bb_ast.specs.Inside.Views.{module_view};
 ghost use Rattle.bb_names.specs.Inside.Indexed.{ArePlaces};
-ghost use Rattle.bb_names.specs.Spots.{module_named};
+ghost use Rattle.bb_names.specs.Sites.{module_named};
 
 use crate::indexed::IndexedModule;
 use crate::places::{Places, note_place};
@@ -15,7 +16,7 @@ use indexmap::IndexMap;
 use std::alloc::Global;
 use std::marker::Model;
 
-/// The modules of a source, each with an index of its names, and the first place of each module's name.
+/// `places` has the first module of each name; a later one of the same name is a fault at its header.
 #[derive(Drop)]
 pub(crate) struct IndexedSource {
     modules: Vec<IndexedModule>,
@@ -38,7 +39,6 @@ impl Model for IndexedSource {
     ghost invariant = { λ s. ArePlaces s.places.entries (map (λ m. m.name) s.modules.items) };
 }
 
-/// One more module behind the others, with the place of its name.
 fn add_module(
     alloc: Global,
     modules: &mut Vec<IndexedModule>,
@@ -68,7 +68,6 @@ impl IndexedSource {
         Ok(IndexedSource { modules, places })
     }
 
-    /// The modules, in the order of the source.
     pub(crate) fn modules(&self) -> &[IndexedModule]
         ensures { result.now ≡ self.now }
     {
@@ -81,14 +80,12 @@ impl IndexedSource {
         self.modules
     }
 
-    /// The first place of a module's name.
     pub(crate) fn place(&self, name: &Name) -> Option<usize>
         ensures { result ≡ position_from (same_name name.now) 0 (map (λ m. m.name) self.now) }
     {
         self.places.get(name).copied()
     }
 
-    /// The first module of a name.
     pub(crate) fn named(&self, name: &Name) -> Option<&IndexedModule>
         ensures { option_map (λ m. module_view m.now) result ≡ module_named (map module_view self.now) name.now }
     {

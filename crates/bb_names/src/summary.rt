@@ -1,4 +1,8 @@
-//! What declarations say of a name.
+//! What the declarations of one name say together. The first declaration gives the range and says whether the name is
+//! an instance; the first that has a direction or a kind gives that, and an instance has neither. So `wire [3:0] a;`
+//! and then `input [7:0] a;` is a port declared with two ranges, and not a header without a direction. Later
+//! declarations are needed only to find a second one too many, so a summary of fixed size suffices in place of the
+//! list.
 ghost use Rattle.std.specs.Prelude.{◌≡◌, ◌++◌, ◌∷◌, [], ℕ, List, Option, Some, ◌&&◌, not, is_some, if◌then◌else◌, OnOk, IfOk};
 ghost use Rattle.std.specs.Map.{lookup};
 ghost use Rattle.std.specs.List.{list_any};
@@ -6,14 +10,14 @@ ghost use Rattle.bb_bits.specs.Names.{same_name};
 ghost use Rattle.bb_ast.specs.Syntax.{PlainModule};
 ghost use Rattle.bb_names.specs.Declarations.{Declaration, port_declaration, net_declaration, instance_declaration, is_port, supply_kind, net_kind};
 ghost use Rattle.bb_names.specs.Faults.{clashes, declares_supply};
-ghost use Rattle.bb_names.specs.Inside.Summaries.{named, has_other, leaves_no_room, Tells, IsSummary, Describes};
+ghost use Rattle.bb_names.specs.Inside.Summaries.{named, has_other, leaves_no_room, Reports, IsSummary, Describes};
 
 use crate::net::NetKind;
 use bb_ast::{Dir, Port, PortKind, Range};
 use bb_bits::{Name, NoMemory};
 use indexmap::IndexMap;
 
-/// What one statement declares a name as: a direction, a kind or both, with a range or none; or an instance.
+/// One declaration of a name: a direction, a kind or both, or an instance.
 #[derive(Clone, Copy)]
 pub(crate) struct DeclaredAs {
     pub dir: Option<Dir>,
@@ -22,7 +26,8 @@ pub(crate) struct DeclaredAs {
     pub instance: bool,
 }
 
-/// Which ranges some declarations have.
+/// A later declaration needs to know only whether one of the earlier ranges differs from its own. Ranges are compared
+/// as written: none and `[0:0]` differ.
 #[derive(Clone, Copy)]
 pub(crate) enum Ranges {
     NoRange,
@@ -30,24 +35,21 @@ pub(crate) enum Ranges {
     Different,
 }
 
-/// What the declarations of one name say together, in text order.
 #[derive(Clone, Copy)]
 pub(crate) struct Summary {
-    /// The range of the first declaration.
+    /// Of the first declaration.
     pub range: Option<Range>,
-    /// Whether the first declares an instance.
     pub instance: bool,
-    /// The first direction.
+    /// Of the first declaration that has one.
     pub dir: Option<Dir>,
-    /// The first kind.
+    /// Of the first declaration that has one.
     pub kind: Option<NetKind>,
-    /// Whether one of them declares an instance.
+    /// Whether any of them declares an instance.
     pub instances: bool,
-    /// The ranges of those that are no supplies.
+    /// Of those that are no supply: a port that is a supply is a fault of its role, whatever its range.
     pub ranges: Ranges,
 }
 
-/// The declarations of each name.
 pub(crate) type Declared = IndexMap<Name, Summary>;
 
 impl DeclaredAs {
@@ -91,7 +93,6 @@ impl DeclaredAs {
     }
 }
 
-/// The kind of a net that a port's declaration names.
 fn net_kind_of(kind: PortKind) -> NetKind
     ensures { result ≡ net_kind kind }
 {
@@ -108,9 +109,8 @@ pub(crate) fn supply_kind_of(high: bool) -> NetKind
 }
 
 impl Ranges {
-    /// These and one more.
     fn with(self, range: Option<Range>) -> Ranges
-        ensures { (all : List (Option Range)) → Tells self all → Tells result (all ++ range ∷ []) }
+        ensures { (all : List (Option Range)) → Reports self all → Reports result (all ++ range ∷ []) }
     {
         match self {
             Ranges::NoRange => Ranges::Same(range),
@@ -119,7 +119,6 @@ impl Ranges {
         }
     }
 
-    /// Whether one of them is not this one.
     fn has_other(self, range: Option<Range>) -> bool
         ensures { result ≡ has_other self range }
     {
@@ -131,16 +130,14 @@ impl Ranges {
     }
 }
 
-/// What is said of a name, if anything is.
 pub(crate) fn summary_of(declared: &Declared, name: &Name) -> Option<Summary>
     ensures { result ≡ lookup (same_name name.now) declared.now.entries }
 {
     declared.get(name).copied()
 }
 
-/// The ranges with that of one more declaration, if it is no supply.
 fn ranges_with(ranges: Ranges, d: DeclaredAs) -> Ranges
-    ensures { (n : List ℕ) (all : List (Option Range)) → Tells ranges all → Tells result (all ++ (if declares_supply (named n d) then [] else d.range ∷ [])) }
+    ensures { (n : List ℕ) (all : List (Option Range)) → Reports ranges all → Reports result (all ++ (if declares_supply (named n d) then [] else d.range ∷ [])) }
 {
     if d.is_supply() {
         ranges
@@ -149,7 +146,6 @@ fn ranges_with(ranges: Ranges, d: DeclaredAs) -> Ranges
     }
 }
 
-/// What is said with one more declaration.
 fn joined(earlier: Option<Summary>, d: DeclaredAs) -> Summary
     ensures { (n : List ℕ) (all : List Declaration) → IsSummary n all earlier → IsSummary n (all ++ named n d ∷ []) (Some result) }
 {
@@ -173,9 +169,10 @@ fn joined(earlier: Option<Summary>, d: DeclaredAs) -> Summary
     }
 }
 
-/// One more declaration, and what was said of its name before.
+/// Adds a declaration, and gives what was known of the name before.
 ///
-/// Most names are declared once: then one look into the map serves.
+/// Most names are declared once. So the name is inserted as if it were new, and the summary is replaced only where
+/// there was one: one access to the map for each such name.
 pub(crate) fn declare_next(
     declared: &mut Declared,
     name: &Name,
@@ -198,14 +195,12 @@ pub(crate) fn declare(declared: &mut Declared, name: &Name, d: DeclaredAs) -> Re
     Ok(())
 }
 
-/// Whether something is declared a second time.
 fn is_second<T: Copy>(earlier: Option<T>, later: Option<T>) -> bool
     ensures { result ≡ (is_some earlier && is_some later) }
 {
     earlier.is_some() && later.is_some()
 }
 
-/// Whether a port has another range; that of a supply is not looked at.
 fn is_other_range(port: bool, s: Summary, d: DeclaredAs) -> bool
     ensures { (n : List ℕ) → result ≡ (port && (not (declares_supply (named n d)) && has_other s.ranges d.range)) }
 {
@@ -215,7 +210,7 @@ fn is_other_range(port: bool, s: Summary, d: DeclaredAs) -> bool
     s.ranges.has_other(d.range)
 }
 
-/// Whether one more declaration is one too many after those of a name; `port` tells whether it is a port.
+/// "A second time" counts in text order: of a kind and a direction that do not fit, the later statement is at fault.
 fn is_too_many(port: bool, s: Summary, d: DeclaredAs) -> bool
     ensures { (n : List ℕ) → result ≡ leaves_no_room port (named n d) s }
 {
@@ -225,7 +220,6 @@ fn is_too_many(port: bool, s: Summary, d: DeclaredAs) -> bool
     is_other_range(port, s, d)
 }
 
-/// Whether a declaration of a name is one too many after the earlier ones.
 pub(crate) fn is_clash(port: bool, earlier: Option<Summary>, d: DeclaredAs) -> bool
     ensures { (m : PlainModule) (n : List ℕ) (all : List Declaration) → port ≡ is_port m n → IsSummary n all earlier
         → result ≡ list_any (λ x. clashes m x (named n d)) all }

@@ -1,13 +1,13 @@
--- What can be told of a netlist: whether two cells are the same, whether boxes are nested, and whether boxes can be filled one after another.
+-- What can be reported of a netlist: whether two cells are the same, whether boxes are nested, and whether boxes can be filled one after another.
 use Rattle.std.proofs.Common.{◌≡◌, ◌≢◌, ◌⊎◌, ◌<◌, ℕ, zero, suc, Bool, true, false, List, [], ◌∷◌, ◌++◌, length, slice_index, AllPairs, All, refl, sym, ◌∙◌, subst, inl, inr, arith}
 use Rattle.std.proofs.lemmas.List.{get_or_default}
 use Rattle.std.proofs.lemmas.List.Elements.{All-nil, All-cons, All-head, All-tail}
 use Rattle.bb_bits.specs.Closures.{IsFirstRepeat}
-use Rattle.bb_lists.proofs.Deciding.{Decision, decide_number, repeat_or_apart}
-use Rattle.bb_lists.proofs.Firsts.{repeat_not_apart}
-use Rattle.bb_lists.proofs.LeastBits.{Below, least_or_none}
-use Rattle.bb_lists.proofs.Orders.{less_or_same}
-use Rattle.bb_net.specs.Agreement.{AreBoxOutputs}
+use Rattle.bb_lemmas.proofs.Deciding.{Decision, decide_number, repeat_or_apart}
+use Rattle.bb_lemmas.proofs.Firsts.{repeat_not_apart}
+use Rattle.bb_lemmas.proofs.LeastBits.{Below, least_or_none}
+use Rattle.bb_lemmas.proofs.Orders.{less_or_same}
+use Rattle.bb_net.specs.Equivalence.{AreBoxOutputs}
 use Rattle.bb_net.specs.Conditions.{PinBits, Suit, Wins}
 use Rattle.bb_net.specs.Netlists.{Netlist, Pins, box_at}
 use Rattle.bb_net.specs.Values.{bit_of, flat, output_pins}
@@ -54,17 +54,17 @@ module _ (below : Below) where
     abbrev Apart : List Bool → Type 0
     Apart x = (z : List Bool) × AreBoxOutputs net z × (at x z a ≢ at x z b)
 
-    abbrev Alike : List Bool → Type 0
-    Alike x = (z : List Bool) → AreBoxOutputs net z → at x z a ≡ at x z b
+    abbrev Equal : List Bool → Type 0
+    Equal x = (z : List Bool) → AreBoxOutputs net z → at x z a ≡ at x z b
 
-    at_vector : (x : List Bool) → Apart x ⊎ Alike x
+    at_vector : (x : List Bool) → Apart x ⊎ Equal x
     at_vector x = elim (least_or_none below (λ z. at x z a ≢ at x z b) (λ z. at x z a ≡ at x z b) (λ z n e. n e) (output_pins net.boxes) (λ z len. decide_bit (at x z a) (at x z b))) [
       | inl found ↦ inl (found.0, found.1.long, found.1.holds)
       | inr all ↦ inr all
     ]
 
     pub decide_same : Decision (AreSame net a b)
-    decide_same = elim (least_or_none below Apart Alike (λ x one all. one.2 (all one.0 one.1)) net.inputs (λ x len. at_vector x)) [
+    decide_same = elim (least_or_none below Apart Equal (λ x one all. one.2 (all one.0 one.1)) net.inputs (λ x len. at_vector x)) [
       | inl found ↦ inr (λ same. found.1.holds.2 (same found.0 found.1.holds.0 found.1.long found.1.holds.1))
       | inr all ↦ inl (λ x z vector outs. all x vector z outs)
     ]

@@ -5,7 +5,7 @@ use Rattle.std.proofs.lemmas.List.Elements.{All-append, All-nil}
 use Rattle.bb_bits.specs.Contents.{HasShape}
 use Rattle.bb_bits.specs.Numbers.{number_of, bits_of}
 use Rattle.bb_bits.specs.Tables.{TableBits, HasAllBits, row_of, rows_of}
-use Rattle.bb_lists.proofs.LeastBits.{least_or_none}
+use Rattle.bb_lemmas.proofs.LeastBits.{least_or_none}
 use Rattle.bb_net.specs.Conditions.{PinBits, SomeChoicesSuit}
 use Rattle.bb_net.specs.Netlists.{Netlist, Pins, IsNetlist, box_at}
 use Rattle.bb_net.specs.Values.{table_at, FitBoxes}
@@ -14,7 +14,7 @@ use Rattle.bb_nest.specs.Nested.{Sees, pin_cells, AreNested}
 use Rattle.bb_nest.specs.Rows.{Suffice, IsRow, IsLeast, AreZeros, IsNestedRow, AreNestedTables}
 use Rattle.bb_nest.specs.Inside.LawsBelow.{LawsBelow}
 use Rattle.bb_nest.specs.Laws.{NestedChoicesAreTables}
-use Rattle.bb_nest.proofs.Agreeing.{AreNestedRows, row_count, agrees}
+use Rattle.bb_nest.proofs.Equivalent.{AreNestedRows, row_count, agrees}
 use Rattle.bb_nest.proofs.Decisions.{first_of_sees, decide_wins}
 use Rattle.bb_nest.proofs.SeenPins.{seen_boxes, seen_cells}
 
@@ -41,7 +41,7 @@ sees_places net kinds nested b l = all_places (Sees net (box_at net.boxes b)) (t
     let low : a < b = omega (arith, there, length-take b net.boxes) in
     subst (λ (pins : Pins). All (Sees net (box_at net.boxes b)) (pin_cells pins)) (sym (get_or-take b net.boxes a (record { ins = []; outs = [] }) low)) (nested.seen a b low l))
 
--- behind some bits there is a row
+-- after some bits there is a row
 module _ (laws : LawsBelow) (spec imp : Netlist) (b : ℕ) (earlier : List PinBits) (ins : List Bool) where
   abbrev With : List Bool → Type 0
   With = Suffice spec imp b earlier ins
@@ -52,8 +52,8 @@ module _ (laws : LawsBelow) (spec imp : Netlist) (b : ℕ) (earlier : List PinBi
   decide_with : (outs : List Bool) → With outs ⊎ (With outs → ⊥)
   decide_with outs = decide_wins laws.below spec imp (laws.suit spec imp) (drop (b + 1) imp.boxes) (earlier ++ record { ins = ins; outs = outs } ∷ [])
 
-  pub row_behind : (outs : List Bool) × IsRow spec imp b earlier ins outs
-  row_behind = elim (least_or_none laws.below With (λ outs. With outs → ⊥) (λ outs yes not. not yes) m (λ outs len. decide_with outs)) [
+  pub row_after : (outs : List Bool) × IsRow spec imp b earlier ins outs
+  row_after = elim (least_or_none laws.below With (λ outs. With outs → ⊥) (λ outs yes not. not yes) m (λ outs len. decide_with outs)) [
     | inl found ↦ (found.0, IsLeast found.1.long found.1.holds found.1.least)
     | inr none ↦ (replicate m false, AreZeros none refl)
   ]
@@ -65,7 +65,7 @@ module _ (laws : LawsBelow) (spec imp : Netlist) (kept : IsNetlist imp) (kinds :
       let box = box_at imp.boxes b in
       let sees = sees_places imp kinds nested b l in
       let seen = seen_cells imp box ins (first_of_sees laws.below imp box) (pin_places before) sees in
-      let row = row_behind laws spec imp b (pin_bits before seen.0) ins in
+      let row = row_after laws spec imp b (pin_bits before seen.0) ins in
       (row.0, record { earlier = pin_bits before seen.0; seen = seen_boxes imp box ins before seen.0 seen.1; row = row.1 })
 
   -- a table of box b

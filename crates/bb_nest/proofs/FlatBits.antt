@@ -1,4 +1,4 @@
--- A value of a netlist is its value for free box outputs, those that stand at the output pins.
+-- A value of a netlist is its value for free box outputs, those that are at the output pins.
 use Rattle.std.proofs.Common.{◌≡◌, ◌<◌, ℕ, zero, suc, ◌+◌, Bool, false, List, [], ◌∷◌, ◌++◌, length, map, take, slice_index, refl, sym, ap, ◌∙◌, arith, length-append}
 use Rattle.std.proofs.lemmas.List.{length-map, get_or-map, get_or_append_left, get_or-append-add}
 use Rattle.std.proofs.lemmas.List.Sums.{sum_by-cons}
@@ -37,7 +37,7 @@ module _ (exists : ValueExists) (swap : ValueGoesByBoxes) (net : Netlist) (kept 
   abbrev bits : List Bool
   bits = value_of net x box
 
-  -- at an output pin stands what its box gives
+  -- at an output pin is what its box gives
   pub pin_bit : (b p : ℕ) → p < length (box_at net.boxes b).outs → bit_of bits (slice_index (box_at net.boxes b).outs p) ≡ box b p (map (bit_of bits) (box_at net.boxes b).ins)
   pin_bit b p l =
       let place = slice_index (box_at net.boxes b).outs p in

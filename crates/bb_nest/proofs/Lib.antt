@@ -1,4 +1,4 @@
-pub mod Agreeing
+pub mod Equivalent
 pub mod Copies
 pub mod Decisions
 pub mod FilledRows
@@ -13,4 +13,4 @@ pub mod SeenPins
 pub mod Singles
 pub mod SomeAnswers
 pub mod StageRows
-pub mod Told
+pub mod Reported

@@ -7,7 +7,7 @@ use Rattle.std.proofs.lemmas.Bool.{cases_lt}
 use Rattle.std.proofs.lemmas.List.{get_or_append_left, get_or-append-add, get_or_default, get_or_push}
 use Rattle.std.proofs.lemmas.List.Elements.{All-from_get_or}
 use Rattle.std.proofs.lemmas.List.FromFn.{get_or-range_with_len}
-use Rattle.bb_lists.proofs.Ranges.{length-range}
+use Rattle.bb_lemmas.proofs.Ranges.{length-range}
 
 last_place : (k n : ℕ) → k < n + 1 → n ≤ k → k ≡ n
 last_place k n l m = omega (arith, l, m)
@@ -15,7 +15,7 @@ last_place k n l m = omega (arith, l, m)
 pub each_more : (P : ℕ → Type 0) (n : ℕ) → ((k : ℕ) → k < n → P k) → P n → (k : ℕ) → k < n + 1 → P k
 each_more P n so_far here k l = elim (cases_lt k n) [
   | inl before ↦ so_far k before
-  | inr behind ↦ subst P (sym (last_place k n l behind)) here
+  | inr after ↦ subst P (sym (last_place k n l after)) here
 ]
 
 pub each_push : {A : Type 0} (P : ℕ → A → Type 0) (xs : List A) (x d : A) (n : ℕ) → length xs ≡ n → ((k : ℕ) → k < n → P k (get_or xs k d)) → P n x → (k : ℕ) → k < n + 1 → P k (get_or (xs ++ x ∷ []) k d)

@@ -1,4 +1,4 @@
--- A pair has one answer: an error excludes tables, what a box sees is one list of bits, and each row behind it is the only one.
+-- A pair has one answer: an error excludes tables, what a box sees is one list of bits, and each row after it is the only one.
 use Rattle.std.proofs.Common.{◌≡◌, ◌<◌, ℕ, ◌^◌, Bool, List, [], ◌∷◌, length, map, take, refl, sym, ap, ap₂, ◌∙◌, subst, inl, inr, arith}
 use Rattle.std.specs.List.{AllZip, range_with_len}
 use Rattle.std.proofs.lemmas.List.{ext_get_or}
@@ -6,14 +6,14 @@ use Rattle.std.proofs.lemmas.List.FromFn.{fill_by_all, length-map-range_with_len
 use Rattle.bb_bits.specs.Numbers.{number_of, bits_of}
 use Rattle.bb_bits.specs.Laws.RowLaws.{RowsFixTable}
 use Rattle.bb_bits.specs.Tables.{TableBits, row_of, rows_of}
-use Rattle.bb_lists.proofs.Orders.{less_or_same}
-use Rattle.bb_net.specs.Conditions.{PinBits, NoChoicesSuit, NoTablesAgree}
+use Rattle.bb_lemmas.proofs.Orders.{less_or_same}
+use Rattle.bb_net.specs.Conditions.{PinBits, NoChoicesSuit, NoTablesMakeEquivalent}
 use Rattle.bb_net.specs.Netlists.{Netlist, Pins, box_at}
 use Rattle.bb_net.specs.Values.{bit_of, FitBoxes, table_at}
 use Rattle.bb_input.specs.declared.InputAnswer.{InputAnswer}
 use Rattle.bb_input.specs.declared.InputAnswer.TheVariants.{Error, Clear, Repair}
 use Rattle.bb_input.specs.Laws.{IsSameAnswer}
-use Rattle.bb_nest.specs.Answers.{IsAnswer}
+use Rattle.bb_nest.specs.Answers.{IsInputAnswer}
 use Rattle.bb_nest.specs.Rows.{IsSeenFirst, SeesBit, SeesBits, IsRow, IsLeast, AreZeros, IsNestedRow, AreNestedTables}
 use Rattle.bb_nest.proofs.FilledRows.{same_bits}
 
@@ -43,7 +43,7 @@ module _ (net : Netlist) (box : Pins) where
   bits_once ins other y z a c =
       ap₂ (λ v w. record { ins = v; outs = w }) (zip_once (SeesBit net box ins) (bit_once ins) other.ins y.ins z.ins a.ins c.ins) (zip_once (SeesBit net box ins) (bit_once ins) other.outs y.outs z.outs a.outs c.outs)
 
--- rows behind the same bits
+-- rows after the same bits
 module _ (once : (bits : List Bool) → bits_of (length bits) (number_of bits) ≡ bits) (spec imp : Netlist) where
   row_once : (b : ℕ) (earlier : List PinBits) (ins x y : List Bool) → IsRow spec imp b earlier ins x → IsRow spec imp b earlier ins y → x ≡ y
   row_once b earlier ins x y (IsLeast long suffice least) (IsLeast long2 suffice2 least2) =
@@ -97,11 +97,11 @@ module _ (once : (bits : List Bool) → bits_of (length bits) (number_of bits) �
         (λ b l. same_table b (let e = a.completion.fit.count in omega (arith, l, e)))
 
   -- answers
-  module _ (spelled : (n number : ℕ) → length (bits_of n number) ≡ n) (number : (n number : ℕ) → number < 2 ^ n → number_of (bits_of n number) ≡ number) (fix : RowsFixTable) (kinds : List ℕ) (excludes : NoChoicesSuit spec imp → NoTablesAgree spec imp) where
+  module _ (spelled : (n number : ℕ) → length (bits_of n number) ≡ n) (number : (n number : ℕ) → number < 2 ^ n → number_of (bits_of n number) ≡ number) (fix : RowsFixTable) (kinds : List ℕ) (excludes : NoChoicesSuit spec imp → NoTablesMakeEquivalent spec imp) where
     no_tables : NoChoicesSuit spec imp → (ts : List TableBits) → AreNestedTables spec imp ts → ⊥
     no_tables none ts a = excludes none ts a.completion.fit a.completion.agree
 
-    pub one_answer : (a b : InputAnswer) → IsAnswer spec imp kinds a → IsAnswer spec imp kinds b → IsSameAnswer a b
+    pub one_answer : (a b : InputAnswer) → IsInputAnswer spec imp kinds a → IsInputAnswer spec imp kinds b → IsSameAnswer a b
     one_answer Error Error a b = refl
     one_answer Error Clear a b = absurd (a b.0)
     one_answer Error (Repair us) a b = absurd (no_tables a us.items b.1)

@@ -16,23 +16,23 @@ abbrev pub pins_of : Pins → ℕ
 pins_of box = length box.ins + length box.outs
 
 -- what follows the pins does not matter
-pub bits_front : (boxes : List Pins) (pre x : List Bool) → pin_count boxes ≤ length pre → pin_bits boxes (pre ++ x) ≡ pin_bits boxes pre
-bits_front [] pre x l = refl
-bits_front (box ∷ boxes) pre x l =
+pub bits_prefix : (boxes : List Pins) (pre x : List Bool) → pin_count boxes ≤ length pre → pin_bits boxes (pre ++ x) ≡ pin_bits boxes pre
+bits_prefix [] pre x l = refl
+bits_prefix (box ∷ boxes) pre x l =
     let k = length box.ins in
     let m = length box.outs in
     let sums = sum_by-cons pins_of box boxes in
     let ins = take-append-le k pre x (omega (arith, l, sums)) in
     let outs = ap (take m) (drop-append-le k pre x (omega (arith, l, sums))) ∙ take-append-le m (drop k pre) x (omega (arith, l, sums, length-drop k pre)) in
     ap₂ (λ (c : PinBits) (cs : List PinBits). c ∷ cs) (ap₂ (λ v w. record { ins = v; outs = w }) ins outs)
-    (ap (pin_bits boxes) (drop-append-le (k + m) pre x (omega (arith, l, sums))) ∙ bits_front boxes (drop (k + m) pre) x (omega (arith, l, sums, length-drop (k + m) pre)))
+    (ap (pin_bits boxes) (drop-append-le (k + m) pre x (omega (arith, l, sums))) ∙ bits_prefix boxes (drop (k + m) pre) x (omega (arith, l, sums, length-drop (k + m) pre)))
 
 -- the bits of one more box
 pub bits_push : (done : List Pins) (box : Pins) (pre ins outs : List Bool) → length pre ≡ pin_count done → length ins ≡ length box.ins → length outs ≡ length box.outs →
     pin_bits (done ++ box ∷ []) (pre ++ (ins ++ outs)) ≡ pin_bits done pre ++ record { ins = ins; outs = outs } ∷ []
 bits_push [] box [] ins outs e f g =
-    let behind : drop (length box.ins) (ins ++ outs) ≡ outs = drop_at ins outs (length box.ins) f in
-    ap₂ (λ v w. record { ins = v; outs = w } ∷ []) (take_at ins outs (length box.ins) f) (ap (take (length box.outs)) behind ∙ take_all (length box.outs) outs (omega (arith, g)))
+    let after : drop (length box.ins) (ins ++ outs) ≡ outs = drop_at ins outs (length box.ins) f in
+    ap₂ (λ v w. record { ins = v; outs = w } ∷ []) (take_at ins outs (length box.ins) f) (ap (take (length box.outs)) after ∙ take_all (length box.outs) outs (omega (arith, g)))
 bits_push [] box (b ∷ pre) ins outs e f g = absurd (omega (arith, e))
 bits_push (first ∷ done) box pre ins outs e f g =
     let k = length first.ins in
@@ -83,9 +83,9 @@ outs_for (box ∷ boxes) z l =
     let zeros = replicate k false in
     let own = take m z in
     let rest = pins_for boxes (drop m z) in
-    let behind : drop k (zeros ++ (own ++ rest)) ≡ own ++ rest = drop_at zeros (own ++ rest) k (length-replicate k false) in
-    let first : take m (drop k (zeros ++ (own ++ rest))) ≡ own = ap (take m) behind ∙ take_at own rest m (own_outs box boxes z l) in
-    let later : drop (k + m) (zeros ++ (own ++ rest)) ≡ rest = sym (drop-drop m k (zeros ++ (own ++ rest))) ∙ (ap (drop m) behind ∙ drop_at own rest m (own_outs box boxes z l)) in
+    let after : drop k (zeros ++ (own ++ rest)) ≡ own ++ rest = drop_at zeros (own ++ rest) k (length-replicate k false) in
+    let first : take m (drop k (zeros ++ (own ++ rest))) ≡ own = ap (take m) after ∙ take_at own rest m (own_outs box boxes z l) in
+    let later : drop (k + m) (zeros ++ (own ++ rest)) ≡ rest = sym (drop-drop m k (zeros ++ (own ++ rest))) ∙ (ap (drop m) after ∙ drop_at own rest m (own_outs box boxes z l)) in
     ap₂ (λ (v w : List Bool). v ++ w) first (ap (λ (p : List Bool). all_outs (pin_bits boxes p)) later ∙ outs_for boxes (drop m z) (other_outs box boxes z l)) ∙ take-append-drop m z
 
 -- cells are the same exactly where their functions have one table
@@ -110,7 +110,7 @@ module _ (functions : FunctionLaws) (imp : Netlist) (a b : ℕ) where
       count = count_pins imp.boxes z outs
 
       pins : all_outs (pin_bits imp.boxes p) ≡ z
-      pins = ap all_outs (bits_front imp.boxes pre x (omega (arith, count))) ∙ outs_for imp.boxes z outs
+      pins = ap all_outs (bits_prefix imp.boxes pre x (omega (arith, count))) ∙ outs_for imp.boxes z outs
 
       bit : (cell : ℕ) → truth_at (cell_table cell) p ≡ bit_of (flat imp x z) cell
       bit cell =

@@ -5,12 +5,12 @@ use Rattle.std.proofs.lemmas.List.{get_or_append_left, get_or_default, get_or-ma
 use Rattle.std.proofs.lemmas.List.Concat.{flat_map-append, get_or-flat_map}
 use Rattle.std.proofs.lemmas.List.Elements.{All-from_get_or, Contains-get_or}
 use Rattle.std.proofs.lemmas.List.Sums.{sum_by-cons}
-use Rattle.bb_lists.proofs.Places.{got}
-use Rattle.bb_lists.proofs.Zips.{zip_by}
+use Rattle.bb_lemmas.proofs.Places.{got}
+use Rattle.bb_lemmas.proofs.Zips.{zip_by}
 use Rattle.bb_net.specs.Netlists.{Netlist, Pins, box_at}
 use Rattle.bb_net.specs.Pairs.{pin_count}
 use Rattle.bb_net.specs.Values.{bit_of}
-use Rattle.bb_sym.specs.Inside.Made.{StandForAll, ref_at}
+use Rattle.bb_sym.specs.Inside.Made.{RepresentAll, ref_at}
 use Rattle.bb_sym.specs.Laws.{FunctionLaws}
 use Rattle.bb_sym.specs.Plain.{table, cell_bit}
 use Rattle.bb_uniq.specs.declared.store.Ref.{Ref}
@@ -36,17 +36,17 @@ each_place P (box ∷ boxes) all zero l = all_left P (box.ins ++ box.outs) (pin_
 each_place P (box ∷ boxes) all (suc a) l = each_place P boxes (all_right P (box.ins ++ box.outs) (pin_places boxes) all) a (omega (arith, l))
 
 module _ (functions : FunctionLaws) (imp : Netlist) (s : NodeStore) (refs : List Ref) (count : length refs ≡ pin_count imp.boxes)
-    (stand : StandForAll s (λ q. table (pins_and_inputs imp) (cell_bit (boxes_first imp) imp (slice_index (pin_places imp.boxes) q))) refs)
+    (occur : RepresentAll s (λ q. table (pins_and_inputs imp) (cell_bit (boxes_first imp) imp (slice_index (pin_places imp.boxes) q))) refs)
     (canonical : (r q : ℕ) → IsRef s r → IsRef s q → truth_of s r ≡ truth_of s q → r ≡ q) where
   abbrev cell : ℕ → ℕ
   cell q = slice_index (pin_places imp.boxes) q
 
   same_cells : (q r : ℕ) → q < length refs → r < length refs → ref_at refs q ≡ ref_at refs r → AreSame imp (cell q) (cell r)
-  same_cells q r lq lr e = same_tables functions imp (cell q) (cell r) (sym (stand q lq).table ∙ (ap (λ (x : Ref). truth_of s x.0) e ∙ (stand r lr).table))
+  same_cells q r lq lr e = same_tables functions imp (cell q) (cell r) (sym (occur q lq).table ∙ (ap (λ (x : Ref). truth_of s x.0) e ∙ (occur r lr).table))
 
   same_refs : (q r : ℕ) → q < length refs → r < length refs → AreSame imp (cell q) (cell r) → ref_at refs q ≡ ref_at refs r
   same_refs q r lq lr same =
-      let number = canonical (ref_at refs q).0 (ref_at refs r).0 (stand q lq).ref (stand r lr).ref ((stand q lq).table ∙ (tables_same functions imp (cell q) (cell r) same ∙ sym (stand r lr).table)) in
+      let number = canonical (ref_at refs q).0 (ref_at refs r).0 (occur q lq).ref (occur r lr).ref ((occur q lq).table ∙ (tables_same functions imp (cell q) (cell r) same ∙ sym (occur r lr).table)) in
       ap (λ (n : ℕ). record { 0 = n }) number
 
   module _ (b : ℕ) (l : b < length imp.boxes) where

@@ -11,15 +11,15 @@ use Rattle.bb_nest.specs.Rows.{IsSeenFirst, SeesBit, SeesBits}
 
 -- the parts of two lists that are laid side by side
 module _ {A B : Type 0} (R : A → B → Type 0) where
-  pub zip_front : (xs us : List A) (ys : List B) → AllZip R (xs ++ us) ys → AllZip R xs (take (length xs) ys)
-  zip_front [] us ys all = tt
-  zip_front (x ∷ xs) us [] all = absurd all
-  zip_front (x ∷ xs) us (y ∷ ys) all = (all.0, zip_front xs us ys all.1)
+  pub zip_prefix : (xs us : List A) (ys : List B) → AllZip R (xs ++ us) ys → AllZip R xs (take (length xs) ys)
+  zip_prefix [] us ys all = tt
+  zip_prefix (x ∷ xs) us [] all = absurd all
+  zip_prefix (x ∷ xs) us (y ∷ ys) all = (all.0, zip_prefix xs us ys all.1)
 
-  pub zip_behind : (xs us : List A) (ys : List B) → AllZip R (xs ++ us) ys → AllZip R us (drop (length xs) ys)
-  zip_behind [] us ys all = all
-  zip_behind (x ∷ xs) us [] all = absurd all
-  zip_behind (x ∷ xs) us (y ∷ ys) all = zip_behind xs us ys all.1
+  pub zip_after : (xs us : List A) (ys : List B) → AllZip R (xs ++ us) ys → AllZip R us (drop (length xs) ys)
+  zip_after [] us ys all = all
+  zip_after (x ∷ xs) us [] all = absurd all
+  zip_after (x ∷ xs) us (y ∷ ys) all = zip_after xs us ys all.1
 
 module _ (net : Netlist) (box : Pins) (ins : List Bool) where
   abbrev SeesHere : ℕ → Bool → Type 0
@@ -32,9 +32,9 @@ module _ (net : Netlist) (box : Pins) (ins : List Bool) where
       let k = length other.ins in
       let m = length other.outs in
       let whole : AllZip SeesHere (other.ins ++ (other.outs ++ rest)) seen = subst (λ (cells : List ℕ). AllZip SeesHere cells seen) (append_assoc other.ins other.outs rest) all in
-      let behind = zip_behind SeesHere other.ins (other.outs ++ rest) seen whole in (
-        record { ins = zip_front SeesHere other.ins (other.outs ++ rest) seen whole; outs = zip_front SeesHere other.outs rest (drop k seen) behind },
-        seen_boxes boxes (drop (k + m) seen) (subst (AllZip SeesHere rest) (drop-drop m k seen) (zip_behind SeesHere other.outs rest (drop k seen) behind)),
+      let after = zip_after SeesHere other.ins (other.outs ++ rest) seen whole in (
+        record { ins = zip_prefix SeesHere other.ins (other.outs ++ rest) seen whole; outs = zip_prefix SeesHere other.outs rest (drop k seen) after },
+        seen_boxes boxes (drop (k + m) seen) (subst (AllZip SeesHere rest) (drop-drop m k seen) (zip_after SeesHere other.outs rest (drop k seen) after)),
       )
 
   -- where it sees all cells, some bits are seen

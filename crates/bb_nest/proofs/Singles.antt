@@ -3,15 +3,15 @@ use Rattle.std.proofs.Common.{◌≡◌, ◌⊎◌, ◌<◌, ◌≤◌, ◌↔�
 use Rattle.bb_bits.specs.Numbers.{number_of}
 use Rattle.bb_bits.specs.Tables.{TableBits, row_of}
 use Rattle.bb_net.specs.Completions.{AreCompletion}
-use Rattle.bb_net.specs.Conditions.{PinBits, Suit, Wins, SomeChoicesSuit, NoChoicesSuit, NoTablesAgree}
+use Rattle.bb_net.specs.Conditions.{PinBits, Suit, Wins, SomeChoicesSuit, NoChoicesSuit, NoTablesMakeEquivalent}
 use Rattle.bb_net.specs.Netlists.{Netlist, Pins, IsNetlist, box_at}
 use Rattle.bb_net.specs.Values.{output_pins, table_at}
 use Rattle.bb_input.specs.Inside.Answers as choices
 use Rattle.bb_input.specs.Inside.Answers.{IsFinishable, AreLeastOutputs, AreLeastTables}
 use Rattle.bb_input.specs.declared.InputAnswer.{InputAnswer}
 use Rattle.bb_input.specs.declared.InputAnswer.TheVariants.{Error, Clear, Repair}
-use Rattle.bb_nest.specs.Answers.{AreFinishable, IsAnswer}
-use Rattle.bb_nest.specs.Laws.{SinglesAreNested, SinglesAnswerAlike}
+use Rattle.bb_nest.specs.Answers.{AreFinishable, IsInputAnswer}
+use Rattle.bb_nest.specs.Laws.{SinglesAreNested, SinglesAnswerTheSame}
 use Rattle.bb_nest.specs.Nested.{AreNested}
 use Rattle.bb_nest.specs.Rows.{SeesEarlier, Suffice, IsRow, IsLeast, AreZeros, IsNestedRow, AreNestedTables}
 
@@ -88,7 +88,7 @@ module _ (spec imp : Netlist) (choices : (tables : List TableBits) → AreComple
   tables_alike (box ∷ []) one few tables = (to_tables spec imp box one tables, λ a. from_tables spec imp box one (choices tables a.completion) tables a)
   tables_alike (box ∷ next ∷ boxes) is few tables = absurd (omega (arith, few))
 
-pub answers_alike : ((spec imp : Netlist) → NoChoicesSuit spec imp ⊎ SomeChoicesSuit spec imp) → ((spec imp : Netlist) → IsNetlist imp → NoChoicesSuit spec imp → NoTablesAgree spec imp) → SinglesAnswerAlike
+pub answers_alike : ((spec imp : Netlist) → NoChoicesSuit spec imp ⊎ SomeChoicesSuit spec imp) → ((spec imp : Netlist) → IsNetlist imp → NoChoicesSuit spec imp → NoTablesMakeEquivalent spec imp) → SinglesAnswerTheSame
 answers_alike decided excludes spec imp kinds kept count few = by
   where
     nested : AreNested imp kinds
@@ -103,7 +103,7 @@ answers_alike decided excludes spec imp kinds kept count few = by
     finishable : IsFinishable imp ↔ AreFinishable imp kinds
     finishable = (λ f. record { nested = nested; small = f.small }, λ f. record { one_box = few; small = f.small })
 
-    by : (answer : InputAnswer) → choices.IsAnswer spec imp answer ↔ IsAnswer spec imp kinds answer
+    by : (answer : InputAnswer) → choices.IsAnswer spec imp answer ↔ IsInputAnswer spec imp kinds answer
     by Error = (λ h. h, λ h. h)
     by Clear = (λ h. (h.0, λ f. h.1 (finishable.1 f)), λ h. (h.0, λ f. h.1 (finishable.0 f)))
     by (Repair tables) =

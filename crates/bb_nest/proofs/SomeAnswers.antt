@@ -1,14 +1,14 @@
 -- Each pair has an answer: an error, or choices, and with nested boxes whose tables may be written down these tables.
 use Rattle.std.proofs.Common.{◌⊎◌, ◌<◌, ◌^◌, ℕ, List, length, inl, inr, arith}
 use Rattle.std.proofs.lemmas.Bool.{cases_lt}
-use Rattle.bb_lists.proofs.Deciding.{Decision}
-use Rattle.bb_lists.proofs.Vectors.{vec_of}
+use Rattle.bb_lemmas.proofs.Deciding.{Decision}
+use Rattle.bb_lemmas.proofs.Vectors.{vec_of}
 use Rattle.bb_net.specs.Completions.{table_bits}
 use Rattle.bb_net.specs.Conditions.{SomeChoicesSuit, NoChoicesSuit}
 use Rattle.bb_net.specs.Netlists.{Netlist, IsNetlist}
 use Rattle.bb_input.specs.declared.InputAnswer.{InputAnswer}
 use Rattle.bb_input.specs.declared.InputAnswer.TheVariants.{Error, Clear, Repair}
-use Rattle.bb_nest.specs.Answers.{AreFinishable, IsAnswer}
+use Rattle.bb_nest.specs.Answers.{AreFinishable, IsInputAnswer}
 use Rattle.bb_nest.specs.Inside.LawsBelow.{LawsBelow}
 use Rattle.bb_nest.specs.Laws.{AnswersExist}
 use Rattle.bb_nest.proofs.Decisions.{decide_nested}
@@ -24,7 +24,7 @@ module _ (laws : LawsBelow) (spec imp : Netlist) (kinds : List ℕ) (kept : IsNe
     ]
   ]
 
-  chosen_answer : (a : InputAnswer) × IsAnswer spec imp kinds a
+  chosen_answer : (a : InputAnswer) × IsInputAnswer spec imp kinds a
   chosen_answer = elim finishable_or_not [
     | inr not ↦ (Clear, (choices, not))
     | inl finishable ↦

@@ -13,7 +13,7 @@ use Rattle.bb_input.specs.InputFunctions.{pins_and_inputs, pin_bits, stage}
 use Rattle.bb_input.specs.Laws.{StagesSay}
 use Rattle.bb_nest.specs.Rows.{Suffice, IsRow, IsLeast, AreZeros}
 use Rattle.bb_nest.specs.Inside.StageRows.{IsStageRow, AtLeast, AtNone}
-use Rattle.bb_nest.proofs.Points.{pins_of, bits_front, bits_push}
+use Rattle.bb_nest.proofs.Points.{pins_of, bits_prefix, bits_push}
 
 pub count_push : (done : List Pins) (box : Pins) → pin_count (done ++ box ∷ []) ≡ pin_count done + pins_of box
 count_push done box = let e = sum_by-append pins_of done (box ∷ []) in let f = sum_by-cons pins_of box [] in omega (arith, e, f)
@@ -55,14 +55,14 @@ module _ (stages : StagesSay) (points : PointLaws) (spec imp : Netlist) (b : ℕ
     bits_are outs w g =
         let pre = seen ++ (ins ++ outs) in
         let long : pin_count (before ++ box ∷ []) ≤ length pre = omega (arith, count_push before box, length-append seen (ins ++ outs), length-append ins outs, e, f, g) in
-        ap₂ pin_bits (take_more imp.boxes b no_pins l) (ap (λ (v : List Bool). v ++ w) (append_assoc seen ins outs)) ∙ (bits_front (before ++ box ∷ []) pre w long ∙ bits_push before box seen ins outs e f g)
+        ap₂ pin_bits (take_more imp.boxes b no_pins l) (ap (λ (v : List Bool). v ++ w) (append_assoc seen ins outs)) ∙ (bits_prefix (before ++ box ∷ []) pre w long ∙ bits_push before box seen ins outs e f g)
 
-    says : (outs w : List Bool) → length outs ≡ m → length (((seen ++ ins) ++ outs) ++ w) ≡ pins_and_inputs imp → (truth_at t (((seen ++ ins) ++ outs) ++ w) ≡ false) ↔ Suffice spec imp b earlier ins outs
-    says outs w g whole =
+    reports : (outs w : List Bool) → length outs ≡ m → length (((seen ++ ins) ++ outs) ++ w) ≡ pins_and_inputs imp → (truth_at t (((seen ++ ins) ++ outs) ++ w) ≡ false) ↔ Suffice spec imp b earlier ins outs
+    reports outs w g whole =
         subst (λ (chosen : List PinBits). (truth_at t (((seen ++ ins) ++ outs) ++ w) ≡ false) ↔ Wins (Suit spec imp) (drop (b + 1) imp.boxes) chosen)
         (bits_are outs w g) (stages spec imp b l (((seen ++ ins) ++ outs) ++ w) whole)
 
-    -- with zeros behind
+    -- with zeros after
     abbrev spare : ℕ
     spare = pins_and_inputs imp - (pin_count before + (k + m))
 
@@ -79,8 +79,8 @@ module _ (stages : StagesSay) (points : PointLaws) (spec imp : Netlist) (b : ℕ
     row_of_stage outs (AtNone none zeros) = AreZeros (λ others g suffice.
         let w = replicate spare false in
         let whole = point_with others w g (length-replicate spare false) in
-        none (((seen ++ ins) ++ others) ++ w) whole (begins others w) ((says others w g whole).1 suffice)) zeros
-    row_of_stage outs (AtLeast p whole first least row) = IsLeast long ((says outs w long there).0 (ap (truth_at t) (sym parts) ∙ least.bit)) lesser
+        none (((seen ++ ins) ++ others) ++ w) whole (begins others w) ((reports others w g whole).1 suffice)) zeros
+    row_of_stage outs (AtLeast p whole first least row) = IsLeast long ((reports outs w long there).0 (ap (truth_at t) (sym parts) ∙ least.bit)) lesser
       where
         q : ℕ
         q = length (seen ++ ins)
@@ -110,7 +110,7 @@ module _ (stages : StagesSay) (points : PointLaws) (spec imp : Netlist) (b : ℕ
             let full = point_with others z g (length-replicate spare false) in
             let other = ((seen ++ ins) ++ others) ++ z in
             let same : BeginsAs q p other = (full ∙ sym whole, begins others z ∙ sym first) in
-            let less = least.least other same ((says others z g full).1 suffice) in
+            let less = least.least other same ((reports others z g full).1 suffice) in
             let heads = points.first_bits ((seen ++ ins) ++ outs) w ((seen ++ ins) ++ others) spare lw (subst (λ (v : List Bool). number_of v ≤ number_of other) parts less) in
             let a = points.append (seen ++ ins) outs in
             let c = points.append (seen ++ ins) others in

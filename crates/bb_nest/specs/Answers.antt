@@ -1,5 +1,6 @@
--- What the check by choices answers where boxes may be nested: an error where no choices suit; tables where some do, the boxes are nested and
--- the tables can be written down; else no more is said. With at most one box it is the answer of bb_input.
+-- The answer of the check by choices where boxes may be nested: an error where no choices suit; tables where some do,
+-- the boxes are nested and the tables can be written down; else nothing more. With at most one box it is the answer of
+-- bb_input.
 use Rattle.std.specs.Prelude.{ℕ, List}
 use Rattle.bb_net.specs.Completions.{HaveSmallTables}
 use Rattle.bb_net.specs.Conditions.{SomeChoicesSuit, NoChoicesSuit}
@@ -14,7 +15,7 @@ pub record AreFinishable (imp : Netlist) (kinds : List ℕ) : Type 0 where
   pub nested : AreNested imp kinds
   pub small : HaveSmallTables imp.boxes
 
-abbrev pub IsAnswer : Netlist → Netlist → List ℕ → InputAnswer → Type 0
-IsAnswer spec imp kinds Error = NoChoicesSuit spec imp
-IsAnswer spec imp kinds Clear = SomeChoicesSuit spec imp × (AreFinishable imp kinds → ⊥)
-IsAnswer spec imp kinds (Repair tables) = AreFinishable imp kinds × AreNestedTables spec imp tables.items
+abbrev pub IsInputAnswer : Netlist → Netlist → List ℕ → InputAnswer → Type 0
+IsInputAnswer spec imp kinds Error = NoChoicesSuit spec imp
+IsInputAnswer spec imp kinds Clear = SomeChoicesSuit spec imp × (AreFinishable imp kinds → ⊥)
+IsInputAnswer spec imp kinds (Repair tables) = AreFinishable imp kinds × AreNestedTables spec imp tables.items

@@ -1,7 +1,7 @@
--- The rows of the tables of nested boxes. The bits at the input pins of a box tell what stands at all pins of the boxes before it: each of
--- these has the bit at the first input pin that is the same. Behind these bits the row is the least list of output bits with which the boxes
--- behind it can still be filled one after another, as a number with the first output pin most significant. Input bits that no choices suit may
--- come at no vector; their row is all 0.
+-- The rows of the tables of nested boxes. The bits at the input pins of a box determine the bits at all pins of the
+-- boxes before it: each of these has the bit at the first input pin that is the same. Given these bits the row is the
+-- least list of output bits with which the boxes after it can still be filled one after another, as a number with the
+-- first output pin most significant. Input bits that no choices suit may come at no vector; their row is all 0.
 use Rattle.std.specs.Prelude.{◌≡◌, ◌≤◌, ◌<◌, ℕ, ◌+◌, Bool, false, List, [], ◌∷◌, ◌++◌, length, take, drop, replicate, slice_index}
 use Rattle.std.specs.List.{AllZip}
 use Rattle.bb_bits.specs.Numbers.{number_of}
@@ -35,7 +35,7 @@ SeesEarlier net b ins earlier = AllZip (SeesBits net (box_at net.boxes b) ins) (
 abbrev pub AreOutputsOf : Netlist → ℕ → List Bool → Type 0
 AreOutputsOf net b outs = length outs ≡ length (box_at net.boxes b).outs
 
--- with these outputs of box b the boxes behind it can be filled one after another
+-- with these outputs of box b the boxes after it can be filled one after another
 abbrev pub Suffice : Netlist → Netlist → ℕ → List PinBits → List Bool → List Bool → Type 0
 Suffice spec imp b earlier ins outs = Wins (Suit spec imp) (drop (b + 1) imp.boxes) (earlier ++ record { ins = ins; outs = outs } ∷ [])
 

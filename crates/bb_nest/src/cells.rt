@@ -1,4 +1,5 @@
-//! Whether boxes are nested by their cells alone, with no diagrams.
+//! Nestedness by cells, for callers that have no BDDs; it implies nestedness by functions. The checks themselves do not
+//! use it: two netlists of one text may read different ones of several equal cells at a pin.
 
 ghost use Rattle.std.specs.Prelude.{◌≡◌, ◌≢◌, ◌<◌, ◌↔◌, ℕ, true, length, take, All, AllPairs, Contains, slice_index};
 ghost use Rattle.bb_net.specs.Netlists.{box_at};
@@ -7,14 +8,15 @@ ghost use Rattle.bb_nest.specs.Inside.Readers.{HoldBoxes};
 
 use bb_net::{BoxPins, Pair, kinds_may_differ};
 
-/// Whether each box of a pair has a kind of its own and reads the cells at all pins of the boxes before it.
+/// Each box has a sharing class of its own, and its input pins include the cells at all pins of the boxes before it.
 pub fn nested(pair: &Pair) -> bool
     ensures { result ≡ true ↔ AreNestedByCells pair.now.imp pair.now.kinds }
 {
     all_differ(pair) && hold_earlier(pair.imp().boxes())
 }
 
-/// Whether all kinds of a pair differ: then each is the place of its box.
+/// Boxes that share a table are never nested: two of them cannot each be given rows of their own. Sharing classes are
+/// numbered by first box, so if all differ each number is its box.
 pub(crate) fn all_differ(pair: &Pair) -> bool
     ensures { result ≡ true ↔ AllPairs ◌≢◌ pair.now.kinds }
 {
@@ -22,7 +24,6 @@ pub(crate) fn all_differ(pair: &Pair) -> bool
     are_places(pair.kinds())
 }
 
-/// Whether each number is its own place.
 fn are_places(kinds: &[u32]) -> bool
     ensures { result ≡ true ↔ ((b : ℕ) → b < length kinds.now → slice_index kinds.now b ≡ b) }
 {
@@ -34,7 +35,6 @@ fn are_places(kinds: &[u32]) -> bool
     true
 }
 
-/// Whether each box has the cells at all pins of the boxes before it.
 fn hold_earlier(boxes: &[BoxPins]) -> bool
     ensures { result ≡ true ↔ ((b : ℕ) → b < length boxes.now → HoldBoxes (box_at boxes.now b).ins (take b boxes.now)) }
 {
@@ -46,7 +46,6 @@ fn hold_earlier(boxes: &[BoxPins]) -> bool
     true
 }
 
-/// Whether the cells at all pins of boxes are among some input pins.
 fn hold_boxes(ins: &[u32], boxes: &[BoxPins]) -> bool
     ensures { result ≡ true ↔ HoldBoxes ins.now boxes.now }
 {
@@ -58,14 +57,12 @@ fn hold_boxes(ins: &[u32], boxes: &[BoxPins]) -> bool
     true
 }
 
-/// Whether the cells at all pins of a box are among some input pins.
 fn hold_pins(ins: &[u32], pins: &BoxPins) -> bool
     ensures { result ≡ true ↔ All (Contains ins.now) (pin_cells pins.now) }
 {
     hold_cells(ins, pins.ins()) && hold_cells(ins, pins.outs())
 }
 
-/// Whether cells are among some input pins.
 fn hold_cells(ins: &[u32], cells: &[u32]) -> bool
     ensures { result ≡ true ↔ All (Contains ins.now) cells.now }
 {

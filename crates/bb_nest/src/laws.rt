@@ -1,8 +1,8 @@
-//! Laws of nested boxes and of the answers. The definitions stand in the specifications; each function here has a law as its
-//! contract and does nothing.
+//! Laws of nested boxes and of the answers, as contracts of empty functions: crates above call a function and cite no
+//! proof of this one.
 
 ghost use Rattle.bb_nest.specs.Inside.LawsBelow.{LawsBelow};
-ghost use Rattle.bb_nest.specs.Laws.{CellsAreSeen, SinglesAreNested, SinglesAnswerAlike, NestedChoicesAreTables, NestedAreDecided, OneAnswer, AnswersExist};
+ghost use Rattle.bb_nest.specs.Laws.{CellsAreSeen, SinglesAreNested, SinglesAnswerTheSame, NestedChoicesAreTables, NestedAreDecided, OneAnswer, AnswersExist};
 
 use bb_bits::{
     number_is_below, number_spelled, number_spelled_once, rows_are_chosen, rows_are_tables,
@@ -12,32 +12,32 @@ use bb_net::{
     vectors_hold_or_not,
 };
 
-/// Equal cells are the same, so boxes that are nested by cells are nested.
+/// Nested by cells implies nested.
 pub fn cells_are_seen()
     ensures { CellsAreSeen }
 {}
 
-/// One box is nested, with nothing to see.
+/// A lone box has no earlier pins to see.
 pub fn singles_are_nested()
     ensures { SinglesAreNested }
 {}
 
-/// With at most one box the answers are those of the check by choices.
-pub fn singles_answer_alike()
-    ensures { SinglesAnswerAlike }
+/// So `bb_checks` needs no case by the number of boxes: `input` and `nest` agree up to one box.
+pub fn singles_answer_the_same()
+    ensures { SinglesAnswerTheSame }
 {
     conditions_weaken();
     conditions_hold_or_not();
 }
 
-/// Where choices suit and boxes are nested, tables agree.
+/// The direction that lets the tables be printed.
 pub fn nested_choices_are_tables()
     ensures { NestedChoicesAreTables }
 {
     laws_of_tables();
 }
 
-/// With nested boxes the check by choices decides: where no choices suit, no tables agree, and where none agree, none suit.
+/// No choices suit exactly where no tables agree, so for nested boxes the check by choices is complete.
 pub fn nested_are_decided()
     ensures { NestedAreDecided }
 {
@@ -45,7 +45,7 @@ pub fn nested_are_decided()
     conditions_weaken();
 }
 
-/// A pair has one answer: an error excludes tables, and each row of a table is the only one.
+/// An error excludes tables, and each row is unique: the least that suits, read at the first pin that sees.
 pub fn answers_are_one()
     ensures { OneAnswer }
 {
@@ -55,7 +55,7 @@ pub fn answers_are_one()
     conditions_weaken();
 }
 
-/// And each pair has an answer.
+/// Every pair has an answer, without a bound on nodes.
 pub fn answers_exist()
     ensures { AnswersExist }
 {
@@ -63,7 +63,7 @@ pub fn answers_exist()
     conditions_hold_or_not();
 }
 
-// The laws of tables and of values.
+// Laws that most lemmas here need together.
 pub(crate) fn laws_of_tables()
     ensures { LawsBelow }
 {

@@ -1,11 +1,12 @@
-//! The check by choices of nested boxes.
+//! The check by choices of nested boxes. It continues the BDDs of `bb_input` and makes no further function, so `Nodes`
+//! comes exactly where it comes there.
 
 ghost use Rattle.std.specs.Prelude.{◌≡◌, ◌≤◌, ◌↔◌, true, length, IfOk, OnOk, IsErrOf};
 ghost use Rattle.bb_bits.specs.Truth.{IsBeadOfAny};
 ghost use Rattle.bb_bits.specs.TruthSets.{HasMoreThan};
 ghost use Rattle.bb_input.specs.InputFunctions.{input_functions};
 ghost use Rattle.bb_input.specs.Inside.Prefixes.{IsPrefix};
-ghost use Rattle.bb_nest.specs.Answers.{IsAnswer, AreFinishable};
+ghost use Rattle.bb_nest.specs.Answers.{IsInputAnswer, AreFinishable};
 ghost use Rattle.bb_nest.specs.Inside.Readers.{AllSeeRefs};
 
 use crate::cells::all_differ;
@@ -13,13 +14,13 @@ use crate::laws::laws_of_tables;
 use crate::seeing::see_earlier;
 use crate::tables::all_tables;
 use bb_bits::{NoMemory, tables_have_all_bits};
-use bb_input::{InputAnswer, Prefix, last_says, make_prefix, stages_say};
+use bb_input::{InputAnswer, Prefix, last_reports, make_prefix, stages_say};
 use bb_net::Pair;
 use bb_sym::{RungFault, laws};
 use std::alloc::Global;
 
-/// Whether boxes can be filled so that what they give depends on their inputs alone and every output is right: one box after
-/// another, for each list of bits at its input pins one at its output pins. With nested boxes these are their tables, which are told.
+/// Can boxes be filled, one after another, each by its own input pins and those of earlier boxes? Nested boxes get
+/// their tables in the answer.
 ///
 /// # Errors
 ///
@@ -28,19 +29,18 @@ pub fn nest(alloc: Global, pair: &Pair, nodes: u32, cache: u32) -> Result<InputA
     requires nodes { nodes ≤ 50000000 }
     requires cache_least { 1 ≤ cache }
     requires cache_most { cache ≤ 1048576 }
-    ensures answer { IfOk result (IsAnswer pair.now.spec pair.now.imp pair.now.kinds) }
+    ensures answer { IfOk result (IsInputAnswer pair.now.spec pair.now.imp pair.now.kinds) }
     ensures nodes { IsErrOf result RungFault.Nodes → HasMoreThan (IsBeadOfAny (input_functions pair.now.spec pair.now.imp)) nodes }
     ensures within { HasMoreThan (IsBeadOfAny (input_functions pair.now.spec pair.now.imp)) nodes → OnOk result ⊥ }
 {
     let made = make_prefix(alloc, pair, nodes, cache)?;
     let vars = made.pins.len() + pair.imp().inputs() as usize;
     let mut point = vec![in alloc; false; vars]?;
-    let answer = told(alloc, pair, &made, &mut point)?;
+    let answer = reported(alloc, pair, &made, &mut point)?;
     Ok(answer)
 }
 
-/// What the diagrams say.
-fn told(
+fn reported(
     alloc: Global,
     pair: &Pair,
     made: &Prefix,
@@ -48,13 +48,13 @@ fn told(
 ) -> Result<InputAnswer, NoMemory>
     requires made { IsPrefix pair.now.spec pair.now.imp made.now }
     requires point { length point.old ≡ made.now.diagrams.store.vars }
-    ensures answer { IfOk result (IsAnswer pair.now.spec pair.now.imp pair.now.kinds) }
+    ensures answer { IfOk result (IsInputAnswer pair.now.spec pair.now.imp pair.now.kinds) }
 {
     laws_of_tables();
     laws::functions();
     laws::points();
     stages_say();
-    last_says();
+    last_reports();
     made.diagrams.is_canonical();
     if made.diagrams.at(made.last, point) {
         return Ok(InputAnswer::Error);
@@ -75,7 +75,8 @@ fn told(
     Ok(InputAnswer::Repair(tables))
 }
 
-/// Whether the boxes are nested and their tables may be written down.
+/// The tables are bounded as printed ones are. Where the test fails, choices suit but no tables are known, so the
+/// answer is `Clear`.
 fn is_finishable(pair: &Pair, made: &Prefix) -> bool
     requires made { IsPrefix pair.now.spec pair.now.imp made.now }
     ensures finishable { result ≡ true ↔ AreFinishable pair.now.imp pair.now.kinds }

@@ -1,4 +1,6 @@
-//! The table of a box, row by row the least one with which the boxes behind it can still be filled.
+//! A table from the stage of its box: each row is the least with which the boxes after it can still be filled. The pins
+//! before the box are not free: each gets the bit of the first input pin that sees it. Where two such pins have
+//! different bits no vector leads, so which one is read changes no output; the first makes the row unique.
 
 ghost use Rattle.std.specs.Prelude.{◌≡◌, ◌≢◌, ◌+◌, ◌*◌, ◌^◌, ◌<◌, ◌≤◌, ◌++◌, ℕ, Bool, false, List, length, map, take, drop, replicate, All, IfOk};
 ghost use Rattle.bb_bits.specs.Numbers.{number_of};
@@ -6,7 +8,7 @@ ghost use Rattle.bb_bits.specs.Tables.{row_of};
 ghost use Rattle.bb_net.specs.Values.{bit_of};
 ghost use Rattle.bb_uniq.specs.Inside.Nodes.{IsRef};
 ghost use Rattle.bb_uniq.specs.Inside.Meaning.{truth_of};
-ghost use Rattle.bb_nest.specs.Inside.StageRows.{IsStageRow, HasStageRows, front_of};
+ghost use Rattle.bb_nest.specs.Inside.StageRows.{IsStageRow, HasStageRows, prefix_of};
 
 use crate::spelling::spell;
 use bb_bits::{NoMemory, Table, number_spelled_once, tables_have_few_inputs};
@@ -15,8 +17,7 @@ use bb_input::write_row;
 use bb_quant::least;
 use std::alloc::Global;
 
-/// The table of a box behind pins of which each has the bit of its reader: each row is the least at which `f` is 0, or 0 where
-/// there is none.
+/// `readers[q]` is the input pin that sees pin `q`. A row is the least at which `f` is 0, or 0 where there is none.
 pub(crate) fn stage_table(
     alloc: Global,
     d: &Diagrams,
@@ -43,7 +44,6 @@ pub(crate) fn stage_table(
     Ok(table)
 }
 
-/// Fills all rows of a table.
 fn fill_rows(d: &Diagrams, f: Ref, readers: &[usize], table: &mut Table, point: &mut [bool])
     requires f { IsRef d.now.store f.0 }
     requires outputs { 0 < table.old.outputs }
@@ -63,7 +63,7 @@ fn fill_rows(d: &Diagrams, f: Ref, readers: &[usize], table: &mut Table, point: 
     }
 }
 
-/// Fills the row with a number.
+/// `point` is scratch; the pins before, the inputs and the outputs are written anew for each row.
 fn fill_row(
     d: &Diagrams,
     f: Ref,
@@ -81,28 +81,27 @@ fn fill_row(
     ensures inputs { table.new.inputs ≡ table.old.inputs }
     ensures outputs { table.new.outputs ≡ table.old.outputs }
     ensures row { (ins : List Bool) → length ins ≡ table.old.inputs → number_of ins ≡ row
-        → IsStageRow d.now.store.vars (truth_of d.now.store f.0) table.old.outputs (front_of readers.now ins) (row_of table.new row) }
+        → IsStageRow d.now.store.vars (truth_of d.now.store f.0) table.old.outputs (prefix_of readers.now ins) (row_of table.new row) }
     ensures others { (other : ℕ) → other < row → row_of table.new other ≡ row_of table.old other }
 {
     number_spelled_once();
     let start = readers.len();
-    let front = start + table.inputs() as usize;
-    spell(row, &mut point[start..front]);
+    let prefix = start + table.inputs() as usize;
+    spell(row, &mut point[start..prefix]);
     copy_seen(readers, point);
-    if !least(d, f, false, front, point) {
-        clear(&mut point[front..]);
+    if !least(d, f, false, prefix, point) {
+        clear(&mut point[prefix..]);
     }
-    write_row(table, row, &point[front..]);
+    write_row(table, row, &point[prefix..]);
 }
 
-/// Sets bits to 0.
 fn clear(bits: &mut [bool])
     ensures { bits.new ≡ replicate (length bits.old) false }
 {
     bits.fill(false);
 }
 
-/// Gives each pin before the input pins the bit of its reader.
+/// The bits of the input pins have to be written before.
 fn copy_seen(readers: &[usize], point: &mut [bool])
     requires there { All (λ p. length readers.now + p < length point.old) readers.now }
     requires fit { length readers.now ≤ length point.old }

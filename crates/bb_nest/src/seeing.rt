@@ -1,4 +1,5 @@
-//! Which input pins of a box have the bits of pins before it: those with the same diagram, since a store holds a function once.
+//! Which input pins see earlier pins: those with the same Ref. A store holds each function once, so equality of
+//! functions costs a comparison of numbers.
 
 ghost use Rattle.std.specs.Prelude.{◌≡◌, ◌≤◌, ◌<◌, ℕ, true, false, length, All, IfOk};
 ghost use Rattle.bb_net.specs.Pairs.{pin_count};
@@ -10,7 +11,7 @@ use bb_dd::Ref;
 use bb_net::BoxPins;
 use std::alloc::Global;
 
-/// The place of the first of the input pins with a Ref, or their number where none has it.
+/// `ins.len()` where no pin has it.
 fn reader(ins: &[Ref], r: Ref) -> usize
     ensures most { result ≤ length ins.now }
     ensures found { result < length ins.now → IsReader ins.now r result }
@@ -23,7 +24,6 @@ fn reader(ins: &[Ref], r: Ref) -> usize
     p
 }
 
-/// Whether each of some Refs is at one of the input pins.
 fn sees_all(ins: &[Ref], refs: &[Ref]) -> bool
     ensures yes { result ≡ true → All (HasReader ins.now) refs.now }
     ensures no { result ≡ false → (q : ℕ) × (q < length refs.now) × HasNoReader ins.now (ref_at refs.now q) }
@@ -36,7 +36,7 @@ fn sees_all(ins: &[Ref], refs: &[Ref]) -> bool
     true
 }
 
-/// For each of some Refs the first input pin that has it.
+/// Each of `refs` has to be at some pin.
 pub(crate) fn readers(alloc: Global, ins: &[Ref], refs: &[Ref]) -> Result<Vec<usize>, NoMemory>
     requires seen { All (HasReader ins.now) refs.now }
     ensures readers { IfOk result (λ readers. AreReaders ins.now refs.now readers.items) }
@@ -48,7 +48,7 @@ pub(crate) fn readers(alloc: Global, ins: &[Ref], refs: &[Ref]) -> Result<Vec<us
     Ok(readers)
 }
 
-/// Whether each box sees all pins of the boxes before it.
+/// `refs` has the cells at all pins, in the order of the boxes.
 pub(crate) fn see_earlier(boxes: &[BoxPins], refs: &[Ref]) -> bool
     requires count { length refs.now ≡ pin_count boxes.now }
     ensures yes { result ≡ true → AllSeeRefs boxes.now refs.now }

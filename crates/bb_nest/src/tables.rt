@@ -1,4 +1,5 @@
-//! The tables of nested boxes, one after another.
+//! All tables from one set of stages. Each box's table is read at its own stage, where earlier boxes still have free
+//! pins, so no table has to be substituted into the functions of a later one.
 
 ghost use Rattle.std.specs.Prelude.{◌≡◌, ◌≤◌, ◌<◌, ℕ, length, IfOk};
 ghost use Rattle.bb_net.specs.Completions.{HaveSmallTables};
@@ -16,7 +17,7 @@ use bb_dd::{Diagrams, Ref};
 use bb_net::BoxPins;
 use std::alloc::Global;
 
-/// The tables of boxes that see all pins before them.
+/// Boxes have to be nested. `refs` has the cells at all pins in order.
 pub(crate) fn all_tables(
     alloc: Global,
     d: &Diagrams,

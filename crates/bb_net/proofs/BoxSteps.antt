@@ -11,11 +11,11 @@ use Rattle.std.proofs.lemmas.List.Elements.{All-map, All-weaker, All-from_recurs
 use Rattle.std.proofs.lemmas.List.Sorted.{Contains-permutation, IsPermutation-map, IsPermutation-sym}
 use Rattle.bb_net.specs.declared.cell.Cell.TheVariants as cell
 use Rattle.bb_net.specs.declared.loose.LooseCell.TheVariants.{BoxOut}
-use Rattle.bb_net.specs.declared.placing.Waiter.{Waiter}
+use Rattle.bb_net.specs.declared.ordering.placing.Waiter.{Waiter}
 use Rattle.bb_net.specs.Netlists.{Netlist, Pins, box_at, with_cell, with_box}
 use Rattle.bb_net.specs.Values.{bit_of}
 use Rattle.bb_net.specs.Loose.{LooseList, loose_at, operands, IsLoose}
-use Rattle.bb_net.specs.Orders.{IsKept, IsMoved}
+use Rattle.bb_net.specs.Orders.{IsNoCopy, IsMoved}
 use Rattle.bb_net.specs.Inside.Placings.{IsPlaced, given_place, IsBuilt, boxes_of, IsLeastFirst, IsPlacingBy, IsComing}
 use Rattle.bb_net.proofs.PlaceLists.{length-le_from_apart}
 use Rattle.bb_net.proofs.PlacedCells.{placed_or_open, place_of-at}
@@ -93,7 +93,7 @@ IsPlacing-output l net to numbers numbered waiting fresh ready b number p old co
     let pin = pin_cell l b p old.list h in
     let has = contains_number numbers number b coming.there coming.is in
     IsPlacing-put l net to numbers numbered waiting fresh ready [] (drop p outs) (drop (p + 1) outs) k (cell.BoxOut number p) old pin.0 (coming.free p (omega arith) h)
-    (subst IsKept (sym pin.1) tt)
+    (subst IsNoCopy (sym pin.1) tt)
     (λ a reads. old.begun.pins b a has (subst (λ c. Contains (operands l.boxes c) a) pin.1 reads))
     (subst (λ c. IsMoved (given_place to) numbers c (cell.BoxOut number p)) (sym pin.1) (number, coming.there, coming.is, refl))
     (λ c q e. let is : BoxOut b p ≡ BoxOut c q = sym pin.1 ∙ e in let same : b ≡ c = cc is in subst (Contains numbers) same has)
@@ -142,7 +142,7 @@ IsComing-first l net to numbers numbered waiting ready b number ins s free known
         | inl placed ↦
             let pin = pin_cell l b p s.list h in
             let has = s.begun.outputs (slice_index (box_at l.boxes b).outs p) placed.0 b p placed.1 pin.1 in
-            absurd (both_ways (bit_of numbered b) free ((s.told b lt).1 has))
+            absurd (both_ways (bit_of numbered b) free ((s.reported b lt).1 has))
         | inr o ↦ o
       ];
     }
@@ -156,7 +156,7 @@ IsPlacing-drop l net to numbers numbered flags waiting fresh ready now old e hea
     (IsWaiting-drop l to numbers waiting fresh (boxes_of ready) (boxes_of now) [] kept
     (λ c has new. elim (dropped c has) [
       | inl rest ↦ rest
-      | inr told ↦ absurd (new ((old.told c (old.queue.ready_there c has)).0 (subst (λ xs. bit_of xs c ≡ true) e told)))
+      | inr reported ↦ absurd (new ((old.reported c (old.queue.ready_there c has)).0 (subst (λ xs. bit_of xs c ≡ true) e reported)))
     ]) old.queue) heap
 
 -- all boxes with numbers are below the number of boxes

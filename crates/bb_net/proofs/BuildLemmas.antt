@@ -7,14 +7,14 @@ use Rattle.std.proofs.lemmas.List.{take-append-le, length-take, length_push, get
 use Rattle.std.proofs.lemmas.List.Elements.{All-weaker, All-nil, All-cons, All-same, All-contains}
 use Rattle.bb_net.specs.declared.cell.Cell.{Cell}
 use Rattle.bb_net.specs.declared.cell.Cell.TheVariants.{Const, Input, Not, And, Or, Xor, Mux, BoxOut}
-use Rattle.bb_net.specs.Netlists.{Netlist, Pins, cell_at, box_at, IsPinAt, ReadsBefore, reads_of, Leads, IsOrdered, IsNetlist, MayFollow, with_pin, with_cell, with_box}
+use Rattle.bb_net.specs.Netlists.{Netlist, Pins, cell_at, box_at, IsPinAt, ReadsBefore, reads_of, ReadsInSteps, IsOrdered, IsNetlist, MayBeAppended, with_pin, with_cell, with_box}
 use Rattle.bb_net.proofs.NetLemmas.{length-first_cells}
 
 -- the box of an output pin is there
 abbrev pub IsBoxThere : List Pins → Cell → Type 0
 IsBoxThere boxes c = (b p : ℕ) → c ≡ BoxOut b p → (b < length boxes) × (p ≡ length (box_at boxes b).outs)
 
-pub IsBoxThere-follow : (net : Netlist) (c : Cell) → MayFollow net c → IsBoxThere net.boxes c
+pub IsBoxThere-follow : (net : Netlist) (c : Cell) → MayBeAppended net c → IsBoxThere net.boxes c
 IsBoxThere-follow net (Const v) h b p e = cc e
 IsBoxThere-follow net (Input v) h b p e = cc e
 IsBoxThere-follow net (Not v) h b p e = cc e
@@ -27,7 +27,7 @@ IsBoxThere-follow net (BoxOut v w) h b p e =
     let ep : w ≡ p = cc e in
     subst (λ k. (k < length net.boxes) × (p ≡ length (box_at net.boxes k).outs)) eb (h.0, sym ep ∙ h.1)
 
-reads_there : (net : Netlist) (c : Cell) → IsNetlist net → MayFollow net c → ReadsBefore net.inputs net.boxes (length net.cells) c
+reads_there : (net : Netlist) (c : Cell) → IsNetlist net → MayBeAppended net c → ReadsBefore net.inputs net.boxes (length net.cells) c
 reads_there net (Const v) kept h = h
 reads_there net (Input v) kept h = h
 reads_there net (Not v) kept h = h
@@ -141,14 +141,14 @@ cell_at-push cells c place lt = get_or_append_left cells (c ∷ []) (Const false
 cell_at-last : (cells : List Cell) (c : Cell) (place : ℕ) → length cells ≡ place → cell_at (cells ++ c ∷ []) place ≡ c
 cell_at-last cells c place e = get_or_push cells c (Const false) place e
 
-front_within : (net : Netlist) → IsNetlist net → net.inputs + 2 ≤ length net.cells
-front_within net kept =
-    let a = ap length kept.front in
+prefix_within : (net : Netlist) → IsNetlist net → net.inputs + 2 ≤ length net.cells
+prefix_within net kept =
+    let a = ap length kept.prefix in
     let b = length-take (net.inputs + 2) net.cells in
     let d = length-first_cells net.inputs in
     omega (arith, a, b, d)
 
--- what a cell reads stands before it
+-- what a cell reads precedes it
 pub reads_before : (inputs : ℕ) (boxes : List Pins) (place : ℕ) (c : Cell) → ReadsBefore inputs boxes place c → All (λ k. k < place) (reads_of boxes c)
 reads_before inputs boxes place (Const v) h = All-nil (λ k. k < place)
 reads_before inputs boxes place (Input v) h = All-nil (λ k. k < place)
@@ -160,12 +160,12 @@ reads_before inputs boxes place (Mux c t e) h = All-cons (λ k. k < place) c (t 
 reads_before inputs boxes place (BoxOut b p) h = h
 
 -- where the cells of a netlist read the same places as before, the same places depend on one another
-Leads-same : (net : Netlist) (cells : List Cell) (boxes : List Pins) → IsOrdered net → ((k : ℕ) → k < length net.cells → reads_of boxes (cell_at cells k) ≡ reads_of net.boxes (cell_at net.cells k)) → (n from to : ℕ) → from < length net.cells → Leads n cells boxes from to → Leads n net.cells net.boxes from to × (to < length net.cells)
-Leads-same net cells boxes ordered same zero from to there e = (e, omega (arith, e))
-Leads-same net cells boxes ordered same (suc n) from to there h =
+ReadsInSteps-same : (net : Netlist) (cells : List Cell) (boxes : List Pins) → IsOrdered net → ((k : ℕ) → k < length net.cells → reads_of boxes (cell_at cells k) ≡ reads_of net.boxes (cell_at net.cells k)) → (n from to : ℕ) → from < length net.cells → ReadsInSteps n cells boxes from to → ReadsInSteps n net.cells net.boxes from to × (to < length net.cells)
+ReadsInSteps-same net cells boxes ordered same zero from to there e = (e, omega (arith, e))
+ReadsInSteps-same net cells boxes ordered same (suc n) from to there h =
     let has = subst (λ xs. Contains xs h.0) (same from there) h.1 in
     let below = All-contains (λ k. k < from) _ h.0 (reads_before net.inputs net.boxes from (cell_at net.cells from) (ordered from there)) has in
-    let rest = Leads-same net cells boxes ordered same n h.0 to (omega arith) h.2 in
+    let rest = ReadsInSteps-same net cells boxes ordered same n h.0 to (omega arith) h.2 in
     ((h.0, has, rest.0), rest.1)
 
 reads_of-ins : (old new : List Pins) (c : Cell) → ((k : ℕ) → (box_at new k).ins ≡ (box_at old k).ins) → reads_of new c ≡ reads_of old c
@@ -188,14 +188,14 @@ reads_of-box boxes q (Xor v w) there = refl
 reads_of-box boxes q (Mux v w u) there = refl
 reads_of-box boxes q (BoxOut v w) there = ap (λ (r : Pins). r.ins) (get_or_append_left boxes (q ∷ []) _ v (there v w refl))
 
-pub IsNetlist-push : (net : Netlist) (c : Cell) → IsNetlist net → length net.cells + 1 < 2 ^ 32 → MayFollow net c → IsNetlist (with_cell net c)
+pub IsNetlist-push : (net : Netlist) (c : Cell) → IsNetlist net → length net.cells + 1 < 2 ^ 32 → MayBeAppended net c → IsNetlist (with_cell net c)
 IsNetlist-push net c kept room follows =
     let n : ℕ = length net.cells in
     let there = IsBoxThere-follow net c follows in
     let len : length (net.cells ++ c ∷ []) ≡ n + 1 = length_push net.cells c in
     let ins = ins-with_pin net.boxes n c there in
     record {
-      front = take-append-le (net.inputs + 2) net.cells (c ∷ []) (front_within net kept) ∙ kept.front;
+      prefix = take-append-le (net.inputs + 2) net.cells (c ∷ []) (prefix_within net kept) ∙ kept.prefix;
       ordered = λ place h. elim (cases_lt place n) [
         | inl below ↦ subst (λ d. ReadsBefore net.inputs (with_pin net.boxes n c) place d) (sym (cell_at-push net.cells c place below))
             (ReadsBefore-ins net.inputs net.boxes (with_pin net.boxes n c) place (cell_at net.cells place) ins (kept.ordered place below))
@@ -223,7 +223,7 @@ IsNetlist-push net c kept room follows =
           let below = All-contains (λ k. k < n) _ pin (kept.pins_there b) old in
           let same : (k : ℕ) → k < n → reads_of (with_pin net.boxes n c) (cell_at (net.cells ++ c ∷ []) k) ≡ reads_of net.boxes (cell_at net.cells k) = λ k h.
           ap (reads_of (with_pin net.boxes n c)) (cell_at-push net.cells c k h) ∙ reads_of-ins net.boxes (with_pin net.boxes n c) (cell_at net.cells k) ins in
-          let leads = Leads-same net (net.cells ++ c ∷ []) (with_pin net.boxes n c) kept.ordered same dep.0 pin place below dep.1 in
+          let leads = ReadsInSteps-same net (net.cells ++ c ∷ []) (with_pin net.boxes n c) kept.ordered same dep.0 pin place below dep.1 in
           kept.boxes_ordered b d p pin place le old (dep.0, leads.0) (sym (cell_at-push net.cells c place leads.1) ∙ is);
       pins_there = λ b. All-same (λ pin. pin < length (net.cells ++ c ∷ [])) _ _ (ins b) (All-weaker (λ pin. pin < n) (λ pin. pin < length (net.cells ++ c ∷ [])) (λ x h. omega (arith, h, len)) _ (kept.pins_there b));
       outs_there = All-weaker (λ pin. pin < n) (λ pin. pin < length (net.cells ++ c ∷ [])) (λ x h. omega (arith, h, len)) net.outs kept.outs_there;
@@ -231,13 +231,13 @@ IsNetlist-push net c kept room follows =
       boxes_fit = omega (arith, kept.boxes_fit, length-with_pin net.boxes n c);
     }
 
-pub IsNetlist-append : (net : Netlist) (c : Cell) (cells : List Cell) (boxes : List Pins) (r : Result ℕ AllocError) → IsNetlist net → length net.cells + 1 < 2 ^ 32 → MayFollow net c
+pub IsNetlist-append : (net : Netlist) (c : Cell) (cells : List Cell) (boxes : List Pins) (r : Result ℕ AllocError) → IsNetlist net → length net.cells + 1 < 2 ^ 32 → MayBeAppended net c
     → OnOk r (cells ≡ net.cells ++ c ∷ []) → OnOk r (boxes ≡ with_pin net.boxes (length net.cells) c) → OnErr r ((cells ≡ net.cells) × (boxes ≡ net.boxes))
     → IsNetlist (record { inputs = net.inputs; cells = cells; boxes = boxes; outs = net.outs })
 IsNetlist-append net c cells boxes (Ok v) kept room follows a b d = rw (a, b) (IsNetlist-push net c kept room follows)
 IsNetlist-append net c cells boxes (Err v) kept room follows a b d = rw (d.0, d.1) kept
 
--- the box behind the others, and those before it
+-- the box after the others, and those before it
 box_at-push : (boxes : List Pins) (q : Pins) (b : ℕ) → ((b < length boxes) × (box_at (boxes ++ q ∷ []) b ≡ box_at boxes b)) ⊎ (((b ≡ length boxes) × (box_at (boxes ++ q ∷ []) b ≡ q)) ⊎ (box_at (boxes ++ q ∷ []) b ≡ record { ins = []; outs = [] }))
 box_at-push boxes q b = elim (cases_lt b (length boxes)) [
   | inl below ↦ inl (below, get_or_append_left boxes (q ∷ []) _ b below)
@@ -271,7 +271,7 @@ IsNetlist-box net ins kept room there =
     let q : Pins = record { ins = ins; outs = [] } in
     let n : ℕ = length net.cells in
     record {
-      front = kept.front;
+      prefix = kept.prefix;
       ordered = λ place h. ReadsBefore-box net.inputs net.boxes q place (cell_at net.cells place)
           (λ b p e. box_there net kept b p place (kept.listed place b p h e)) (kept.ordered place h);
       listed = λ place b p h is.
@@ -291,13 +291,13 @@ IsNetlist-box net ins kept room there =
             | inl e ↦
                 let old = subst (λ (r : Pins). Contains r.ins pin) e.1 has in
                 let below = All-contains (λ k. k < n) _ pin (kept.pins_there b) old in
-                let leads = Leads-same net net.cells (net.boxes ++ q ∷ []) kept.ordered same dep.0 pin place below dep.1 in
+                let leads = ReadsInSteps-same net net.cells (net.boxes ++ q ∷ []) kept.ordered same dep.0 pin place below dep.1 in
                 kept.boxes_ordered b d p pin place le old (dep.0, leads.0) is
             | inr e ↦ elim e [
               | inl f ↦
                   let mine = subst (λ (r : Pins). Contains r.ins pin) f.1 has in
                   let below = All-contains (λ k. k < n) _ pin there mine in
-                  let leads = Leads-same net net.cells (net.boxes ++ q ∷ []) kept.ordered same dep.0 pin place below dep.1 in
+                  let leads = ReadsInSteps-same net net.cells (net.boxes ++ q ∷ []) kept.ordered same dep.0 pin place below dep.1 in
                   let d_there = box_there net kept d p place (kept.listed place d p leads.1 is) in
                   absurd (omega (arith, le, d_there, f.0))
               | inr f ↦

@@ -8,9 +8,9 @@ use Rattle.bb_net.specs.declared.cell.Cell.{Cell}
 use Rattle.bb_net.specs.declared.cell.Cell.TheVariants as cell
 use Rattle.bb_net.specs.declared.loose.LooseCell.{LooseCell}
 use Rattle.bb_net.specs.declared.loose.LooseCell.TheVariants.{Const, Input, Not, And, Or, Xor, Mux, BoxOut, Copy}
-use Rattle.bb_net.specs.Netlists.{Netlist, Pins, cell_at, box_at, MayFollow, with_pin, with_cell, with_box}
+use Rattle.bb_net.specs.Netlists.{Netlist, Pins, cell_at, box_at, MayBeAppended, with_pin, with_cell, with_box}
 use Rattle.bb_net.specs.Loose.{LooseList, loose_at, operands, IsLoose}
-use Rattle.bb_net.specs.Orders.{IsKept, IsMoved}
+use Rattle.bb_net.specs.Orders.{IsNoCopy, IsMoved}
 use Rattle.bb_net.specs.Inside.Placings.{IsAt, IsPlaced, IsOpen, IsOutput, given_place, IsBegun, IsBuilt}
 use Rattle.bb_net.proofs.PlacedCells.{place_of-at, at_old, at_new, at_cases, place_of-old, open_count-set, index_cases}
 
@@ -92,7 +92,7 @@ old_moved : (l : LooseList) (to : List (Option ℕ)) (numbers : List ℕ) (k q m
 old_moved l to numbers k q m place d begun free at moved =
     IsMoved-same (given_place to) (given_place (set to k (Some q))) numbers l.boxes (loose_at l m) d (λ a has. place_of-old to k q a free (begun.reads m place a at has)) moved
 
-pub IsBuilt-more : (l : LooseList) (net : Netlist) (to : List (Option ℕ)) (numbers : List ℕ) (k : ℕ) (c : Cell) → IsBegun l to numbers → IsBuilt l net to numbers → k < length to → IsOpen to k → IsKept (loose_at l k)
+pub IsBuilt-more : (l : LooseList) (net : Netlist) (to : List (Option ℕ)) (numbers : List ℕ) (k : ℕ) (c : Cell) → IsBegun l to numbers → IsBuilt l net to numbers → k < length to → IsOpen to k → IsNoCopy (loose_at l k)
     → ((a : ℕ) → Contains (operands l.boxes (loose_at l k)) a → IsPlaced to a) → IsMoved (given_place to) numbers (loose_at l k) c → IsBuilt l (with_cell net c) (set to k (Some (length net.cells))) numbers
 IsBuilt-more l net to numbers k c begun old lt free keep reads is =
     let q : ℕ = length net.cells in
@@ -124,17 +124,17 @@ IsBuilt-more l net to numbers k c begun old lt free keep reads is =
       ins = λ b h. ins-with_pin net.boxes q c b ∙ old.ins b h ∙ ins_stay l to numbers k q begun free b h;
     }
 
-no_copy : {P : Type 0} (c : LooseCell) (p : ℕ) → c ≡ Copy p → IsKept c → P
-no_copy c p e kept = let never : ⊥ = subst IsKept e kept in absurd never
+no_copy : {P : Type 0} (c : LooseCell) (p : ℕ) → c ≡ Copy p → IsNoCopy c → P
+no_copy c p e kept = let never : ⊥ = subst IsNoCopy e kept in absurd never
 
 pub IsBuilt-copy : (l : LooseList) (net : Netlist) (to : List (Option ℕ)) (numbers : List ℕ) (k p q : ℕ) → IsBegun l to numbers → IsBuilt l net to numbers → k < length to → IsOpen to k → loose_at l k ≡ Copy p → IsAt to p q → IsBuilt l net (set to k (Some q)) numbers
-IsBuilt-copy l net to numbers k p q begun old lt free copy stands =
+IsBuilt-copy l net to numbers k p q begun old lt free copy occurs =
     let new : List (Option ℕ) = set to k (Some q) in
     record {
       inputs = old.inputs;
       outs = old.outs;
       room = omega (arith, old.room, open_count-set to k q lt free);
-      there = λ m place at. elim (at_cases to k q m place lt at) [ inl e ↦ subst (λ j. j < length net.cells) (sym e.1) (old.there p q stands) | inr o ↦ old.there m place o ];
+      there = λ m place at. elim (at_cases to k q m place lt at) [ inl e ↦ subst (λ j. j < length net.cells) (sym e.1) (old.there p q occurs) | inr o ↦ old.there m place o ];
       moved = λ m place at kept. elim (at_cases to k q m place lt at) [
         | inl e ↦ no_copy (loose_at l m) p (ap (loose_at l) e.0 ∙ copy) kept
         | inr o ↦ old_moved l to numbers k q m place (cell_at net.cells place) begun free o (old.moved m place o kept)
@@ -174,20 +174,20 @@ IsBuilt-box l net to numbers b old =
 
 -- the moved cell may follow
 pub follows : (l : LooseList) (net : Netlist) (to : List (Option ℕ)) (numbers : List ℕ) (c : LooseCell) (d : Cell) → IsBuilt l net to numbers → (IsOutput c → ⊥) → ((i : ℕ) → c ≡ Input i → i < l.inputs)
-    → ((a : ℕ) → Contains (operands [] c) a → IsPlaced to a) → IsMoved (given_place to) numbers c d → MayFollow net d
+    → ((a : ℕ) → Contains (operands [] c) a → IsPlaced to a) → IsMoved (given_place to) numbers c d → MayBeAppended net d
 follows l net to numbers c d built out ins reads m = by_case c out ins reads m
   where
     under : (a : ℕ) → IsPlaced to a → given_place to a < length net.cells
     under a p = subst (λ j. j < length net.cells) (sym (place_of-at to a p.0 p.1)) (built.there a p.0 p.1)
 
-    by_case : (c : LooseCell) → (IsOutput c → ⊥) → ((i : ℕ) → c ≡ Input i → i < l.inputs) → ((a : ℕ) → Contains (operands [] c) a → IsPlaced to a) → IsMoved (given_place to) numbers c d → MayFollow net d
-    by_case (Const b) out ins reads m = subst (MayFollow net) (sym m) tt
-    by_case (Input i) out ins reads m = subst (MayFollow net) (sym m) (subst (λ n. i < n) (sym built.inputs) (ins i refl))
-    by_case (Not a) out ins reads m = subst (MayFollow net) (sym m) (under a (reads a (first_of a [])))
-    by_case (And a b) out ins reads m = subst (MayFollow net) (sym m) (under a (reads a (first_of a (b ∷ []))), under b (reads b (second_of a b [])))
-    by_case (Or a b) out ins reads m = subst (MayFollow net) (sym m) (under a (reads a (first_of a (b ∷ []))), under b (reads b (second_of a b [])))
-    by_case (Xor a b) out ins reads m = subst (MayFollow net) (sym m) (under a (reads a (first_of a (b ∷ []))), under b (reads b (second_of a b [])))
-    by_case (Mux a b c) out ins reads m = subst (MayFollow net) (sym m) (under a (reads a (first_of a (b ∷ c ∷ []))), under b (reads b (second_of a b (c ∷ []))), under c (reads c (third_of a b c)))
+    by_case : (c : LooseCell) → (IsOutput c → ⊥) → ((i : ℕ) → c ≡ Input i → i < l.inputs) → ((a : ℕ) → Contains (operands [] c) a → IsPlaced to a) → IsMoved (given_place to) numbers c d → MayBeAppended net d
+    by_case (Const b) out ins reads m = subst (MayBeAppended net) (sym m) tt
+    by_case (Input i) out ins reads m = subst (MayBeAppended net) (sym m) (subst (λ n. i < n) (sym built.inputs) (ins i refl))
+    by_case (Not a) out ins reads m = subst (MayBeAppended net) (sym m) (under a (reads a (first_of a [])))
+    by_case (And a b) out ins reads m = subst (MayBeAppended net) (sym m) (under a (reads a (first_of a (b ∷ []))), under b (reads b (second_of a b [])))
+    by_case (Or a b) out ins reads m = subst (MayBeAppended net) (sym m) (under a (reads a (first_of a (b ∷ []))), under b (reads b (second_of a b [])))
+    by_case (Xor a b) out ins reads m = subst (MayBeAppended net) (sym m) (under a (reads a (first_of a (b ∷ []))), under b (reads b (second_of a b [])))
+    by_case (Mux a b c) out ins reads m = subst (MayBeAppended net) (sym m) (under a (reads a (first_of a (b ∷ c ∷ []))), under b (reads b (second_of a b (c ∷ []))), under c (reads c (third_of a b c)))
     by_case (BoxOut b p) out ins reads m = absurd (out (b, p, refl))
     by_case (Copy p) out ins reads m = absurd m
 

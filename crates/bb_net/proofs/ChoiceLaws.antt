@@ -8,9 +8,9 @@ use Rattle.std.proofs.lemmas.List.Sums.{sum_by-cons, sum_by_push}
 use Rattle.std.proofs.lemmas.List.Elements.{All-contains}
 use Rattle.bb_net.specs.declared.cell.Cell.{Cell}
 use Rattle.bb_net.specs.declared.cell.Cell.TheVariants.{Const, Input, Not, And, Or, Xor, Mux, BoxOut}
-use Rattle.bb_net.specs.Netlists.{Netlist, Pins, cell_at, box_at, reads_of, Leads, DependsOn, IsNetlist}
+use Rattle.bb_net.specs.Netlists.{Netlist, Pins, cell_at, box_at, reads_of, ReadsInSteps, DependsOn, IsNetlist}
 use Rattle.bb_net.specs.Values.{bit_of, gate, flat, free_bit, output_pins}
-use Rattle.bb_net.specs.Agreement.{IsVector, AreBoxOutputs, AllRight}
+use Rattle.bb_net.specs.Equivalence.{IsVector, AreBoxOutputs, AllRight}
 use Rattle.bb_net.specs.Conditions.{SomeAlwaysWrong, AllSometimesRight, PinBits, all_outs, all_ins, Suit, Wins, SomeChoicesSuit, NoChoicesSuit}
 use Rattle.bb_net.proofs.BuildLemmas.{reads_before}
 use Rattle.bb_net.proofs.ValueLaws.{value_exists_lem}
@@ -34,11 +34,11 @@ gate_reads boxes x f g v w (Mux c t e) same box = let p = same c (0, omega arith
 gate_reads boxes x f g v w (BoxOut b p) same box = let ins = map_agree v w (box_at boxes b).ins same in ap (f b p) ins ∙ box b p refl (map w (box_at boxes b).ins)
 
 -- one step more
-Leads-step : (n : ℕ) (cells : List Cell) (boxes : List Pins) (from to next : ℕ) → Leads n cells boxes from to → Contains (reads_of boxes (cell_at cells to)) next → Leads (suc n) cells boxes from next
-Leads-step zero cells boxes from to next e has = (next, subst (λ k. Contains (reads_of boxes (cell_at cells k)) next) (sym e) has, refl)
-Leads-step (suc n) cells boxes from to next h has = (h.0, h.1, Leads-step n cells boxes h.0 to next h.2 has)
+ReadsInSteps-step : (n : ℕ) (cells : List Cell) (boxes : List Pins) (from to next : ℕ) → ReadsInSteps n cells boxes from to → Contains (reads_of boxes (cell_at cells to)) next → ReadsInSteps (suc n) cells boxes from next
+ReadsInSteps-step zero cells boxes from to next e has = (next, subst (λ k. Contains (reads_of boxes (cell_at cells k)) next) (sym e) has, refl)
+ReadsInSteps-step (suc n) cells boxes from to next h has = (h.0, h.1, ReadsInSteps-step n cells boxes h.0 to next h.2 has)
 
--- the output pins of a box stand before those of a later one
+-- the output pins of a box precede those of a later one
 pins_before : (boxes : List Pins) (c b p : ℕ) → c < b → p < length (box_at boxes c).outs → output_pins (take c boxes) + p < output_pins (take b boxes)
 pins_before [] c b p h q = absurd (omega (arith, q))
 pins_before (pins ∷ boxes) c zero p h q = absurd (omega arith)
@@ -59,7 +59,7 @@ settled net kept x z y b pin has same (suc bound) place small there dep =
     let below = reads_before net.inputs net.boxes place c (kept.ordered place there) in
     let reads : (k : ℕ) → Contains (reads_of net.boxes c) k → bit_of (flat net x z) k ≡ bit_of (flat net x y) k = λ k read.
     let lower : k < place = All-contains (λ k. k < place) _ k below read in
-    settled net kept x z y b pin has same bound k (omega arith) (omega arith) (suc dep.0, Leads-step dep.0 net.cells net.boxes pin place k dep.1 read) in
+    settled net kept x z y b pin has same bound k (omega arith) (omega arith) (suc dep.0, ReadsInSteps-step dep.0 net.cells net.boxes pin place k dep.1 read) in
     let pins : (d p : ℕ) → c ≡ BoxOut d p → (ins : List Bool) → free_bit net.boxes z d p ins ≡ free_bit net.boxes y d p ins = λ d p is ins.
     elim (cases_lt d b) [
       | inl earlier ↦ same (output_pins (take d net.boxes) + p) (pins_before net.boxes d b p earlier (kept.listed place d p there is).0)
@@ -86,7 +86,7 @@ IsPlayed-more : (net : Netlist) → IsNetlist net → (x : List Bool) (done rest
 IsPlayed-more net kept x done rest box chosen outs split len played =
     let bits : PinBits = record { ins = map (bit_of (flat net x (all_outs chosen))) box.ins; outs = outs } in
     let here : box_at net.boxes (length done) ≡ box = ap (λ boxes. box_at boxes (length done)) split ∙ get_or_at done box rest _ (length done) refl in
-    let front : take (length done) net.boxes ≡ done = ap (take (length done)) split ∙ take_at done (box ∷ rest) (length done) refl in
+    let prefix : take (length done) net.boxes ≡ done = ap (take (length done)) split ∙ take_at done (box ∷ rest) (length done) refl in
     let all : all_outs (chosen ++ bits ∷ []) ≡ all_outs chosen ++ outs =
     flat_map-append (λ (bits : PinBits). bits.outs) chosen (bits ∷ []) ∙ ap (λ zs. all_outs chosen ++ zs) (append-nil outs) in
     record {
@@ -95,7 +95,7 @@ IsPlayed-more net kept x done rest box chosen outs split len played =
           let longer : all_outs (chosen ++ bits ∷ []) ++ more ≡ all_outs chosen ++ (outs ++ more) = ap (λ zs. zs ++ more) all ∙ append_assoc (all_outs chosen) outs more in
           let z = all_outs chosen ++ (outs ++ more) in
           let same : (k : ℕ) → k < output_pins (take (length done) net.boxes) → bit_of z k ≡ bit_of (all_outs chosen) k = λ k h.
-          get_or_append_left (all_outs chosen) (outs ++ more) false k (omega (arith, h, ap output_pins front, played.widths)) in
+          get_or_append_left (all_outs chosen) (outs ++ more) false k (omega (arith, h, ap output_pins prefix, played.widths)) in
           let ins : map (bit_of (flat net x z)) box.ins ≡ bits.ins = subst (λ (pins : Pins). map (bit_of (flat net x z)) pins.ins ≡ map (bit_of (flat net x (all_outs chosen))) pins.ins) here (ins_settled net kept x z (all_outs chosen) (length done) same) in
           ap (λ zs. all_ins (done ++ box ∷ []) (flat net x zs)) longer
           ∙ map-append (λ (pins : Pins). map (bit_of (flat net x z)) pins.ins) done (box ∷ [])

@@ -16,8 +16,8 @@ use Rattle.bb_net.specs.declared.cell.Cell.{Cell}
 use Rattle.bb_net.specs.declared.cell.Cell.TheVariants.{Const, Input, Not, And, Or, Xor, Mux, BoxOut}
 use Rattle.bb_net.specs.Netlists.{Netlist, Pins, cell_at, box_at, IsNetlist}
 use Rattle.bb_net.specs.Values.{bit_of, gate, flat, flat_with, value_of, free_bit, tabled_bit, table_at, output_pins, FitBoxes, ValueGoesByBoxes}
-use Rattle.bb_net.specs.Agreement.{AllRight, TablesAgree}
-use Rattle.bb_net.specs.Conditions.{PinBits, all_outs, all_ins, Suit, Wins, SomeChoicesSuit, NoChoicesSuit, NoTablesAgree, SomeTablesAgree}
+use Rattle.bb_net.specs.Equivalence.{AllRight, TablesMakeEquivalent}
+use Rattle.bb_net.specs.Conditions.{PinBits, all_outs, all_ins, Suit, Wins, SomeChoicesSuit, NoChoicesSuit, NoTablesMakeEquivalent, SomeTablesMakeEquivalent}
 use Rattle.bb_net.proofs.TableLemmas.{box_of_pin}
 use Rattle.bb_net.proofs.ValueLaws.{value_exists_lem, value_is_unique_lem}
 
@@ -79,7 +79,7 @@ chosen_bit boxes chosen same b p there pin =
     ∙ get_or-flat_map (λ (bits : PinBits). bits.outs) chosen b p (record { ins = []; outs = [] }) false here (omega (arith, width))
 
 -- choices by tables that agree suit
-followed_suit : (laws : Laws) (spec imp : Netlist) → IsNetlist imp → (tables : List TableBits) → FitBoxes tables imp.boxes → TablesAgree spec imp tables
+followed_suit : (laws : Laws) (spec imp : Netlist) → IsNetlist imp → (tables : List TableBits) → FitBoxes tables imp.boxes → TablesMakeEquivalent spec imp tables
     → (chosen : List PinBits) → length chosen ≡ length imp.boxes → Follows imp.boxes tables chosen → Suit spec imp chosen
 followed_suit laws spec imp kept tables fit agree chosen len follows = λ x vector leads.
     let boxes = imp.boxes in
@@ -131,7 +131,7 @@ Follows-more laws boxes tables chosen ins there len width follows =
     }
 
 -- the rows of tables are choices
-wins_by_tables : (laws : Laws) (spec imp : Netlist) → IsNetlist imp → (tables : List TableBits) → FitBoxes tables imp.boxes → TablesAgree spec imp tables
+wins_by_tables : (laws : Laws) (spec imp : Netlist) → IsNetlist imp → (tables : List TableBits) → FitBoxes tables imp.boxes → TablesMakeEquivalent spec imp tables
     → (rest done : List Pins) (chosen : List PinBits) → imp.boxes ≡ done ++ rest → length chosen ≡ length done → Follows imp.boxes tables chosen → Wins (Suit spec imp) rest chosen
 wins_by_tables laws spec imp kept tables fit agree [] done chosen split len follows =
     followed_suit laws spec imp kept tables fit agree chosen (len ∙ ap length (sym (split ∙ append-nil done))) follows
@@ -156,7 +156,7 @@ wins_by_tables laws spec imp kept tables fit agree (box ∷ rest) done chosen sp
 Follows-none : (boxes : List Pins) (tables : List TableBits) → Follows boxes tables []
 Follows-none boxes tables = record { rows = λ b h. absurd (omega (arith, h)); ins = λ b h. absurd (omega (arith, h)); outs = refl }
 
-pub no_choices_no_tables : (laws : Laws) (spec imp : Netlist) → IsNetlist imp → NoChoicesSuit spec imp → NoTablesAgree spec imp
+pub no_choices_no_tables : (laws : Laws) (spec imp : Netlist) → IsNetlist imp → NoChoicesSuit spec imp → NoTablesMakeEquivalent spec imp
 no_choices_no_tables laws spec imp kept none = λ tables fit agree.
     none (wins_by_tables laws spec imp kept tables fit agree imp.boxes [] [] refl refl (Follows-none imp.boxes tables))
 
@@ -177,7 +177,7 @@ record Answers (spec imp : Netlist) (box : Pins) (row : ℕ → List Bool) : Typ
   pub widths : (n : ℕ) → length (row n) ≡ length box.outs
   pub suit : (n : ℕ) → Suit spec imp (record { ins = bits_of (length box.ins) n; outs = row n } ∷ [])
 
-table_of_answers : (laws : Laws) (spec imp : Netlist) → IsNetlist imp → (box : Pins) → imp.boxes ≡ box ∷ [] → (row : ℕ → List Bool) → Answers spec imp box row → SomeTablesAgree spec imp
+table_of_answers : (laws : Laws) (spec imp : Netlist) → IsNetlist imp → (box : Pins) → imp.boxes ≡ box ∷ [] → (row : ℕ → List Bool) → Answers spec imp box row → SomeTablesMakeEquivalent spec imp
 table_of_answers laws spec imp kept box one row answers =
     let k = length box.ins in
     let m = length box.outs in
@@ -217,7 +217,7 @@ table_of_answers laws spec imp kept box one row answers =
           subst (AllRight spec imp x) (sym swap) (answers.suit n x vector leads),
     )
 
-tables_of_choices : (laws : Laws) (spec imp : Netlist) → IsNetlist imp → (boxes : List Pins) → imp.boxes ≡ boxes → length boxes ≤ 1 → Wins (Suit spec imp) boxes [] → SomeTablesAgree spec imp
+tables_of_choices : (laws : Laws) (spec imp : Netlist) → IsNetlist imp → (boxes : List Pins) → imp.boxes ≡ boxes → length boxes ≤ 1 → Wins (Suit spec imp) boxes [] → SomeTablesMakeEquivalent spec imp
 tables_of_choices laws spec imp kept [] none few suit =
     let fit : FitBoxes [] imp.boxes = subst (λ boxes. FitBoxes [] boxes) (sym none) (record { count = refl; inputs = λ b h. absurd (omega (arith, h)); outputs = λ b h. absurd (omega (arith, h)); whole = λ b h. absurd (omega (arith, h)) }) in (
       [],
@@ -236,5 +236,5 @@ tables_of_choices laws spec imp kept (box ∷ []) one few won =
     })
 tables_of_choices laws spec imp kept (box ∷ next ∷ boxes) e few won = absurd (omega (arith, few))
 
-pub choices_are_tables_lem : (laws : Laws) (spec imp : Netlist) → IsNetlist imp → length imp.boxes ≤ 1 → SomeChoicesSuit spec imp → SomeTablesAgree spec imp
+pub choices_are_tables_lem : (laws : Laws) (spec imp : Netlist) → IsNetlist imp → length imp.boxes ≤ 1 → SomeChoicesSuit spec imp → SomeTablesMakeEquivalent spec imp
 choices_are_tables_lem laws spec imp kept few won = tables_of_choices laws spec imp kept imp.boxes refl few won

@@ -7,8 +7,8 @@ use Rattle.bb_bits.specs.Tables.{TableBits}
 use Rattle.bb_net.specs.Netlists.{Netlist, Pins}
 use Rattle.bb_net.specs.Values.{flat, flat_with, output_pins, free_bit}
 use Rattle.bb_net.specs.Ternary.{tern, tern_of}
-use Rattle.bb_net.specs.Agreement.{wanted_bit, out_bit, IsVector, AreBoxOutputs, IsOutput, IsRight, IsWrong, AllRight, SomeWrong, TablesAgree}
-use Rattle.bb_net.specs.Conditions.{IsKnownWrong, MayBeRight, KnownWrongAmong, MayBeRightAmong, IsFirstHit, KnownWrongSomewhere, MayBeRightEverywhere, IsAlwaysWrong, OneAlwaysWrong, EachSometimesRight, HasAlwaysWrong, SomeAlwaysWrong, AllSometimesRight, PinBits, all_outs, all_ins, Suit, Wins, SomeChoicesSuit, NoChoicesSuit, NoTablesAgree, SomeTablesAgree}
+use Rattle.bb_net.specs.Equivalence.{wanted_bit, out_bit, IsVector, AreBoxOutputs, IsOutput, IsRight, IsWrong, AllRight, SomeWrong, TablesMakeEquivalent}
+use Rattle.bb_net.specs.Conditions.{IsKnownWrong, MayBeRight, KnownWrongAmong, MayBeRightAmong, IsFirstHit, KnownWrongSomewhere, MayBeRightEverywhere, IsAlwaysWrong, OneAlwaysWrong, EachSometimesRight, HasAlwaysWrong, SomeAlwaysWrong, AllSometimesRight, PinBits, all_outs, all_ins, Suit, Wins, SomeChoicesSuit, NoChoicesSuit, NoTablesMakeEquivalent, SomeTablesMakeEquivalent}
 use Rattle.bb_net.proofs.Finite.{bits_cases, bit_lists_cases, below_or_one, lists_or_one, tables_or_none}
 use Rattle.bb_net.proofs.TernLemmas.{tern-known}
 
@@ -69,7 +69,7 @@ contains_first P x xs first rest y has = by_place P x xs first rest y has.0 has.
 pub first_hit_or_none : (spec imp : Netlist) (patterns : List (List Bool)) → ((x : List Bool) × (j : ℕ) × IsFirstHit spec imp patterns x j) ⊎ MayBeRightAmong spec imp patterns
 first_hit_or_none spec imp [] = inr (λ x has. absurd (omega (arith, has.1)))
 first_hit_or_none spec imp (x ∷ patterns) = elim (least_one (MayBeRight spec imp x) (IsKnownWrong spec imp x) (λ j. turned (known_cases spec imp x j)) (length imp.outs)) [
-  | inr hit ↦ inl (x, hit.0, record { before = []; after = patterns; stands = refl; earlier = λ y has. absurd (omega (arith, has.1)); there = hit.1; wrong = hit.2; first = hit.3 })
+  | inr hit ↦ inl (x, hit.0, record { before = []; after = patterns; occurs = refl; earlier = λ y has. absurd (omega (arith, has.1)); there = hit.1; wrong = hit.2; first = hit.3 })
   | inl here ↦ elim (first_hit_or_none spec imp patterns) [
     | inl hit ↦
         let h = hit.2 in
@@ -79,7 +79,7 @@ first_hit_or_none spec imp (x ∷ patterns) = elim (least_one (MayBeRight spec i
           record {
             before = x ∷ h.before;
             after = h.after;
-            stands = ap (λ xs. x ∷ xs) h.stands;
+            occurs = ap (λ xs. x ∷ xs) h.occurs;
             earlier = contains_first (λ y. (j : ℕ) → IsOutput imp j → MayBeRight spec imp y j) x h.before here h.earlier;
             there = h.there;
             wrong = h.wrong;
@@ -160,11 +160,11 @@ suit_or_not spec imp chosen =
 pub choices_or_not : (spec imp : Netlist) → NoChoicesSuit spec imp ⊎ SomeChoicesSuit spec imp
 choices_or_not spec imp = turned (wins_or_not (Suit spec imp) (suit_or_not spec imp) imp.boxes [])
 
-pub agree_or_not : (spec imp : Netlist) (tables : List TableBits) → TablesAgree spec imp tables ⊎ (TablesAgree spec imp tables → ⊥)
+pub agree_or_not : (spec imp : Netlist) (tables : List TableBits) → TablesMakeEquivalent spec imp tables ⊎ (TablesMakeEquivalent spec imp tables → ⊥)
 agree_or_not spec imp tables = elim (lists_or_one (λ x. AllRight spec imp x (flat_with imp x tables)) (λ x. SomeWrong spec imp x (flat_with imp x tables)) imp.inputs (λ x len. all_right_cases spec imp x (flat_with imp x tables))) [
   | inl agree ↦ inl agree
   | inr fails ↦ inr (λ agree. let w = fails.2 in w.2 (agree fails.0 fails.1 w.0 w.1))
 ]
 
-pub tables_or_not : (spec imp : Netlist) → NoTablesAgree spec imp ⊎ SomeTablesAgree spec imp
-tables_or_not spec imp = tables_or_none imp.boxes (TablesAgree spec imp) (agree_or_not spec imp)
+pub tables_or_not : (spec imp : Netlist) → NoTablesMakeEquivalent spec imp ⊎ SomeTablesMakeEquivalent spec imp
+tables_or_not spec imp = tables_or_none imp.boxes (TablesMakeEquivalent spec imp) (agree_or_not spec imp)

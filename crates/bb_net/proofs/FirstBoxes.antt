@@ -8,29 +8,29 @@ use Rattle.std.proofs.lemmas.List.{ext_get_or, get_or-map, get_or-take, length-m
 use Rattle.std.proofs.lemmas.List.FromFn.{get_or-range_with_len, length-range_with_len}
 use Rattle.std.proofs.lemmas.List.Sums.{sum_by-append}
 use Rattle.bb_bits.specs.Earlier.{each_from}
-use Rattle.bb_net.specs.Kinds.{AreInOrder, first_places, shown}
+use Rattle.bb_net.specs.Kinds.{AreNumberedInOrder, first_places, shown}
 use Rattle.bb_net.proofs.KindLists.{gives}
-use Rattle.bb_net.proofs.KindNumbers.{front_in_order, kind_has_first, nothing_added, shown_counts, shown_stands}
+use Rattle.bb_net.proofs.KindNumbers.{prefix_in_order, kind_has_first, nothing_added, shown_counts, shown_occurs}
 use Rattle.bb_net.proofs.ShownLists.{shown_again, shown_new}
 
--- a box is of a kind that stands before it, or of the next one, and is shown then
+-- a box is of a kind that precedes it, or of the next one, and is shown then
 pub record ShownNext {A : Type 0} (kinds : List ℕ) (xs : List A) (b : ℕ) (d : A) : Type 0 where
   pub new : get_or kinds b 0 ≡ length (shown (take b kinds) (take b xs)) → shown (take (b + 1) kinds) (take (b + 1) xs) ≡ shown (take b kinds) (take b xs) ++ get_or xs b d ∷ []
   pub again : get_or kinds b 0 ≢ length (shown (take b kinds) (take b xs)) → shown (take (b + 1) kinds) (take (b + 1) xs) ≡ shown (take b kinds) (take b xs)
 
-pub shown_next : {A : Type 0} (kinds : List ℕ) (xs : List A) (b : ℕ) (d : A) → AreInOrder kinds → length xs ≡ length kinds → b < length kinds → ShownNext kinds xs b d
+pub shown_next : {A : Type 0} (kinds : List ℕ) (xs : List A) (b : ℕ) (d : A) → AreNumberedInOrder kinds → length xs ≡ length kinds → b < length kinds → ShownNext kinds xs b d
 shown_next kinds xs b d ordered len h =
     let k = get_or kinds b 0 in
-    let front = take b kinds in
-    let shows = shown front (take b xs) in
-    let same : length (take b xs) ≡ length front = omega (arith, length-take b kinds, length-take b xs, len) in
-    let count = shown_counts front (take b xs) (front_in_order kinds b (omega (arith, h)) ordered) same in
-    let kinds_more : take (b + 1) kinds ≡ front ++ k ∷ [] = take_more kinds b 0 h in
+    let prefix = take b kinds in
+    let shows = shown prefix (take b xs) in
+    let same : length (take b xs) ≡ length prefix = omega (arith, length-take b kinds, length-take b xs, len) in
+    let count = shown_counts prefix (take b xs) (prefix_in_order kinds b (omega (arith, h)) ordered) same in
+    let kinds_more : take (b + 1) kinds ≡ prefix ++ k ∷ [] = take_more kinds b 0 h in
     let xs_more : take (b + 1) xs ≡ take b xs ++ get_or xs b d ∷ [] = take_more xs b d (omega (arith, h, len)) in
-    let both : shown (take (b + 1) kinds) (take (b + 1) xs) ≡ shown (front ++ k ∷ []) (take b xs ++ get_or xs b d ∷ []) = ap (λ ks. shown ks (take (b + 1) xs)) kinds_more ∙ ap (shown (front ++ k ∷ [])) xs_more in
+    let both : shown (take (b + 1) kinds) (take (b + 1) xs) ≡ shown (prefix ++ k ∷ []) (take b xs ++ get_or xs b d ∷ []) = ap (λ ks. shown ks (take (b + 1) xs)) kinds_more ∙ ap (shown (prefix ++ k ∷ [])) xs_more in
     record {
-      new = λ e. both ∙ shown_new front (take b xs) k (get_or xs b d) same (λ has. let p = (count k).1 has in omega (arith, p, e));
-      again = λ other. both ∙ shown_again front (take b xs) k (get_or xs b d) same (elim (cases_order k (length shows)) [
+      new = λ e. both ∙ shown_new prefix (take b xs) k (get_or xs b d) same (λ has. let p = (count k).1 has in omega (arith, p, e));
+      again = λ other. both ∙ shown_again prefix (take b xs) k (get_or xs b d) same (elim (cases_order k (length shows)) [
         | inl e ↦ absurd (other e)
         | inr apart ↦ elim apart [
           | inl low ↦ (count k).0 low
@@ -53,26 +53,26 @@ firsts_taken kinds b h =
     let count : length (take b kinds) ≡ b = omega (arith, length-take b kinds, h) in
     ap (shown (take b kinds)) (numbers_taken (length kinds) b h ∙ ap (range_with_len 0) (sym count))
 
--- at the number of a kind stands the place of its first box, and what belongs to that
+-- at the number of a kind is the place of its first box, and what belongs to that
 record HasFirst {A : Type 0} (kinds : List ℕ) (xs : List A) (d : A) (k : ℕ) : Type 0 where
   pub first : ℕ
   pub there : first < length kinds
   pub place : get_or (first_places kinds) k 0 ≡ first
   pub shows : get_or (shown kinds xs) k d ≡ get_or xs first d
 
-has_first : {A : Type 0} (kinds : List ℕ) (xs : List A) (d : A) → AreInOrder kinds → length xs ≡ length kinds → (k : ℕ) → Contains kinds k → HasFirst kinds xs d k
+has_first : {A : Type 0} (kinds : List ℕ) (xs : List A) (d : A) → AreNumberedInOrder kinds → length xs ≡ length kinds → (k : ℕ) → Contains kinds k → HasFirst kinds xs d k
 has_first kinds xs d ordered len k has =
     let r = kind_has_first kinds k ordered has in
     let places = range_with_len 0 (length kinds) in
     record {
       first = r.0;
       there = r.1;
-      place = ap (λ q. get_or (first_places kinds) q 0) (sym r.3) ∙ shown_stands kinds places 0 ordered (length-range_with_len 0 (length kinds)) r.0 r.1 r.2
+      place = ap (λ q. get_or (first_places kinds) q 0) (sym r.3) ∙ shown_occurs kinds places 0 ordered (length-range_with_len 0 (length kinds)) r.0 r.1 r.2
           ∙ get_or-range_with_len 0 (length kinds) r.0 0 r.1 ∙ nothing_added r.0;
-      shows = ap (λ q. get_or (shown kinds xs) q d) (sym r.3) ∙ shown_stands kinds xs d ordered len r.0 r.1 r.2;
+      shows = ap (λ q. get_or (shown kinds xs) q d) (sym r.3) ∙ shown_occurs kinds xs d ordered len r.0 r.1 r.2;
     }
 
-same_count : {A B : Type 0} (kinds : List ℕ) (xs : List A) (ys : List B) → AreInOrder kinds → length xs ≡ length kinds → length ys ≡ length kinds → length (shown kinds xs) ≡ length (shown kinds ys)
+same_count : {A B : Type 0} (kinds : List ℕ) (xs : List A) (ys : List B) → AreNumberedInOrder kinds → length xs ≡ length kinds → length ys ≡ length kinds → length (shown kinds xs) ≡ length (shown kinds ys)
 same_count kinds xs ys ordered one two =
     let p = shown_counts kinds xs ordered one in
     let q = shown_counts kinds ys ordered two in
@@ -85,7 +85,7 @@ same_count kinds xs ys ordered one two =
     ]
 
 -- what is shown belongs to the boxes at the first places
-pub shown_firsts : {A : Type 0} (kinds : List ℕ) (xs : List A) (d : A) → AreInOrder kinds → length xs ≡ length kinds → shown kinds xs ≡ map (λ b. get_or xs b d) (first_places kinds)
+pub shown_firsts : {A : Type 0} (kinds : List ℕ) (xs : List A) (d : A) → AreNumberedInOrder kinds → length xs ≡ length kinds → shown kinds xs ≡ map (λ b. get_or xs b d) (first_places kinds)
 shown_firsts kinds xs d ordered len =
     let places = range_with_len 0 (length kinds) in
     let count : length (shown kinds xs) ≡ length (first_places kinds) = same_count kinds xs places ordered len (length-range_with_len 0 (length kinds)) in
@@ -94,7 +94,7 @@ shown_firsts kinds xs d ordered len =
     r.shows ∙ ap (λ b. get_or xs b d) (sym r.place) ∙ sym (get_or-map (λ b. get_or xs b d) (first_places kinds) k 0 d (omega (arith, h, count))))
 
 -- and these are places of the list
-pub firsts_there : (kinds : List ℕ) → AreInOrder kinds → All (λ b. b < length kinds) (first_places kinds)
+pub firsts_there : (kinds : List ℕ) → AreNumberedInOrder kinds → All (λ b. b < length kinds) (first_places kinds)
 firsts_there kinds ordered = λ k d h.
     let places = range_with_len 0 (length kinds) in
     let len = length-range_with_len 0 (length kinds) in
@@ -102,13 +102,13 @@ firsts_there kinds ordered = λ k d h.
     subst (λ b. b < length kinds) (sym r.place ∙ sym (get_or_default_zero (first_places kinds) k d h)) r.there
 
 -- what is shown of the first boxes sums up to no more than what is shown of all
-front_sum_from : {A : Type 0} (f : A → ℕ) (before : List (ℕ × A)) (ks : List ℕ) (xs : List A) (b : ℕ) → sum_by f (each_from gives before (zip (take b ks) (take b xs))) ≤ sum_by f (each_from gives before (zip ks xs))
-front_sum_from f before ks xs zero = omega arith
-front_sum_from f before [] xs (suc b) = omega arith
-front_sum_from f before (k ∷ ks) [] (suc b) = omega arith
-front_sum_from f before (k ∷ ks) (x ∷ xs) (suc b) =
+prefix_sum_from : {A : Type 0} (f : A → ℕ) (before : List (ℕ × A)) (ks : List ℕ) (xs : List A) (b : ℕ) → sum_by f (each_from gives before (zip (take b ks) (take b xs))) ≤ sum_by f (each_from gives before (zip ks xs))
+prefix_sum_from f before ks xs zero = omega arith
+prefix_sum_from f before [] xs (suc b) = omega arith
+prefix_sum_from f before (k ∷ ks) [] (suc b) = omega arith
+prefix_sum_from f before (k ∷ ks) (x ∷ xs) (suc b) =
     let here = gives before (k, x) in
-    omega (arith, front_sum_from f (before ++ (k, x) ∷ []) ks xs b, sum_by-append f here (each_from gives (before ++ (k, x) ∷ []) (zip (take b ks) (take b xs))), sum_by-append f here (each_from gives (before ++ (k, x) ∷ []) (zip ks xs)))
+    omega (arith, prefix_sum_from f (before ++ (k, x) ∷ []) ks xs b, sum_by-append f here (each_from gives (before ++ (k, x) ∷ []) (zip (take b ks) (take b xs))), sum_by-append f here (each_from gives (before ++ (k, x) ∷ []) (zip ks xs)))
 
-pub front_sum : {A : Type 0} (f : A → ℕ) (ks : List ℕ) (xs : List A) (b : ℕ) → sum_by f (shown (take b ks) (take b xs)) ≤ sum_by f (shown ks xs)
-front_sum f ks xs b = front_sum_from f [] ks xs b
+pub prefix_sum : {A : Type 0} (f : A → ℕ) (ks : List ℕ) (xs : List A) (b : ℕ) → sum_by f (shown (take b ks) (take b xs)) ≤ sum_by f (shown ks xs)
+prefix_sum f ks xs b = prefix_sum_from f [] ks xs b

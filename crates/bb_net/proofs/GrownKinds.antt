@@ -7,10 +7,10 @@ use Rattle.std.proofs.lemmas.Grind.{get_or_default_zero}
 use Rattle.std.proofs.lemmas.List.{get_or_append_left, get_or_at, get_or-map, length-map, length_push}
 use Rattle.std.proofs.lemmas.List.Elements.{Contains-get_or}
 use Rattle.bb_net.specs.Flats.{PinsGoByModules}
-use Rattle.bb_net.specs.Kinds.{AreInOrder, AreKinds, FitKinds, shown}
+use Rattle.bb_net.specs.Kinds.{AreNumberedInOrder, AreKinds, FitKinds, shown}
 use Rattle.bb_net.specs.Netlists.{Pins, box_at}
 use Rattle.bb_net.specs.Pairs.{BoxTexts, NamesPins}
-use Rattle.bb_net.proofs.KindNumbers.{into_taken, kind_has_first, shown_counts, shown_stands}
+use Rattle.bb_net.proofs.KindNumbers.{into_taken, kind_has_first, shown_counts, shown_occurs}
 
 any_default : {A : Type 0} (xs : List A) (k : ℕ) (d e : A) → k < length xs → get_or xs k d ≡ get_or xs k e
 any_default [] k d e h = absurd (omega (arith, h))
@@ -23,7 +23,7 @@ shows_key keys kinds are b h =
     let hb : b < length kinds = omega (arith, h, are.count) in
     let r = kind_has_first kinds (get_or kinds b 0) are.ordered (Contains-get_or kinds b 0 hb) in
     ap (λ k. get_or (shown kinds keys) k []) (sym r.3)
-    ∙ shown_stands kinds keys [] are.ordered (sym are.count) r.0 r.1 r.2
+    ∙ shown_occurs kinds keys [] are.ordered (sym are.count) r.0 r.1 r.2
     ∙ (are.same r.0 b (omega (arith, r.1, are.count)) h).0 r.3
 
 -- a kind that is shown is that of some box
@@ -50,8 +50,8 @@ take_old xs y zero h = refl
 take_old [] y (suc b) h = absurd (omega (arith, h))
 take_old (x ∷ xs) y (suc b) h = ap (λ zs. x ∷ zs) (take_old xs y b (omega (arith, h)))
 
--- numbers in order stay so with one that stands before, or the next one
-order_more : (kinds : List ℕ) (kind : ℕ) → AreInOrder kinds → ((k : ℕ) → k < kind → Contains kinds k) → AreInOrder (kinds ++ kind ∷ [])
+-- numbers in order stay so with one that precedes, or the next one
+order_more : (kinds : List ℕ) (kind : ℕ) → AreNumberedInOrder kinds → ((k : ℕ) → k < kind → Contains kinds k) → AreNumberedInOrder (kinds ++ kind ∷ [])
 order_more kinds kind ordered all = λ b k h low.
     let fits : b ≤ length kinds = omega (arith, h, length_push kinds kind) in
     subst (λ zs. Contains zs k) (sym (take_old kinds kind b fits)) (elim (cases_lt b (length kinds)) [
@@ -62,37 +62,37 @@ order_more kinds kind ordered all = λ b k h low.
           into_taken kinds has.0 b k (omega (arith, has.1, e)) fits (sym (get_or_default_zero kinds has.0 k has.1) ∙ has.2)
     ])
 
--- what keys and kinds have at a place, where one more stands behind both
-data StandsAt (keys : List (List ℕ)) (kinds : List ℕ) (key : List ℕ) (kind a : ℕ) : Type 0 where
-  Before : a < length keys → get_or (keys ++ key ∷ []) a [] ≡ get_or keys a [] → get_or (kinds ++ kind ∷ []) a 0 ≡ get_or kinds a 0 → StandsAt keys kinds key kind a
-  Behind : get_or (keys ++ key ∷ []) a [] ≡ key → get_or (kinds ++ kind ∷ []) a 0 ≡ kind → StandsAt keys kinds key kind a
+-- what keys and kinds have at a place, where one more follows both
+data OccursAt (keys : List (List ℕ)) (kinds : List ℕ) (key : List ℕ) (kind a : ℕ) : Type 0 where
+  Before : a < length keys → get_or (keys ++ key ∷ []) a [] ≡ get_or keys a [] → get_or (kinds ++ kind ∷ []) a 0 ≡ get_or kinds a 0 → OccursAt keys kinds key kind a
+  After : get_or (keys ++ key ∷ []) a [] ≡ key → get_or (kinds ++ kind ∷ []) a 0 ≡ kind → OccursAt keys kinds key kind a
 
-stands_at : (keys : List (List ℕ)) (kinds : List ℕ) (key : List ℕ) (kind a : ℕ) → length kinds ≡ length keys → a < length (keys ++ key ∷ []) → StandsAt keys kinds key kind a
-stands_at keys kinds key kind a len h = elim (cases_lt a (length keys)) [
+occurs_at : (keys : List (List ℕ)) (kinds : List ℕ) (key : List ℕ) (kind a : ℕ) → length kinds ≡ length keys → a < length (keys ++ key ∷ []) → OccursAt keys kinds key kind a
+occurs_at keys kinds key kind a len h = elim (cases_lt a (length keys)) [
   | inl low ↦ Before low (get_or_append_left keys (key ∷ []) [] a low) (get_or_append_left kinds (kind ∷ []) 0 a (omega (arith, low, len)))
   | inr high ↦
       let e : a ≡ length keys = omega (arith, h, high, length_push keys key) in
-      Behind (get_or_at keys key [] [] a (sym e)) (get_or_at kinds kind [] 0 a (len ∙ sym e))
+      After (get_or_at keys key [] [] a (sym e)) (get_or_at kinds kind [] 0 a (len ∙ sym e))
 ]
 
 -- one key more has a kind that goes with those of the others
 same_more : (keys : List (List ℕ)) (kinds : List ℕ) (key : List ℕ) (kind : ℕ) → AreKinds keys kinds
     → ((b : ℕ) → b < length keys → (get_or kinds b 0 ≡ kind) ↔ (get_or keys b [] ≡ key))
-    → (a b : ℕ) → StandsAt keys kinds key kind a → StandsAt keys kinds key kind b
+    → (a b : ℕ) → OccursAt keys kinds key kind a → OccursAt keys kinds key kind b
     → (get_or (kinds ++ kind ∷ []) a 0 ≡ get_or (kinds ++ kind ∷ []) b 0) ↔ (get_or (keys ++ key ∷ []) a [] ≡ get_or (keys ++ key ∷ []) b [])
 same_more keys kinds key kind are goes a b (Before la ka qa) (Before lb kb qb) =
     (λ e. ka ∙ (are.same a b la lb).0 (sym qa ∙ e ∙ qb) ∙ sym kb, λ e. qa ∙ (are.same a b la lb).1 (sym ka ∙ e ∙ kb) ∙ sym qb)
-same_more keys kinds key kind are goes a b (Before la ka qa) (Behind kb qb) =
+same_more keys kinds key kind are goes a b (Before la ka qa) (After kb qb) =
     (λ e. ka ∙ (goes a la).0 (sym qa ∙ e ∙ qb) ∙ sym kb, λ e. qa ∙ (goes a la).1 (sym ka ∙ e ∙ kb) ∙ sym qb)
-same_more keys kinds key kind are goes a b (Behind ka qa) (Before lb kb qb) =
+same_more keys kinds key kind are goes a b (After ka qa) (Before lb kb qb) =
     (λ e. ka ∙ sym ((goes b lb).0 (sym qb ∙ sym e ∙ qa)) ∙ sym kb, λ e. qa ∙ sym ((goes b lb).1 (sym kb ∙ sym e ∙ ka)) ∙ sym qb)
-same_more keys kinds key kind are goes a b (Behind ka qa) (Behind kb qb) = (λ e. ka ∙ sym kb, λ e. qa ∙ sym qb)
+same_more keys kinds key kind are goes a b (After ka qa) (After kb qb) = (λ e. ka ∙ sym kb, λ e. qa ∙ sym qb)
 
 kinds_more : (keys : List (List ℕ)) (kinds : List ℕ) (key : List ℕ) (kind : ℕ) → AreKinds keys kinds → kind ≤ length (shown kinds keys)
     → ((b : ℕ) → b < length keys → (get_or kinds b 0 ≡ kind) ↔ (get_or keys b [] ≡ key)) → AreKinds (keys ++ key ∷ []) (kinds ++ kind ∷ [])
 kinds_more keys kinds key kind are low goes = record {
   count = omega (arith, length_push keys key, length_push kinds kind, are.count);
-  same = λ a b ha hb. same_more keys kinds key kind are goes a b (stands_at keys kinds key kind a are.count ha) (stands_at keys kinds key kind b are.count hb);
+  same = λ a b ha hb. same_more keys kinds key kind are goes a b (occurs_at keys kinds key kind a are.count ha) (occurs_at keys kinds key kind b are.count hb);
   ordered = order_more kinds kind are.ordered (λ k less. (shown_counts kinds keys are.ordered (sym are.count) k).0 (omega (arith, less, low)));
 }
 

@@ -6,7 +6,7 @@ use Rattle.std.proofs.lemmas.List.{append_assoc, get_or_at}
 use Rattle.std.proofs.lemmas.List.Elements.{Contains-append_cases, Contains-append_left, Contains-append_right}
 use Rattle.std.proofs.lemmas.List.Folds.{list_any-append}
 use Rattle.bb_bits.specs.Earlier.{each_from}
-use Rattle.bb_net.specs.Kinds.{AreInOrder, has_kind, shown}
+use Rattle.bb_net.specs.Kinds.{AreNumberedInOrder, has_kind, shown}
 
 -- each number is below n, or it is the next one
 abbrev pub Rises : ℕ → List ℕ → Type 0
@@ -57,7 +57,7 @@ fresh_first n (k ∷ ks) (inr new) (x ∷ xs) (suc j) h =
     let e : suc n + j ≡ n + suc j = omega arith in
     (suc r.0, first_cons k ks (n + suc j) r.0 (λ same. omega (arith, same, new.0)) (subst (λ q. IsFirstAt ks q r.0) e r.1))
 
--- and at that number stands what belongs to it
+-- and at that number is what belongs to it
 pub fresh_at : {A : Type 0} (n : ℕ) (ks : List ℕ) (rises : Rises n ks) (xs : List A) (d : A) → length xs ≡ length ks → (j a : ℕ) → IsFirstAt ks (n + j) a → get_or (fresh n ks rises xs) j d ≡ get_or xs a d
 fresh_at n [] rises xs d len j a at = absurd (omega (arith, at.there))
 fresh_at n (k ∷ ks) rises [] d len j a at = absurd (omega (arith, len))
@@ -91,7 +91,7 @@ fresh_length n (k ∷ ks) rises (x ∷ xs) [] len = absurd (omega (arith, len))
 fresh_length n (k ∷ ks) (inl old) (x ∷ xs) (y ∷ ys) len = fresh_length n ks old.1 xs ys (omega (arith, len))
 fresh_length n (k ∷ ks) (inr new) (x ∷ xs) (y ∷ ys) len = ap suc (fresh_length (suc n) ks new.1 xs ys (omega (arith, len)))
 
--- the numbers below n are those that stand before
+-- the numbers below n are those that precede
 pub record Knows {A : Type 0} (n : ℕ) (before : List (ℕ × A)) : Type 0 where
   pub old : (k : ℕ) → k < n → has_kind k before ≡ true
   pub new : (k : ℕ) → n ≤ k → has_kind k before ≡ false
@@ -146,67 +146,67 @@ pub shown_fresh : {A : Type 0} (ks : List ℕ) (rises : Rises 0 ks) (xs : List A
 shown_fresh ks rises xs = from_fresh 0 ks rises [] knows_none xs
 
 -- numbers in order rise, and numbers that rise are in order
-below_next : (n : ℕ) (before ks : List ℕ) (k : ℕ) → AreInOrder (before ++ k ∷ ks) → ((q : ℕ) → Contains before q → q < n) → (k ≤ n)
+below_next : (n : ℕ) (before ks : List ℕ) (k : ℕ) → AreNumberedInOrder (before ++ k ∷ ks) → ((q : ℕ) → Contains before q → q < n) → (k ≤ n)
 below_next n before ks k ordered none = elim (cases_lt n k) [
   | inr low ↦ low
   | inl high ↦
       let is : get_or (before ++ k ∷ ks) (length before) 0 ≡ k = get_or_at before k ks 0 (length before) refl in
       let has = ordered (length before) n (omega (arith, length-append before (k ∷ ks))) (omega (arith, is, high)) in
-      let p = none n (subst (λ zs. Contains zs n) (take_front before (k ∷ ks)) has) in
+      let p = none n (subst (λ zs. Contains zs n) (take_prefix before (k ∷ ks)) has) in
       absurd (omega (arith, p))
 ]
   where
-    take_front : (xs ys : List ℕ) → take (length xs) (xs ++ ys) ≡ xs
-    take_front [] ys = refl
-    take_front (x ∷ xs) ys = ap (λ zs. x ∷ zs) (take_front xs ys)
+    take_prefix : (xs ys : List ℕ) → take (length xs) (xs ++ ys) ≡ xs
+    take_prefix [] ys = refl
+    take_prefix (x ∷ xs) ys = ap (λ zs. x ∷ zs) (take_prefix xs ys)
 
 only_one : (k q : ℕ) → Contains (k ∷ []) q → k ≡ q
 only_one k q (zero, h, e) = e
 only_one k q (suc a, h, e) = absurd (omega (arith, h))
 
-rises_behind : (n : ℕ) (before ks : List ℕ) → AreInOrder (before ++ ks) → ((q : ℕ) → Contains before q → q < n) → Rises n ks
-rises_behind n before [] ordered none = tt
-rises_behind n before (k ∷ ks) ordered none =
-    let next : AreInOrder ((before ++ k ∷ []) ++ ks) = subst AreInOrder (sym (append_assoc before (k ∷ []) ks)) ordered in
+rises_after : (n : ℕ) (before ks : List ℕ) → AreNumberedInOrder (before ++ ks) → ((q : ℕ) → Contains before q → q < n) → Rises n ks
+rises_after n before [] ordered none = tt
+rises_after n before (k ∷ ks) ordered none =
+    let next : AreNumberedInOrder ((before ++ k ∷ []) ++ ks) = subst AreNumberedInOrder (sym (append_assoc before (k ∷ []) ks)) ordered in
     let low = below_next n before ks k ordered none in
     elim (cases_lt k n) [
       | inl old ↦ inl (
         old,
-        rises_behind n (before ++ k ∷ []) ks next (λ q has. elim (Contains-append_cases before (k ∷ []) q has) [
+        rises_after n (before ++ k ∷ []) ks next (λ q has. elim (Contains-append_cases before (k ∷ []) q has) [
           | inl there ↦ none q there
           | inr here ↦ omega (arith, only_one k q here, old)
         ]),
       )
       | inr new ↦ inr (
         omega (arith, low, new),
-        rises_behind (suc n) (before ++ k ∷ []) ks next (λ q has. elim (Contains-append_cases before (k ∷ []) q has) [
+        rises_after (suc n) (before ++ k ∷ []) ks next (λ q has. elim (Contains-append_cases before (k ∷ []) q has) [
           | inl there ↦ let p = none q there in omega (arith, p)
           | inr here ↦ omega (arith, only_one k q here, low)
         ]),
       )
     ]
 
-pub rises_in_order : (ks : List ℕ) → AreInOrder ks → Rises 0 ks
-rises_in_order ks ordered = rises_behind 0 [] ks ordered (λ q has. absurd (omega (arith, has.1)))
+pub rises_in_order : (ks : List ℕ) → AreNumberedInOrder ks → Rises 0 ks
+rises_in_order ks ordered = rises_after 0 [] ks ordered (λ q has. absurd (omega (arith, has.1)))
 
-order_behind : (n : ℕ) (before ks : List ℕ) → Rises n ks → ((q : ℕ) → q < n → Contains before q) → (b q : ℕ) → b < length ks → q < get_or ks b 0 → Contains (before ++ take b ks) q
-order_behind n before [] rises all b q h low = absurd (omega (arith, h))
-order_behind n before (k ∷ ks) (inl old) all zero q h low = Contains-append_left before [] q (all q (omega (arith, low, old.0)))
-order_behind n before (k ∷ ks) (inr new) all zero q h low = Contains-append_left before [] q (all q (omega (arith, low, new.0)))
-order_behind n before (k ∷ ks) (inl old) all (suc b) q h low =
+order_after : (n : ℕ) (before ks : List ℕ) → Rises n ks → ((q : ℕ) → q < n → Contains before q) → (b q : ℕ) → b < length ks → q < get_or ks b 0 → Contains (before ++ take b ks) q
+order_after n before [] rises all b q h low = absurd (omega (arith, h))
+order_after n before (k ∷ ks) (inl old) all zero q h low = Contains-append_left before [] q (all q (omega (arith, low, old.0)))
+order_after n before (k ∷ ks) (inr new) all zero q h low = Contains-append_left before [] q (all q (omega (arith, low, new.0)))
+order_after n before (k ∷ ks) (inl old) all (suc b) q h low =
     subst (λ zs. Contains zs q) (append_assoc before (k ∷ []) (take b ks))
-    (order_behind n (before ++ k ∷ []) ks old.1 (λ p lt. Contains-append_left before (k ∷ []) p (all p lt)) b q (omega (arith, h)) low)
-order_behind n before (k ∷ ks) (inr new) all (suc b) q h low =
+    (order_after n (before ++ k ∷ []) ks old.1 (λ p lt. Contains-append_left before (k ∷ []) p (all p lt)) b q (omega (arith, h)) low)
+order_after n before (k ∷ ks) (inr new) all (suc b) q h low =
     subst (λ zs. Contains zs q) (append_assoc before (k ∷ []) (take b ks))
-    (order_behind (suc n) (before ++ k ∷ []) ks new.1 (λ p lt. elim (cases_lt p n) [
+    (order_after (suc n) (before ++ k ∷ []) ks new.1 (λ p lt. elim (cases_lt p n) [
       | inl there ↦ Contains-append_left before (k ∷ []) p (all p there)
       | inr here ↦ Contains-append_right before (k ∷ []) p (0, omega arith, omega (arith, here, lt, new.0))
     ]) b q (omega (arith, h)) low)
 
-pub order_rising : (ks : List ℕ) → Rises 0 ks → AreInOrder ks
-order_rising ks rises = order_behind 0 [] ks rises (λ q h. absurd (omega (arith, h)))
+pub order_rising : (ks : List ℕ) → Rises 0 ks → AreNumberedInOrder ks
+order_rising ks rises = order_after 0 [] ks rises (λ q h. absurd (omega (arith, h)))
 
--- where the numbers all differ they are those behind n, and nothing is left out
+-- where the numbers all differ they are those after n, and nothing is left out
 pub rises_apart : (n : ℕ) (ks : List ℕ) → Rises n ks → AllPairs ◌≢◌ ks → ((b : ℕ) → b < length ks → n ≤ get_or ks b 0) → (b : ℕ) → b < length ks → get_or ks b 0 ≡ n + b
 rises_apart n [] rises apart high b h = absurd (omega (arith, h))
 rises_apart n (k ∷ ks) (inl old) apart high b h = let p = high zero (omega arith) in absurd (omega (arith, p, old.0))

@@ -7,13 +7,13 @@ use Rattle.std.proofs.lemmas.Grind.{get_or_default_zero}
 use Rattle.std.proofs.lemmas.List.{append_assoc, append-nil, ext_get_or, get_or_append_left, get_or_at, get_or-take, length-take, length_push}
 use Rattle.std.proofs.lemmas.List.FromFn.{get_or-range_with_len, length-range_with_len}
 use Rattle.std.proofs.lemmas.List.Quantifiers.{all_pairs_push}
-use Rattle.bb_net.specs.Kinds.{AreInOrder, AreKinds, IsFirstOfKind, shown}
+use Rattle.bb_net.specs.Kinds.{AreNumberedInOrder, AreKinds, IsFirstOfKind, shown}
 use Rattle.bb_net.proofs.KindLists.{Rises, IsFirstAt, fresh_first, fresh_at, fresh_counts, fresh_apart, shown_fresh, rises_in_order, rises_apart, order_rising}
 
 pub nothing_added : (n : ℕ) → 0 + n ≡ n
 nothing_added n = omega arith
 
--- what stands among the first
+-- what is among the first
 pub taken : (xs : List ℕ) (b q : ℕ) → b ≤ length xs → Contains (take b xs) q → (a : ℕ) × (a < b) × (get_or xs a 0 ≡ q)
 taken xs b q fits has =
     let a = has.0 in
@@ -117,7 +117,7 @@ kinds_exist keys =
       },
     )
 
--- where the kinds before are the same, a smaller kind stands before
+-- where the kinds before are the same, a smaller kind precedes
 clash : (keys : List (List ℕ)) (kinds others : List ℕ) → AreKinds keys kinds → AreKinds keys others → (b : ℕ) → b < length keys → ((a : ℕ) → a < b → get_or kinds a 0 ≡ get_or others a 0) → get_or kinds b 0 < get_or others b 0 → ⊥
 clash keys kinds others one two b h before low =
     let there : b < length others = omega (arith, h, two.count) in
@@ -149,12 +149,12 @@ kinds_of_apart keys kinds are apart = λ i j d low h e.
     apart i j [] low hj ((are.same i j hi hj).0 (sym (get_or_default_zero kinds i d (omega (arith, low, h))) ∙ e ∙ get_or_default_zero kinds j d h))
 
 -- kinds that all differ are the places
-pub kinds_apart : (kinds : List ℕ) → AreInOrder kinds → AllPairs ◌≢◌ kinds → kinds ≡ range_with_len 0 (length kinds)
+pub kinds_apart : (kinds : List ℕ) → AreNumberedInOrder kinds → AllPairs ◌≢◌ kinds → kinds ≡ range_with_len 0 (length kinds)
 kinds_apart kinds ordered apart =
     let at = rises_apart 0 kinds (rises_in_order kinds ordered) apart (λ b h. omega arith) in
     ext_get_or 0 kinds (range_with_len 0 (length kinds)) (sym (length-range_with_len 0 (length kinds))) (λ b h. at b h ∙ sym (get_or-range_with_len 0 (length kinds) b 0 h))
 
-pub places_in_order : (n : ℕ) → AreInOrder (range_with_len 0 n)
+pub places_in_order : (n : ℕ) → AreNumberedInOrder (range_with_len 0 n)
 places_in_order n = λ b k h low.
     let len = length-range_with_len 0 n in
     let hb : b < n = omega (arith, h, len) in
@@ -191,7 +191,7 @@ first_at_place kinds b h first = record {
 
 module _ {A : Type 0} where
   -- a kind has a number below the number of those that are shown
-  pub shown_counts : (kinds : List ℕ) (xs : List A) → AreInOrder kinds → length xs ≡ length kinds → (k : ℕ) → (k < length (shown kinds xs)) ↔ Contains kinds k
+  pub shown_counts : (kinds : List ℕ) (xs : List A) → AreNumberedInOrder kinds → length xs ≡ length kinds → (k : ℕ) → (k < length (shown kinds xs)) ↔ Contains kinds k
   shown_counts kinds xs ordered len k =
       let rises = rises_in_order kinds ordered in
       let is = shown_fresh kinds rises xs in (
@@ -200,13 +200,13 @@ module _ {A : Type 0} where
       )
 
   -- and what is shown at that number is what belongs to the first box of the kind
-  pub shown_stands : (kinds : List ℕ) (xs : List A) (d : A) → AreInOrder kinds → length xs ≡ length kinds → (b : ℕ) → b < length kinds → IsFirstOfKind kinds b → get_or (shown kinds xs) (get_or kinds b 0) d ≡ get_or xs b d
-  shown_stands kinds xs d ordered len b h first =
+  pub shown_occurs : (kinds : List ℕ) (xs : List A) (d : A) → AreNumberedInOrder kinds → length xs ≡ length kinds → (b : ℕ) → b < length kinds → IsFirstOfKind kinds b → get_or (shown kinds xs) (get_or kinds b 0) d ≡ get_or xs b d
+  shown_occurs kinds xs d ordered len b h first =
       let rises = rises_in_order kinds ordered in
       ap (λ ys. get_or ys (get_or kinds b 0) d) (shown_fresh kinds rises xs) ∙ fresh_at 0 kinds rises xs d len (get_or kinds b 0) b (subst (λ k. IsFirstAt kinds k b) (sym (nothing_added (get_or kinds b 0))) (first_at_place kinds b h first))
 
 -- each kind has a first box
-pub kind_has_first : (kinds : List ℕ) (k : ℕ) → AreInOrder kinds → Contains kinds k → (b : ℕ) × (b < length kinds) × IsFirstOfKind kinds b × (get_or kinds b 0 ≡ k)
+pub kind_has_first : (kinds : List ℕ) (k : ℕ) → AreNumberedInOrder kinds → Contains kinds k → (b : ℕ) × (b < length kinds) × IsFirstOfKind kinds b × (get_or kinds b 0 ≡ k)
 kind_has_first kinds k ordered has =
     let rises = rises_in_order kinds ordered in
     let p = fresh_counts 0 kinds rises kinds refl has.0 k has.1 (sym (get_or_default_zero kinds has.0 k has.1) ∙ has.2 ∙ sym (nothing_added k)) in
@@ -215,23 +215,23 @@ kind_has_first kinds k ordered has =
     (r.0, r.1.there, first_of_kind kinds k r.0 (subst (λ q. IsFirstAt kinds q r.0) (nothing_added k) r.1), is)
 
 -- the first kinds are in order
-pub front_in_order : (kinds : List ℕ) (n : ℕ) → n ≤ length kinds → AreInOrder kinds → AreInOrder (take n kinds)
-front_in_order kinds n fits ordered = λ b k h low.
+pub prefix_in_order : (kinds : List ℕ) (n : ℕ) → n ≤ length kinds → AreNumberedInOrder kinds → AreNumberedInOrder (take n kinds)
+prefix_in_order kinds n fits ordered = λ b k h low.
     let hb : b < n = omega (arith, h, length-take n kinds) in
     let here = get_or-take n kinds b 0 hb in
     let found = taken kinds b k (omega (arith, hb, fits)) (ordered b k (omega (arith, hb, fits)) (omega (arith, low, here))) in
     into_taken (take n kinds) found.0 b k found.1 (omega (arith, h)) (get_or-take n kinds found.0 0 (omega (arith, found.1, hb)) ∙ found.2)
 
 -- a new kind has the number of the kinds before it
-pub kind_is_count : (kinds : List ℕ) (b : ℕ) → AreInOrder kinds → b < length kinds → IsFirstOfKind kinds b → get_or kinds b 0 ≡ length (shown (take b kinds) (take b kinds))
+pub kind_is_count : (kinds : List ℕ) (b : ℕ) → AreNumberedInOrder kinds → b < length kinds → IsFirstOfKind kinds b → get_or kinds b 0 ≡ length (shown (take b kinds) (take b kinds))
 kind_is_count kinds b ordered h first =
-    let front = take b kinds in
-    let count = shown_counts front front (front_in_order kinds b (omega (arith, h)) ordered) refl in
-    elim (cases_order (get_or kinds b 0) (length (shown front front))) [
+    let prefix = take b kinds in
+    let count = shown_counts prefix prefix (prefix_in_order kinds b (omega (arith, h)) ordered) refl in
+    elim (cases_order (get_or kinds b 0) (length (shown prefix prefix))) [
       | inl e ↦ e
       | inr other ↦ elim other [
         | inl low ↦ absurd (first ((count (get_or kinds b 0)).0 low))
-        | inr high ↦ let p = (count (length (shown front front))).1 (ordered b (length (shown front front)) h high) in absurd (omega (arith, p))
+        | inr high ↦ let p = (count (length (shown prefix prefix))).1 (ordered b (length (shown prefix prefix)) h high) in absurd (omega (arith, p))
       ]
     ]
 

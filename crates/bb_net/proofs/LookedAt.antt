@@ -9,11 +9,11 @@ use Rattle.std.proofs.lemmas.List.Sorted.{Contains-permutation, IsPermutation-ma
 use Rattle.bb_net.specs.declared.cell.Cell.{Cell}
 use Rattle.bb_net.specs.declared.loose.LooseCell.{LooseCell}
 use Rattle.bb_net.specs.declared.loose.LooseCell.TheVariants.{Const, Input, Not, And, Or, Xor, Mux, BoxOut, Copy}
-use Rattle.bb_net.specs.declared.placing.Waiter.{Waiter}
-use Rattle.bb_net.specs.declared.placing.Waiter.TheVariants as waiter
-use Rattle.bb_net.specs.declared.placing.Moved.{Moved}
-use Rattle.bb_net.specs.declared.placing.Moved.TheVariants as what
-use Rattle.bb_net.specs.Netlists.{Netlist, Pins, box_at, with_cell, MayFollow}
+use Rattle.bb_net.specs.declared.ordering.placing.Waiter.{Waiter}
+use Rattle.bb_net.specs.declared.ordering.placing.Waiter.TheVariants as waiter
+use Rattle.bb_net.specs.declared.ordering.placing.Moved.{Moved}
+use Rattle.bb_net.specs.declared.ordering.placing.Moved.TheVariants as what
+use Rattle.bb_net.specs.Netlists.{Netlist, Pins, box_at, with_cell, MayBeAppended}
 use Rattle.bb_net.specs.Loose.{LooseList, loose_at, operands}
 use Rattle.bb_net.specs.Inside.Placings.{IsPlaced, IsOpen, IsOutput, IsWaiter, waiters_at, IsWaiting, boxes_of, IsLeastFirst, IsPlacingBy, IsResolved}
 use Rattle.bb_net.proofs.PlacedCells.{at_open, at_new}
@@ -99,7 +99,7 @@ IsPlacing-queue l net to numbers numbered waiting fresh ready woken late after r
   queue = queue;
   late_pins = old.late_pins;
   flags = old.flags;
-  told = old.told;
+  reported = old.reported;
   heap = heap;
 }
 
@@ -171,7 +171,7 @@ IsPlacing-box_ready l net to numbers numbered waiting fresh ready now b from wok
 
 -- what a moved cell reads is there
 pub follows_at : (l : LooseList) (net : Netlist) (to : List (Option ℕ)) (numbers : List ℕ) (numbered : List Bool) (waiting : List (List Waiter)) (fresh : List ℕ) (ready : List (Reverse ℕ)) (k : ℕ) (woken : List Waiter) (d : Cell)
-    → IsPlacingBy l net to numbers numbered waiting fresh ready (waiter.Cell k ∷ woken) [] → IsResolved to (loose_at l k) (what.New d) → MayFollow net d
+    → IsPlacingBy l net to numbers numbered waiting fresh ready (waiter.Cell k ∷ woken) [] → IsResolved to (loose_at l k) (what.New d) → MayBeAppended net d
 follows_at l net to numbers numbered waiting fresh ready k woken d old is =
     let lt = woken_cell l net to numbers numbered waiting fresh ready k woken [] old in
     follows l net to numbers (loose_at l k) d old.built is.1 (λ i e. old.list.inputs_there k i lt e) is.2 (is.3 numbers)

@@ -42,7 +42,7 @@ source_no_box n b p c h e = elim h [ inl q ↦ cc (q.1, e) | inr q ↦ cc (q.2, 
 -- the constants and inputs alone are a netlist
 pub IsNetlist-first : (n : ℕ) → n + 2 < 2 ^ 32 → IsNetlist (record { inputs = n; cells = first_cells n; boxes = []; outs = [] })
 IsNetlist-first n small = record {
-  front = take_all (n + 2) (first_cells n) (omega (arith, length-first_cells n));
+  prefix = take_all (n + 2) (first_cells n) (omega (arith, length-first_cells n));
   ordered = λ place _. source_reads n place [] (cell_at (first_cells n) place) (first_is n place);
   listed = λ place b p h e. source_no_box n b p _ (first_is n place) e;
   driven = λ b p place h. absurd (omega (arith, h.0));

@@ -10,11 +10,11 @@ use Rattle.bb_net.specs.declared.loose.LooseCell.TheVariants.{Const, Input, Not,
 use Rattle.bb_net.specs.Netlists.{Netlist, Pins, cell_at, box_at, reads_of, IsNetlist}
 use Rattle.bb_net.specs.Values.{bit_of, gate, value_of}
 use Rattle.bb_net.specs.Loose.{LooseList, loose_at, operands, IsLoose, Reaches, IsOnClosedWalk, loose_gate, IsLooseValue}
-use Rattle.bb_net.specs.Orders.{IsKept, IsSource, IsMoved, IsOrderOf, renumbered, OrderKeepsValues, OrderHasNoWalk}
+use Rattle.bb_net.specs.Orders.{IsNoCopy, IsCopySource, IsMoved, IsOrderOf, renumbered, OrderKeepsValues, OrderHasNoWalk}
 use Rattle.bb_net.proofs.BuildLemmas.{reads_before}
 use Rattle.bb_net.proofs.ValueLaws.{value_exists_lem}
 
-pub copy_or_kept : (c : LooseCell) → ((p : ℕ) × (c ≡ Copy p)) ⊎ IsKept c
+pub copy_or_kept : (c : LooseCell) → ((p : ℕ) × (c ≡ Copy p)) ⊎ IsNoCopy c
 copy_or_kept (Copy p) = inl (p, refl)
 copy_or_kept (Const b) = inr tt
 copy_or_kept (Input i) = inr tt
@@ -49,8 +49,8 @@ all_moved P to xs all a has =
     let at = all has.0 0 (omega (arith, has.1, length-map xs to)) in
     subst P (get_or-map to xs has.0 a 0 has.1 ∙ ap to has.2) at
 
--- what a kept cell reads stands before it in the netlist
-kept_below : (l : LooseList) (net : Netlist) (numbers : List ℕ) (o : IsOrderOf l net numbers) → IsNetlist net → (k : ℕ) → k < length l.cells → IsKept (loose_at l k) → (a : ℕ) → Contains (operands l.boxes (loose_at l k)) a → o.to a < o.to k
+-- what a kept cell reads precedes it in the netlist
+kept_below : (l : LooseList) (net : Netlist) (numbers : List ℕ) (o : IsOrderOf l net numbers) → IsNetlist net → (k : ℕ) → k < length l.cells → IsNoCopy (loose_at l k) → (a : ℕ) → Contains (operands l.boxes (loose_at l k)) a → o.to a < o.to k
 kept_below l net numbers o kept k h keep a has =
     let there = o.there k h in
     let before = reads_before net.inputs net.boxes (o.to k) (cell_at net.cells (o.to k)) (kept.ordered (o.to k) there) in
@@ -91,20 +91,20 @@ gate_moved to numbers old new x box v w (Copy p) d pins m same = absurd m
 -- the end of a chain of copies
 record Ends (l : LooseList) (to : ℕ → ℕ) (k source : ℕ) : Type 0 where
   pub there : source < length l.cells
-  pub kept : IsKept (loose_at l source)
+  pub kept : IsNoCopy (loose_at l source)
   pub same : to k ≡ to source
 
-source_ends : (l : LooseList) (net : Netlist) (numbers : List ℕ) (o : IsOrderOf l net numbers) (n k source : ℕ) → k < length l.cells → IsSource n l k source → Ends l o.to k source
+source_ends : (l : LooseList) (net : Netlist) (numbers : List ℕ) (o : IsOrderOf l net numbers) (n k source : ℕ) → k < length l.cells → IsCopySource n l k source → Ends l o.to k source
 source_ends l net numbers o zero k source h s = record {
   there = subst (λ j. j < length l.cells) s.0 h;
-  kept = subst (λ j. IsKept (loose_at l j)) s.0 s.1;
+  kept = subst (λ j. IsNoCopy (loose_at l j)) s.0 s.1;
   same = ap o.to s.0;
 }
 source_ends l net numbers o (suc n) k source h s =
     let rest = source_ends l net numbers o n s.0 source s.1 s.3 in
     record { there = rest.there; kept = rest.kept; same = o.copies k s.0 h s.2 ∙ rest.same }
 
-source_bit : (l : LooseList) (x : List Bool) (box : ℕ → ℕ → List Bool → Bool) (bits : List Bool) → IsLooseValue l x box bits → (n k source : ℕ) → k < length l.cells → IsSource n l k source → bit_of bits k ≡ bit_of bits source
+source_bit : (l : LooseList) (x : List Bool) (box : ℕ → ℕ → List Bool → Bool) (bits : List Bool) → IsLooseValue l x box bits → (n k source : ℕ) → k < length l.cells → IsCopySource n l k source → bit_of bits k ≡ bit_of bits source
 source_bit l x box bits value zero k source h s = ap (bit_of bits) s.0
 source_bit l x box bits value (suc n) k source h s =
     value.each k h ∙ ap (loose_gate l.boxes x box (bit_of bits)) s.2 ∙ source_bit l x box bits value n s.0 source s.1 s.3
@@ -177,7 +177,7 @@ Reaches-step : (n : ℕ) (l : LooseList) (from to next : ℕ) → Reaches n l fr
 Reaches-step zero l from to next e has = (next, subst (λ k. Contains (operands l.boxes (loose_at l k)) next) (sym e) has, refl)
 Reaches-step (suc n) l from to next h has = (h.0, h.1, Reaches-step n l h.0 to next h.2 has)
 
-no_walk : (l : LooseList) (net : Netlist) (numbers : List ℕ) (o : IsOrderOf l net numbers) → IsLoose l → IsNetlist net → (n k source : ℕ) → IsSource n l k source → IsOnClosedWalk l k → ⊥
+no_walk : (l : LooseList) (net : Netlist) (numbers : List ℕ) (o : IsOrderOf l net numbers) → IsLoose l → IsNetlist net → (n k source : ℕ) → IsCopySource n l k source → IsOnClosedWalk l k → ⊥
 no_walk l net numbers o loose kept zero k source s walk =
     let step = walk.2 in
     let there = All-contains (λ j. j < length l.cells) _ step.0 (loose.there k walk.0) step.1 in

@@ -10,12 +10,12 @@ use Rattle.bb_net.specs.declared.cell.Cell.{Cell}
 use Rattle.bb_net.specs.declared.cell.Cell.TheVariants as cell
 use Rattle.bb_net.specs.declared.loose.LooseCell.{LooseCell}
 use Rattle.bb_net.specs.declared.loose.LooseCell.TheVariants.{Const, Input, Not, And, Or, Xor, Mux, BoxOut, Copy}
-use Rattle.bb_net.specs.declared.placing.Waiter.{Waiter}
-use Rattle.bb_net.specs.declared.placing.Waiter.TheVariants as waiter
+use Rattle.bb_net.specs.declared.ordering.placing.Waiter.{Waiter}
+use Rattle.bb_net.specs.declared.ordering.placing.Waiter.TheVariants as waiter
 use Rattle.bb_net.specs.Netlists.{Netlist, Pins, cell_at, box_at, first_cells, IsPinAt, IsNetlist}
 use Rattle.bb_net.specs.Values.{bit_of}
 use Rattle.bb_net.specs.Loose.{LooseList, loose_at, operands, IsLoose, IsOnClosedWalk}
-use Rattle.bb_net.specs.Orders.{IsKept, IsMoved, IsOrderOf}
+use Rattle.bb_net.specs.Orders.{IsNoCopy, IsMoved, IsOrderOf}
 use Rattle.bb_net.specs.Inside.Placings.{IsAt, IsPlaced, IsOpen, IsWaiter, waiters_at, given_place, open_count, EndsWithin, IsBegun, IsBuilt, IsLeastFirst, IsPlacingBy, AreAll}
 use Rattle.bb_net.proofs.NetLemmas.{length-first_cells}
 use Rattle.bb_net.proofs.PlaceLists.{Contains-none, Reaches-push, walk_from_steps, box_number, le-length_from_all, length-le_from_apart}
@@ -72,9 +72,9 @@ stuck_walk l net to numbers numbered waiting s k h o =
 all_numbered : (l : LooseList) (net : Netlist) (to : List (Option ℕ)) (numbers : List ℕ) (numbered : List Bool) (waiting : List (List Waiter)) → IsPlacingBy l net to numbers numbered waiting [] [] [] []
     → ((k : ℕ) → k < length l.cells → IsPlaced to k) → (b : ℕ) → b < length l.boxes → Contains numbers b
 all_numbered l net to numbers numbered waiting s all b h = elim (cases_Bool (bit_of numbered b)) [
-  | inl told ↦ (s.told b h).0 told
+  | inl reported ↦ (s.reported b h).0 reported
   | inr not ↦
-      let new : Contains numbers b → ⊥ = λ has. both_ways (bit_of numbered b) not ((s.told b h).1 has) in
+      let new : Contains numbers b → ⊥ = λ has. both_ways (bit_of numbered b) not ((s.reported b h).1 has) in
       elim (s.queue.boxes b h new) [
         | inl known ↦ elim known [ inl none ↦ Contains-none b none | inr none ↦ Waiter-none (waiter.Box b none.0) none.1 ]
         | inr waits ↦ elim waits.3 [
@@ -123,7 +123,7 @@ outs_moved l net to numbers loose whole built kept apart all b h =
     let k : ℕ = slice_index old p in
     let is = loose.driven d p k (g, refl) in
     let at = all k is.0 in
-    let m : IsMoved (given_place to) numbers (BoxOut d p) (cell_at net.cells at.0) = subst (λ c. IsMoved (given_place to) numbers c (cell_at net.cells at.0)) is.1 (built.moved k at.0 at.1 (subst IsKept (sym is.1) tt)) in
+    let m : IsMoved (given_place to) numbers (BoxOut d p) (cell_at net.cells at.0) = subst (λ c. IsMoved (given_place to) numbers c (cell_at net.cells at.0)) is.1 (built.moved k at.0 at.1 (subst IsNoCopy (sym is.1) tt)) in
     let same : m.0 ≡ b = no_two numbers m.0 b apart m.1 h m.2 in
     let cell_is : cell_at net.cells at.0 ≡ cell.BoxOut b p = m.3 ∙ ap (λ j. cell.BoxOut j p) same in
     subst (IsPinAt net.boxes b p) (sym (place_of-at to k at.0 at.1)) (kept.listed at.0 b p (built.there k at.0 at.1) cell_is)) in
@@ -149,7 +149,7 @@ IsOrderOf-whole l net to numbers loose begun built kept all numbered =
     record {
       to = given_place to;
       inputs = built.inputs;
-      front = λ k h. place_of-at to k k (begun.front k h);
+      prefix = λ k h. place_of-at to k k (begun.prefix k h);
       there = λ k h. subst (λ j. j < length net.cells) (sym (place k h)) (built.there k (all k h).0 (all k h).1);
       moved = λ k h keep. subst (λ j. IsMoved (given_place to) numbers (loose_at l k) (cell_at net.cells j)) (sym (place k h)) (built.moved k (all k h).0 (all k h).1 keep);
       apart = λ k m h g keep keep' e. built.apart k m (all k h).0 (all k h).1 (subst (IsAt to m) (sym (place m g) ∙ sym e ∙ place k h) (all m g).1) keep keep';
@@ -172,9 +172,9 @@ IsOrderOf-from l net to numbers numbered waiting s kept all = IsOrderOf-whole l 
 
 -- ---- how it begins
 
-pub front_fits : (l : LooseList) → IsLoose l → l.inputs + 2 ≤ length l.cells
-front_fits l loose =
-    let len = ap length loose.front in
+pub prefix_fits : (l : LooseList) → IsLoose l → l.inputs + 2 ≤ length l.cells
+prefix_fits l loose =
+    let len = ap length loose.prefix in
     omega (arith, len, length-take (l.inputs + 2) l.cells, length-map-range_with_len Input 0 l.inputs)
 
 -- a cell that begins the list, and the one that begins the netlist
@@ -188,11 +188,11 @@ first_pair n (suc (suc i)) h = inr (i, get_or-map-range_with_len Input 0 n i i (
 
 first_at : (l : LooseList) → IsLoose l → (k : ℕ) → k < l.inputs + 2 → IsFirst (loose_at l k) (cell_at (first_cells l.inputs) k)
 first_at l loose k h =
-    let is : loose_at l k ≡ get_or (Const false ∷ Const true ∷ map Input (range_with_len 0 l.inputs)) k (Const false) = sym (get_or-take (l.inputs + 2) l.cells k (Const false) h) ∙ ap (λ xs. get_or xs k (Const false)) loose.front in
+    let is : loose_at l k ≡ get_or (Const false ∷ Const true ∷ map Input (range_with_len 0 l.inputs)) k (Const false) = sym (get_or-take (l.inputs + 2) l.cells k (Const false) h) ∙ ap (λ xs. get_or xs k (Const false)) loose.prefix in
     subst (λ c. IsFirst c (cell_at (first_cells l.inputs) k)) (sym is) (first_pair l.inputs k h)
 
-first_kept : (c : LooseCell) (d : Cell) → IsFirst c d → IsKept c
-first_kept c d f = elim f [ inl q ↦ subst IsKept (sym q.1) tt | inr q ↦ subst IsKept (sym q.1) tt ]
+first_kept : (c : LooseCell) (d : Cell) → IsFirst c d → IsNoCopy c
+first_kept c d f = elim f [ inl q ↦ subst IsNoCopy (sym q.1) tt | inr q ↦ subst IsNoCopy (sym q.1) tt ]
 
 first_moved : (g : ℕ → ℕ) (numbers : List ℕ) (c : LooseCell) (d : Cell) → IsFirst c d → IsMoved g numbers c d
 first_moved g numbers c d f = elim f [ inl q ↦ subst (λ e. IsMoved g numbers e d) (sym q.1) q.2 | inr q ↦ subst (λ e. IsMoved g numbers e d) (sym q.1) q.2 ]
@@ -221,7 +221,7 @@ IsBegun-first l to loose whole first free =
     let f : (k place : ℕ) → IsAt to k place → IsFirst (loose_at l k) (cell_at (first_cells l.inputs) k) = λ k place at. first_at l loose k (at_first (l.inputs + 2) to first free k place at).0 in
     record {
       whole = whole;
-      front = first;
+      prefix = first;
       reads = λ k place a at has. first_reads l.boxes (loose_at l k) _ a (f k place at) has;
       copies = λ k p place at is. first_no_copy (loose_at l k) _ p (f k place at) is;
       sources = λ k place at. (0, k, (refl, first_kept (loose_at l k) _ (f k place at)));
@@ -255,8 +255,8 @@ IsBuilt-first l to loose first free count =
 none_waits : (n a : ℕ) → waiters_at (replicate n []) a ≡ []
 none_waits n a = elim (cases_lt a n) [ inl below ↦ get_or-replicate n a [] [] below | inr past ↦ get_or_past (replicate n []) a [] (omega (arith, past, length-replicate {A = List Waiter} n [])) ]
 
-none_told : {P : Type 0} (n b : ℕ) → bit_of (replicate n false) b ≡ true → P
-none_told n b h = elim (cases_lt b n) [
+none_reported : {P : Type 0} (n b : ℕ) → bit_of (replicate n false) b ≡ true → P
+none_reported n b h = elim (cases_lt b n) [
   | inl below ↦ absurd (both_ways true (sym h ∙ get_or-replicate n b false false below) refl)
   | inr past ↦ absurd (both_ways true (sym h ∙ get_or_past (replicate n false) b false (omega (arith, past, length-replicate n false))) refl)
 ]
@@ -280,7 +280,7 @@ IsPlacing-first l to woken loose whole first free count heap all = record {
   };
   late_pins = λ k b p h is has. Contains-none b has;
   flags = length-replicate (length l.boxes) false;
-  told = λ b h. (λ t. none_told (length l.boxes) b t, λ has. Contains-none b has);
+  reported = λ b h. (λ t. none_reported (length l.boxes) b t, λ has. Contains-none b has);
   heap = heap;
 }
 

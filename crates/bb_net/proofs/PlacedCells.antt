@@ -10,7 +10,7 @@ use Rattle.std.proofs.lemmas.List.Sums.{sum_by-set}
 use Rattle.bb_net.specs.declared.loose.LooseCell.TheVariants.{Copy, BoxOut}
 use Rattle.bb_net.specs.Netlists.{box_at}
 use Rattle.bb_net.specs.Loose.{LooseList, loose_at, operands, Reaches}
-use Rattle.bb_net.specs.Orders.{IsSource, IsReady}
+use Rattle.bb_net.specs.Orders.{IsCopySource, IsReadyBox}
 use Rattle.bb_net.specs.Inside.Placings.{IsAt, IsPlaced, IsOpen, given_place, open_count, EndsWithin, InputsEnd, IsBegun}
 
 option_cases : (o : Option ℕ) → ((p : ℕ) × (o ≡ Some p)) ⊎ (o ≡ None)
@@ -41,7 +41,7 @@ at_old to k q m p free a = elim (cases_eq m k) [
 pub at_new : (to : List (Option ℕ)) (k q : ℕ) → k < length to → IsAt (set to k (Some q)) k q
 at_new to k q lt = get_or-set_same to k (Some q) None lt
 
--- the first cells stand where they are, and one more
+-- the first cells are where they are, and one more
 pub first_more : (to : List (Option ℕ)) (k : ℕ) → k < length to → ((j : ℕ) → j < k → IsAt to j j) → IsOpen to k → (j : ℕ) → j < k + 1 → IsAt (set to k (Some k)) j j
 first_more to k lt before free j h = elim (cases_eq j k) [
   | inl e ↦ subst (λ i. IsAt (set to k (Some k)) i i) (sym e) (at_new to k k lt)
@@ -78,12 +78,12 @@ EndsWithin-more l (suc n) k h = λ a has. EndsWithin-more l n a (h a has)
 
 pub IsBegun-more : (l : LooseList) (to : List (Option ℕ)) (numbers : List ℕ) (k q : ℕ) → IsBegun l to numbers → k < length to → IsOpen to k
     → ((a : ℕ) → Contains (operands l.boxes (loose_at l k)) a → IsPlaced to a) → ((p : ℕ) → loose_at l k ≡ Copy p → IsAt to p q)
-    → (n source : ℕ) × IsSource n l k source → ((b p : ℕ) → loose_at l k ≡ BoxOut b p → Contains numbers b) → IsBegun l (set to k (Some q)) numbers
+    → (n source : ℕ) × IsCopySource n l k source → ((b p : ℕ) → loose_at l k ≡ BoxOut b p → Contains numbers b) → IsBegun l (set to k (Some q)) numbers
 IsBegun-more l to numbers k q old lt free reads copy source output =
     let new : List (Option ℕ) = set to k (Some q) in
     record {
       whole = length-set to k (Some q) ∙ old.whole;
-      front = λ m h. at_old to k q m m free (old.front m h);
+      prefix = λ m h. at_old to k q m m free (old.prefix m h);
       reads = λ m place a at has. elim (at_cases to k q m place lt at) [
         | inl e ↦ placed_old to k q a free (reads a (subst (λ j. Contains (operands l.boxes (loose_at l j)) a) e.0 has))
         | inr o ↦ placed_old to k q a free (old.reads m place a o has)
@@ -93,7 +93,7 @@ IsBegun-more l to numbers k q old lt free reads copy source output =
         | inr o ↦ at_old to k q p place free (old.copies m p place o is)
       ];
       sources = λ m place at. elim (at_cases to k q m place lt at) [
-        | inl e ↦ (source.0, source.1, subst (λ j. IsSource source.0 l j source.1) (sym e.0) source.2)
+        | inl e ↦ (source.0, source.1, subst (λ j. IsCopySource source.0 l j source.1) (sym e.0) source.2)
         | inr o ↦ old.sources m place o
       ];
       depth = suc old.depth;
@@ -117,7 +117,7 @@ reaches_placed : (l : LooseList) (to : List (Option ℕ)) (numbers : List ℕ) �
 reaches_placed l to numbers old zero k m p e = subst (IsPlaced to) e p
 reaches_placed l to numbers old (suc n) k m p walk = reaches_placed l to numbers old n walk.0 m (old.reads k p.0 walk.0 p.1 walk.1) walk.2
 
-ready_box : (l : LooseList) (to : List (Option ℕ)) (numbers : List ℕ) → IsBegun l to numbers → (b : ℕ) → ((pin : ℕ) → Contains (box_at l.boxes b).ins pin → IsPlaced to pin) → IsReady l numbers b
+ready_box : (l : LooseList) (to : List (Option ℕ)) (numbers : List ℕ) → IsBegun l to numbers → (b : ℕ) → ((pin : ℕ) → Contains (box_at l.boxes b).ins pin → IsPlaced to pin) → IsReadyBox l numbers b
 ready_box l to numbers old b pins d needs =
     let p = reaches_placed l to numbers old needs.2 needs.0 needs.1 (pins needs.0 needs.4) needs.5 in
     old.outputs needs.1 p.0 d needs.3 p.1 needs.7
@@ -128,7 +128,7 @@ index_cases n i h = elim (cases_lt i n) [ inl below ↦ inl below | inr past ↦
 
 pub IsBegun-box : (l : LooseList) (to : List (Option ℕ)) (numbers : List ℕ) (b : ℕ) → IsBegun l to numbers → b < length l.boxes → (Contains numbers b → ⊥)
     → ((pin : ℕ) → Contains (box_at l.boxes b).ins pin → IsPlaced to pin)
-    → ((c : ℕ) → c < length l.boxes → (Contains numbers c → ⊥) → IsReady l numbers c → InputsEnd l c → b ≤ c) → IsBegun l to (numbers ++ b ∷ [])
+    → ((c : ℕ) → c < length l.boxes → (Contains numbers c → ⊥) → IsReadyBox l numbers c → InputsEnd l c → b ≤ c) → IsBegun l to (numbers ++ b ∷ [])
 IsBegun-box l to numbers b old lt new pins least =
     let n : ℕ = length numbers in
     let len : length (numbers ++ b ∷ []) ≡ n + 1 = length_push numbers b in
@@ -138,7 +138,7 @@ IsBegun-box l to numbers b old lt new pins least =
     let last : (i : ℕ) → n ≡ i → slice_index (numbers ++ b ∷ []) i ≡ b = λ i e. get_or_push numbers b 0 i e in
     record {
       whole = old.whole;
-      front = old.front;
+      prefix = old.prefix;
       reads = old.reads;
       copies = old.copies;
       sources = old.sources;
@@ -152,15 +152,15 @@ IsBegun-box l to numbers b old lt new pins least =
         | inr e ↦ pins pin (subst (λ j. Contains (box_at l.boxes j).ins pin) (sym e) in')
       ];
       ready = λ i h. elim (index_cases n i (omega (arith, h, len))) [
-        | inl below ↦ subst (λ xs. IsReady l xs (slice_index (numbers ++ b ∷ []) i)) (sym (low i below)) (subst (IsReady l (take i numbers)) (sym (same i below)) (old.ready i below))
-        | inr e ↦ subst (λ xs. IsReady l xs (slice_index (numbers ++ b ∷ []) i)) (sym (high i e)) (subst (IsReady l numbers) (sym (last i e)) (ready_box l to numbers old b pins))
+        | inl below ↦ subst (λ xs. IsReadyBox l xs (slice_index (numbers ++ b ∷ []) i)) (sym (low i below)) (subst (IsReadyBox l (take i numbers)) (sym (same i below)) (old.ready i below))
+        | inr e ↦ subst (λ xs. IsReadyBox l xs (slice_index (numbers ++ b ∷ []) i)) (sym (high i e)) (subst (IsReadyBox l numbers) (sym (last i e)) (ready_box l to numbers old b pins))
       ];
       first = λ i c h lc not ready end. elim (index_cases n i (omega (arith, h, len))) [
         | inl below ↦
-            let r = old.first i c below lc (λ has. not (subst (λ xs. Contains xs c) (sym (low i below)) has)) (subst (λ xs. IsReady l xs c) (low i below) ready) end in
+            let r = old.first i c below lc (λ has. not (subst (λ xs. Contains xs c) (sym (low i below)) has)) (subst (λ xs. IsReadyBox l xs c) (low i below) ready) end in
             subst (λ j. j ≤ c) (sym (same i below)) r
         | inr e ↦
-            let r = least c lc (λ has. not (subst (λ xs. Contains xs c) (sym (high i e)) has)) (subst (λ xs. IsReady l xs c) (high i e) ready) end in
+            let r = least c lc (λ has. not (subst (λ xs. Contains xs c) (sym (high i e)) has)) (subst (λ xs. IsReadyBox l xs c) (high i e) ready) end in
             subst (λ j. j ≤ c) (sym (last i e)) r
       ];
     }

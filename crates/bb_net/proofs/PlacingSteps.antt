@@ -7,12 +7,12 @@ use Rattle.std.proofs.lemmas.List.{length-set, get_or_default}
 use Rattle.std.proofs.lemmas.List.Elements.{All-contains, Contains-push, Contains-push_cases, Contains-append_left}
 use Rattle.bb_net.specs.declared.cell.Cell.{Cell}
 use Rattle.bb_net.specs.declared.loose.LooseCell.TheVariants.{Copy, BoxOut}
-use Rattle.bb_net.specs.declared.placing.Waiter.{Waiter}
-use Rattle.bb_net.specs.declared.placing.Waiter.TheVariants as waiter
+use Rattle.bb_net.specs.declared.ordering.placing.Waiter.{Waiter}
+use Rattle.bb_net.specs.declared.ordering.placing.Waiter.TheVariants as waiter
 use Rattle.bb_net.specs.Netlists.{Netlist, box_at, with_cell, with_box}
 use Rattle.bb_net.specs.Values.{bit_of}
 use Rattle.bb_net.specs.Loose.{LooseList, loose_at, operands, Reaches}
-use Rattle.bb_net.specs.Orders.{IsKept, IsMoved, IsReady}
+use Rattle.bb_net.specs.Orders.{IsNoCopy, IsMoved, IsReadyBox}
 use Rattle.bb_net.specs.Inside.Placings.{IsAt, IsPlaced, IsOpen, given_place, EndsWithin, InputsEnd, boxes_of, IsPlacingBy}
 use Rattle.bb_net.proofs.PlaceLists.{Contains-none, Contains-one, Reaches-push}
 use Rattle.bb_net.proofs.PlacedCells.{placed_or_open, at_open, at_new, placed_old, IsBegun-more, IsBegun-box}
@@ -27,7 +27,7 @@ late_less to k q late rest lt free less m h = elim h [
 
 -- a cell is put into the netlist
 pub IsPlacing-put : (l : LooseList) (net : Netlist) (to : List (Option ℕ)) (numbers : List ℕ) (numbered : List Bool) (waiting : List (List Waiter)) (fresh : List ℕ) (ready : List (Reverse ℕ)) (woken : List Waiter) (late rest : List ℕ) (k : ℕ) (c : Cell)
-    → IsPlacingBy l net to numbers numbered waiting fresh ready woken late → k < length l.cells → IsOpen to k → IsKept (loose_at l k)
+    → IsPlacingBy l net to numbers numbered waiting fresh ready woken late → k < length l.cells → IsOpen to k → IsNoCopy (loose_at l k)
     → ((a : ℕ) → Contains (operands l.boxes (loose_at l k)) a → IsPlaced to a) → IsMoved (given_place to) numbers (loose_at l k) c → ((b p : ℕ) → loose_at l k ≡ BoxOut b p → Contains numbers b)
     → ((m : ℕ) → Contains late m → (k ≡ m) ⊎ Contains rest m)
     → IsPlacingBy l (with_cell net c) (set to k (Some (length net.cells))) numbers numbered waiting (fresh ++ k ∷ []) ready woken rest
@@ -41,14 +41,14 @@ IsPlacing-put l net to numbers numbered waiting fresh ready woken late rest k c 
       queue = IsWaiting-place l to numbers waiting fresh (boxes_of ready) woken k q lt within free old.queue;
       late_pins = λ m b p h is has. late_less to k q late rest within free less m (old.late_pins m b p h is has);
       flags = old.flags;
-      told = old.told;
+      reported = old.reported;
       heap = old.heap;
     }
   where
     no_copy : {P : Type 0} (p : ℕ) → loose_at l k ≡ Copy p → P
-    no_copy p e = let never : ⊥ = subst IsKept e keep in absurd never
+    no_copy p e = let never : ⊥ = subst IsNoCopy e keep in absurd never
 
--- a copy stands where its source stands
+-- a copy is where its source is
 pub IsPlacing-copy : (l : LooseList) (net : Netlist) (to : List (Option ℕ)) (numbers : List ℕ) (numbered : List Bool) (waiting : List (List Waiter)) (fresh : List ℕ) (ready : List (Reverse ℕ)) (woken : List Waiter) (k p q : ℕ)
     → IsPlacingBy l net to numbers numbered waiting fresh ready woken [] → k < length l.cells → IsOpen to k → loose_at l k ≡ Copy p → IsAt to p q
     → IsPlacingBy l net (set to k (Some q)) numbers numbered waiting (fresh ++ k ∷ []) ready woken []
@@ -64,7 +64,7 @@ IsPlacing-copy l net to numbers numbered waiting fresh ready woken k p q old lt 
       queue = IsWaiting-place l to numbers waiting fresh (boxes_of ready) woken k q lt within free old.queue;
       late_pins = λ m b r h is' has. late_less to k q [] [] within free (λ j in'. inr in') m (old.late_pins m b r h is' has);
       flags = old.flags;
-      told = old.told;
+      reported = old.reported;
       heap = old.heap;
     }
   where
@@ -77,7 +77,7 @@ IsPlacing-copy l net to numbers numbered waiting fresh ready woken k p q old lt 
 -- while no cell has waiters to wake, a cell from which every walk ends has its place where the boxes have numbers on which
 -- its value depends
 ended_placed : (l : LooseList) (net : Netlist) (to : List (Option ℕ)) (numbers : List ℕ) (numbered : List Bool) (waiting : List (List Waiter)) (ready : List (Reverse ℕ)) (c : ℕ)
-    → IsPlacingBy l net to numbers numbered waiting [] ready [] [] → IsReady l numbers c
+    → IsPlacingBy l net to numbers numbered waiting [] ready [] [] → IsReadyBox l numbers c
     → (n k m pin : ℕ) → EndsWithin n l k → Contains (box_at l.boxes c).ins pin → Reaches m l pin k → k < length l.cells → IsPlaced to k
 ended_placed l net to numbers numbered waiting ready c s is zero k m pin end has walk lt = absurd end
 ended_placed l net to numbers numbered waiting ready c s is (suc n) k m pin end has walk lt = elim (placed_or_open to k) [
@@ -100,7 +100,7 @@ ended_placed l net to numbers numbered waiting ready c s is (suc n) k m pin end 
 
 -- then a box without number that is ready is among those that are known to be
 ready_known : (l : LooseList) (net : Netlist) (to : List (Option ℕ)) (numbers : List ℕ) (numbered : List Bool) (waiting : List (List Waiter)) (ready : List (Reverse ℕ)) (c : ℕ)
-    → IsPlacingBy l net to numbers numbered waiting [] ready [] [] → c < length l.boxes → (Contains numbers c → ⊥) → IsReady l numbers c → InputsEnd l c → Contains (boxes_of ready) c
+    → IsPlacingBy l net to numbers numbered waiting [] ready [] [] → c < length l.boxes → (Contains numbers c → ⊥) → IsReadyBox l numbers c → InputsEnd l c → Contains (boxes_of ready) c
 ready_known l net to numbers numbered waiting ready c s lt new is end = elim (s.queue.boxes c lt new) [
   | inl here ↦ elim here [ inl known ↦ known | inr none ↦ Waiter-none (waiter.Box c none.0) none.1 ]
   | inr waits ↦ elim waits.3 [
@@ -119,7 +119,7 @@ pub IsPlacing-number : (l : LooseList) (net : Netlist) (to : List (Option ℕ)) 
     → IsPlacingBy l (with_box net (map (given_place to) (box_at l.boxes b).ins)) to (numbers ++ b ∷ []) (set numbered b true) waiting [] ready [] (box_at l.boxes b).outs
 IsPlacing-number l net to numbers numbered waiting ready b s free known least =
     let lt : b < length l.boxes = s.queue.ready_there b known in
-    let new : Contains numbers b → ⊥ = λ has. both_ways (bit_of numbered b) free ((s.told b lt).1 has) in
+    let new : Contains numbers b → ⊥ = λ has. both_ways (bit_of numbered b) free ((s.reported b lt).1 has) in
     record {
       list = s.list;
       begun = IsBegun-box l to numbers b s.begun lt new (λ pin has. s.queue.ready_pins b pin known has)
@@ -131,15 +131,15 @@ IsPlacing-number l net to numbers numbered waiting ready b s free known least =
         | inr e ↦ inr (subst (λ j. Contains (box_at l.boxes j).outs m) (sym e) (pin_of m c p h is))
       ];
       flags = length-set numbered b true ∙ s.flags;
-      told = λ c h. (
+      reported = λ c h. (
         λ t. elim (cases_eq c b) [
           | inl e ↦ subst (Contains (numbers ++ b ∷ [])) (sym e) (Contains-push numbers b)
-          | inr ne ↦ Contains-append_left numbers (b ∷ []) c ((s.told c h).0 (sym (get_or-set_other numbered b c true false ne) ∙ t))
+          | inr ne ↦ Contains-append_left numbers (b ∷ []) c ((s.reported c h).0 (sym (get_or-set_other numbered b c true false ne) ∙ t))
         ],
         λ has. elim (cases_eq c b) [
           | inl e ↦ subst (λ j. bit_of (set numbered b true) j ≡ true) (sym e) (get_or-set_same numbered b true false (omega (arith, lt, s.flags)))
           | inr ne ↦ elim (Contains-push_cases numbers b c has) [
-            | inl before ↦ get_or-set_other numbered b c true false ne ∙ (s.told c h).1 before
+            | inl before ↦ get_or-set_other numbered b c true false ne ∙ (s.reported c h).1 before
             | inr e ↦ absurd (ne (sym e))
           ]
         ],

@@ -4,8 +4,8 @@ use Rattle.std.specs.Prelude.{All, Contains, slice_index}
 use Rattle.std.proofs.lemmas.Bool.{cases_eq}
 use Rattle.std.proofs.lemmas.List.{length-set}
 use Rattle.std.proofs.lemmas.List.Elements.{All-weaker, All-nil, All-tail, All-push, Contains-push, Contains-push_cases, Contains-append_left}
-use Rattle.bb_net.specs.declared.placing.Waiter.{Waiter}
-use Rattle.bb_net.specs.declared.placing.Waiter.TheVariants as waiter
+use Rattle.bb_net.specs.declared.ordering.placing.Waiter.{Waiter}
+use Rattle.bb_net.specs.declared.ordering.placing.Waiter.TheVariants as waiter
 use Rattle.bb_net.specs.Netlists.{box_at}
 use Rattle.bb_net.specs.Loose.{LooseList, loose_at, operands}
 use Rattle.bb_net.specs.Inside.Placings.{IsPlaced, IsOpen, IsOutput, waiters_at, IsWaiter, IsAwaited, CellWaits, BoxWaits, IsWaiting}

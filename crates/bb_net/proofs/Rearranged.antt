@@ -9,7 +9,7 @@ use Rattle.std.proofs.lemmas.List.FromFn.{get_or-map-range_with_len}
 use Rattle.std.proofs.lemmas.Grind.{drop_more_same}
 use Rattle.bb_net.specs.declared.cell.Cell.{Cell}
 use Rattle.bb_net.specs.declared.cell.Cell.TheVariants.{Const, Input, Not, And, Or, Xor, Mux, BoxOut}
-use Rattle.bb_net.specs.Netlists.{Netlist, Pins, cell_at, box_at, first_cells, ReadsBefore, reads_of, Leads, DependsOn, IsPinAt, IsNetlist}
+use Rattle.bb_net.specs.Netlists.{Netlist, Pins, cell_at, box_at, first_cells, ReadsBefore, reads_of, ReadsInSteps, DependsOn, IsPinAt, IsNetlist}
 use Rattle.bb_net.specs.Orders.{moved_pins}
 use Rattle.bb_net.specs.Rearrangements.{new_input, new_place, moved_cell, IsRearranged}
 use Rattle.bb_net.proofs.NetLemmas.{length-first_cells, first_is, source_reads, source_no_box}
@@ -19,18 +19,18 @@ use Rattle.bb_net.proofs.BuildLemmas.{reads_before}
 module _ {X : Type 0} (f : X → X) where
   pub changed_more : (old now : List X) (k : ℕ) (d y : X) → k < length old → length now ≡ length old → take k now ≡ map f (take k old) → drop k now ≡ drop k old → y ≡ f (get_or now k d)
       → (take (k + 1) (slice_set now k y) ≡ map f (take (k + 1) old)) × (drop (k + 1) (slice_set now k y) ≡ drop (k + 1) old)
-  changed_more old now k d y lt len front behind is =
+  changed_more old now k d y lt len prefix after is =
       let at : k < length now = omega (arith, lt, len) in
       let there : k + 0 ≡ k = omega arith in
-      let here : get_or now k d ≡ get_or old k d = ap (λ n. get_or now n d) (sym there) ∙ sym (get_or-drop k now 0 d) ∙ ap (λ l. get_or l 0 d) behind ∙ get_or-drop k old 0 d ∙ ap (λ n. get_or old n d) there in
+      let here : get_or now k d ≡ get_or old k d = ap (λ n. get_or now n d) (sym there) ∙ sym (get_or-drop k now 0 d) ∙ ap (λ l. get_or l 0 d) after ∙ get_or-drop k old 0 d ∙ ap (λ n. get_or old n d) there in
       let taken = take_more_set now k y at in
       let wanted = map_more f old k d lt in
       let value : y ≡ f (get_or old k d) = is ∙ ap f here in (
-        taken ∙ ap (λ l. l ++ y ∷ []) front ∙ ap (λ z. map f (take k old) ++ z ∷ []) value ∙ sym wanted,
-        drop-set-lt (k + 1) now k y (omega arith) ∙ drop_more_same now old k behind,
+        taken ∙ ap (λ l. l ++ y ∷ []) prefix ∙ ap (λ z. map f (take k old) ++ z ∷ []) value ∙ sym wanted,
+        drop-set-lt (k + 1) now k y (omega arith) ∙ drop_more_same now old k after,
       )
 
--- what stands in a mapped list
+-- what is in a mapped list
 contains_mapped : {X Y : Type 0} (g : X → Y) (xs : List X) (d : X) (y : Y) → Contains (map g xs) y → (x : X) × Contains xs x × (g x ≡ y)
 contains_mapped g xs d y has =
     let lt : has.0 < length xs = omega (arith, has.1, length-map xs g) in
@@ -77,13 +77,13 @@ module _ (old : Netlist) (kept : IsNetlist old) (numbers picks : List ℕ) (coun
   new_net = record { inputs = old.inputs; cells = new_cells; boxes = new_boxes; outs = map (λ j. to (slice_index old.outs j)) picks }
 
   pub fits : first ≤ length old.cells
-  fits = let len = ap length kept.front in omega (arith, len, length-take first old.cells, length-first_cells old.inputs)
+  fits = let len = ap length kept.prefix in omega (arith, len, length-take first old.cells, length-first_cells old.inputs)
 
   pub numbers_fit : All (λ n. n + 2 < 2 ^ 32) numbers
   numbers_fit k d lt = let low : get_or numbers k d < old.inputs = below k d lt in let fit = kept.cells_fit in let size = fits in omega (arith, low, fit, size)
 
-  front_is : (k : ℕ) → k < first → cell_at old.cells k ≡ cell_at (first_cells old.inputs) k
-  front_is k h = sym (get_or-take first old.cells k (Const false) h) ∙ ap (λ xs. cell_at xs k) kept.front
+  prefix_is : (k : ℕ) → k < first → cell_at old.cells k ≡ cell_at (first_cells old.inputs) k
+  prefix_is k h = sym (get_or-take first old.cells k (Const false) h) ∙ ap (λ xs. cell_at xs k) kept.prefix
 
   length_new : length new_cells ≡ length old.cells
   length_new =
@@ -93,47 +93,47 @@ module _ (old : Netlist) (kept : IsNetlist old) (numbers picks : List ℕ) (coun
       let d = length-drop first old.cells in
       omega (arith, a, b, c, d, fits)
 
-  new_front : (k : ℕ) → k < first → cell_at new_cells k ≡ cell_at (first_cells old.inputs) k
-  new_front k h =
+  new_prefix : (k : ℕ) → k < first → cell_at new_cells k ≡ cell_at (first_cells old.inputs) k
+  new_prefix k h =
       let len = length-take-le first old.cells fits in
-      get_or_append_left (take first old.cells) (map (moved_cell numbers) (drop first old.cells)) (Const false) k (omega (arith, h, len)) ∙ ap (λ xs. cell_at xs k) kept.front
+      get_or_append_left (take first old.cells) (map (moved_cell numbers) (drop first old.cells)) (Const false) k (omega (arith, h, len)) ∙ ap (λ xs. cell_at xs k) kept.prefix
 
-  new_behind : (k : ℕ) → first ≤ k → k < length old.cells → cell_at new_cells k ≡ moved_cell numbers (cell_at old.cells k)
-  new_behind k h lt =
+  new_after : (k : ℕ) → first ≤ k → k < length old.cells → cell_at new_cells k ≡ moved_cell numbers (cell_at old.cells k)
+  new_after k h lt =
       let len = length-drop first old.cells in
       let on : first + (k - first) ≡ k = omega (arith, h) in
       get_or-append_right (take first old.cells) (map (moved_cell numbers) (drop first old.cells)) first k (Const false) (length-take-le first old.cells fits) h
       ∙ get_or-map (moved_cell numbers) (drop first old.cells) (k - first) (Const false) (Const false) (omega (arith, h, lt, len))
       ∙ ap (moved_cell numbers) (get_or-drop first old.cells (k - first) (Const false) ∙ ap (cell_at old.cells) on)
 
-  to_behind : (k : ℕ) → first ≤ k → to k ≡ k
-  to_behind zero h = refl
-  to_behind (suc zero) h = refl
-  to_behind (suc (suc i)) h = let e = get_or_past numbers i i (omega (arith, h, count)) in omega (arith, e)
+  to_after : (k : ℕ) → first ≤ k → to k ≡ k
+  to_after zero h = refl
+  to_after (suc zero) h = refl
+  to_after (suc (suc i)) h = let e = get_or_past numbers i i (omega (arith, h, count)) in omega (arith, e)
 
-  to_front : (k : ℕ) → k < first → to k < first
-  to_front zero h = omega arith
-  to_front (suc zero) h = omega arith
-  to_front (suc (suc i)) h = let lt : new_input numbers i < old.inputs = below i i (omega (arith, h, count)) in omega (arith, lt)
+  to_prefix : (k : ℕ) → k < first → to k < first
+  to_prefix zero h = omega arith
+  to_prefix (suc zero) h = omega arith
+  to_prefix (suc (suc i)) h = let lt : new_input numbers i < old.inputs = below i i (omega (arith, h, count)) in omega (arith, lt)
 
   pub to_there : (k : ℕ) → k < length old.cells → to k < length old.cells
   to_there k h = elim (cases_lt k first) [
-    | inl f ↦ let lt = to_front k f in let fit = fits in omega (arith, lt, fit)
-    | inr b ↦ let e = to_behind k b in omega (arith, e, h)
+    | inl f ↦ let lt = to_prefix k f in let fit = fits in omega (arith, lt, fit)
+    | inr b ↦ let e = to_after k b in omega (arith, e, h)
   ]
 
-  front_moved : (k : ℕ) → k < first → cell_at (first_cells old.inputs) (to k) ≡ moved_cell numbers (cell_at (first_cells old.inputs) k)
-  front_moved zero h = refl
-  front_moved (suc zero) h = refl
-  front_moved (suc (suc i)) h =
+  prefix_moved : (k : ℕ) → k < first → cell_at (first_cells old.inputs) (to k) ≡ moved_cell numbers (cell_at (first_cells old.inputs) k)
+  prefix_moved zero h = refl
+  prefix_moved (suc zero) h = refl
+  prefix_moved (suc (suc i)) h =
       let lt : new_input numbers i < old.inputs = below i i (omega (arith, h, count)) in
       let two : new_input numbers i + 2 ≡ suc (suc (new_input numbers i)) = omega arith in
       ap (cell_at (first_cells old.inputs)) two ∙ input_at old.inputs (new_input numbers i) lt ∙ sym (ap (moved_cell numbers) (input_at old.inputs i (omega (arith, h))))
 
   pub moved_at : (k : ℕ) → k < length old.cells → cell_at new_cells (to k) ≡ moved_cell numbers (cell_at old.cells k)
   moved_at k h = elim (cases_lt k first) [
-    | inl f ↦ new_front (to k) (to_front k f) ∙ front_moved k f ∙ sym (ap (moved_cell numbers) (front_is k f))
-    | inr b ↦ ap (cell_at new_cells) (to_behind k b) ∙ new_behind k b h
+    | inl f ↦ new_prefix (to k) (to_prefix k f) ∙ prefix_moved k f ∙ sym (ap (moved_cell numbers) (prefix_is k f))
+    | inr b ↦ ap (cell_at new_cells) (to_after k b) ∙ new_after k b h
   ]
 
   box_moved : (b : ℕ) → box_at new_boxes b ≡ moved_pins to (box_at old.boxes b)
@@ -147,8 +147,8 @@ module _ (old : Netlist) (kept : IsNetlist old) (numbers picks : List ℕ) (coun
 
   to_before : (a place : ℕ) → first ≤ place → a < place → to a < place
   to_before a place h lt = elim (cases_lt a first) [
-    | inl f ↦ let small = to_front a f in omega (arith, small, h)
-    | inr b ↦ let e = to_behind a b in omega (arith, e, lt)
+    | inl f ↦ let small = to_prefix a f in omega (arith, small, h)
+    | inr b ↦ let e = to_after a b in omega (arith, e, lt)
   ]
 
   reads_before_moved : (place : ℕ) → first ≤ place → (c : Cell) → ReadsBefore old.inputs old.boxes place c → ReadsBefore old.inputs new_boxes place (moved_cell numbers c)
@@ -163,9 +163,9 @@ module _ (old : Netlist) (kept : IsNetlist old) (numbers picks : List ℕ) (coun
 
   ordered_new : (place : ℕ) → place < length new_cells → ReadsBefore old.inputs new_boxes place (cell_at new_cells place)
   ordered_new place lt = elim (cases_lt place first) [
-    | inl f ↦ subst (ReadsBefore old.inputs new_boxes place) (sym (new_front place f)) (source_reads old.inputs place new_boxes (cell_at (first_cells old.inputs) place) (first_is old.inputs place))
+    | inl f ↦ subst (ReadsBefore old.inputs new_boxes place) (sym (new_prefix place f)) (source_reads old.inputs place new_boxes (cell_at (first_cells old.inputs) place) (first_is old.inputs place))
     | inr b ↦ let here : place < length old.cells = omega (arith, lt, length_new) in
-        subst (ReadsBefore old.inputs new_boxes place) (sym (new_behind place b here)) (reads_before_moved place b (cell_at old.cells place) (kept.ordered place here))
+        subst (ReadsBefore old.inputs new_boxes place) (sym (new_after place b here)) (reads_before_moved place b (cell_at old.cells place) (kept.ordered place here))
   ]
 
   pin_moved : (b p q : ℕ) → IsPinAt old.boxes b p q → IsPinAt new_boxes b p (to q)
@@ -183,10 +183,10 @@ module _ (old : Netlist) (kept : IsNetlist old) (numbers picks : List ℕ) (coun
 
   listed_new : (place b p : ℕ) → place < length new_cells → cell_at new_cells place ≡ BoxOut b p → IsPinAt new_boxes b p place
   listed_new place b p lt is = elim (cases_lt place first) [
-    | inl f ↦ source_no_box old.inputs b p (cell_at (first_cells old.inputs) place) (first_is old.inputs place) (sym (new_front place f) ∙ is)
+    | inl f ↦ source_no_box old.inputs b p (cell_at (first_cells old.inputs) place) (first_is old.inputs place) (sym (new_prefix place f) ∙ is)
     | inr h ↦ let here : place < length old.cells = omega (arith, lt, length_new) in
-        let old_is = box_of_moved numbers (cell_at old.cells place) b p (sym (new_behind place h here) ∙ is) in
-        subst (IsPinAt new_boxes b p) (to_behind place h) (pin_moved b p place (kept.listed place b p here old_is))
+        let old_is = box_of_moved numbers (cell_at old.cells place) b p (sym (new_after place h here) ∙ is) in
+        subst (IsPinAt new_boxes b p) (to_after place h) (pin_moved b p place (kept.listed place b p here old_is))
   ]
 
   driven_new : (b p place : ℕ) → IsPinAt new_boxes b p place → (place < length new_cells) × (cell_at new_cells place ≡ BoxOut b p)
@@ -197,20 +197,20 @@ module _ (old : Netlist) (kept : IsNetlist old) (numbers picks : List ℕ) (coun
       subst (λ k. (k < length new_cells) × (cell_at new_cells k ≡ BoxOut b p)) q.2 at
 
   -- a walk in the new netlist was one in the old
-  leads_back : (n from place : ℕ) → from < length old.cells → Leads n new_cells new_boxes (to from) place → (q : ℕ) × (q < length old.cells) × (to q ≡ place) × Leads n old.cells old.boxes from q
+  leads_back : (n from place : ℕ) → from < length old.cells → ReadsInSteps n new_cells new_boxes (to from) place → (q : ℕ) × (q < length old.cells) × (to q ≡ place) × ReadsInSteps n old.cells old.boxes from q
   leads_back zero from place h e = (from, h, e, refl)
   leads_back (suc n) from place h walk =
       let reads : reads_of new_boxes (cell_at new_cells (to from)) ≡ map to (reads_of old.boxes (cell_at old.cells from)) = ap (reads_of new_boxes) (moved_at from h) ∙ reads_of_moved numbers old.boxes new_boxes ins_moved (cell_at old.cells from) in
       let next = contains_mapped to (reads_of old.boxes (cell_at old.cells from)) 0 walk.0 (subst (λ l. Contains l walk.0) reads walk.1) in
       let before = All-contains (λ k. k < from) (reads_of old.boxes (cell_at old.cells from)) next.0 (reads_before old.inputs old.boxes from (cell_at old.cells from) (kept.ordered from h)) next.1 in
-      let rest = leads_back n next.0 place (omega (arith, before, h)) (subst (λ k. Leads n new_cells new_boxes k place) (sym next.2) walk.2) in
+      let rest = leads_back n next.0 place (omega (arith, before, h)) (subst (λ k. ReadsInSteps n new_cells new_boxes k place) (sym next.2) walk.2) in
       (rest.0, rest.1, rest.2, (next.0, next.1, rest.3))
 
   apart_new : (b c p pin place : ℕ) → b ≤ c → Contains (box_at new_boxes b).ins pin → DependsOn new_cells new_boxes pin place → cell_at new_cells place ≡ BoxOut c p → ⊥
   apart_new b c p pin place le has walk is =
       let here = contains_mapped to (box_at old.boxes b).ins 0 pin (subst (λ l. Contains l pin) (ins_moved b) has) in
       let lt = All-contains (λ k. k < length old.cells) (box_at old.boxes b).ins here.0 (kept.pins_there b) here.1 in
-      let back = leads_back walk.0 here.0 place lt (subst (λ k. Leads walk.0 new_cells new_boxes k place) (sym here.2) walk.1) in
+      let back = leads_back walk.0 here.0 place lt (subst (λ k. ReadsInSteps walk.0 new_cells new_boxes k place) (sym here.2) walk.1) in
       let old_is = box_of_moved numbers (cell_at old.cells back.0) c p (sym (moved_at back.0 back.1) ∙ ap (cell_at new_cells) back.2 ∙ is) in
       kept.boxes_ordered b c p here.0 back.0 le here.1 (walk.0, back.3) old_is
 
@@ -219,8 +219,8 @@ module _ (old : Netlist) (kept : IsNetlist old) (numbers picks : List ℕ) (coun
 
   pub is_netlist : IsNetlist new_net
   is_netlist = record {
-    front = take-append-le first (take first old.cells) (map (moved_cell numbers) (drop first old.cells)) (let len = length-take-le first old.cells fits in omega (arith, len))
-        ∙ take_all first (take first old.cells) (let len = length-take-le first old.cells fits in omega (arith, len)) ∙ kept.front;
+    prefix = take-append-le first (take first old.cells) (map (moved_cell numbers) (drop first old.cells)) (let len = length-take-le first old.cells fits in omega (arith, len))
+        ∙ take_all first (take first old.cells) (let len = length-take-le first old.cells fits in omega (arith, len)) ∙ kept.prefix;
     ordered = ordered_new;
     listed = listed_new;
     driven = driven_new;
@@ -234,7 +234,7 @@ module _ (old : Netlist) (kept : IsNetlist old) (numbers picks : List ℕ) (coun
   pub is_rearranged : IsRearranged numbers picks old new_net
   is_rearranged = record { inputs = refl; numbered = count; numbers_there = below; cell_count = length_new; cells = moved_at; boxes = refl; outs = refl }
 
--- the same of a netlist that is told by another name
+-- the same of a netlist that is given by another name
 module _ (old net : Netlist) (kept : IsNetlist old) (same : old ≡ net) (numbers picks : List ℕ) (count : length numbers ≡ net.inputs) (below : All (λ n. n < net.inputs) numbers) (there : All (λ j. j < length net.outs) picks) where
   count_old : length numbers ≡ old.inputs
   count_old = count ∙ sym (ap (λ (n : Netlist). n.inputs) same)
@@ -248,8 +248,8 @@ module _ (old net : Netlist) (kept : IsNetlist old) (same : old ≡ net) (number
   pub fit_so : All (λ n. n + 2 < 2 ^ 32) numbers
   fit_so = numbers_fit old kept numbers picks count_old below_old there_old
 
-  pub front_fits_so : old.inputs + 2 ≤ length old.cells
-  front_fits_so = fits old kept numbers picks count_old below_old there_old
+  pub prefix_fits_so : old.inputs + 2 ≤ length old.cells
+  prefix_fits_so = fits old kept numbers picks count_old below_old there_old
 
   pub picks_so : All (λ j. j < length old.outs) picks
   picks_so = there_old

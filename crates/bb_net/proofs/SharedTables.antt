@@ -9,10 +9,10 @@ use Rattle.std.proofs.lemmas.List.FromFn.{get_or-range_with_len, length-range_wi
 use Rattle.bb_bits.specs.Tables.{TableBits, HasAllBits}
 use Rattle.bb_net.specs.Netlists.{Netlist, Pins, box_at}
 use Rattle.bb_net.specs.Values.{table_at, FitBoxes}
-use Rattle.bb_net.specs.Agreement.{TablesAgree}
-use Rattle.bb_net.specs.Conditions.{SomeTablesAgree, NoTablesAgree}
-use Rattle.bb_net.specs.Kinds.{FitKinds, IsFirstOfKind, shown, spread, SomeSharedTablesAgree, NoSharedTablesAgree}
-use Rattle.bb_net.proofs.KindNumbers.{nothing_added, kinds_apart, places_in_order, shown_counts, shown_stands, shown_places, kind_has_first}
+use Rattle.bb_net.specs.Equivalence.{TablesMakeEquivalent}
+use Rattle.bb_net.specs.Conditions.{SomeTablesMakeEquivalent, NoTablesMakeEquivalent}
+use Rattle.bb_net.specs.Kinds.{FitKinds, IsFirstOfKind, shown, spread, SomeSharedTablesMakeEquivalent, NoSharedTablesMakeEquivalent}
+use Rattle.bb_net.proofs.KindNumbers.{nothing_added, kinds_apart, places_in_order, shown_counts, shown_occurs, shown_places, kind_has_first}
 use Rattle.bb_net.proofs.Finite.{tables_or_none}
 use Rattle.bb_net.proofs.TableLemmas.{box_of_pin}
 use Rattle.bb_net.proofs.ConditionLaws.{agree_or_not}
@@ -41,7 +41,7 @@ kind_shown kinds boxes fit k h =
       there = omega (arith, r.1, len);
       kind = r.3;
       is_first = r.2;
-      pins = ap (box_at (shown kinds boxes)) (sym r.3) ∙ shown_stands kinds boxes (record { ins = []; outs = [] }) fit.ordered len r.0 r.1 r.2;
+      pins = ap (box_at (shown kinds boxes)) (sym r.3) ∙ shown_occurs kinds boxes (record { ins = []; outs = [] }) fit.ordered len r.0 r.1 r.2;
       low = h;
     }
 
@@ -112,7 +112,7 @@ same_length kinds boxes tables fit len =
 table_shown : (kinds : List ℕ) (boxes : List Pins) (tables : List TableBits) → FitKinds kinds boxes → length tables ≡ length boxes → (k : ℕ) → (s : IsShown kinds boxes k) → table_at (shown kinds tables) k ≡ table_at tables s.first
 table_shown kinds boxes tables fit len k s =
     ap (table_at (shown kinds tables)) (sym s.kind)
-    ∙ shown_stands kinds tables (record { inputs = 0; outputs = 0; rows = [] }) fit.ordered (len ∙ sym fit.count) s.first (omega (arith, s.there, fit.count)) s.is_first
+    ∙ shown_occurs kinds tables (record { inputs = 0; outputs = 0; rows = [] }) fit.ordered (len ∙ sym fit.count) s.first (omega (arith, s.there, fit.count)) s.is_first
 
 pub shown_fits : (kinds : List ℕ) (boxes : List Pins) (tables : List TableBits) → FitKinds kinds boxes → FitBoxes tables boxes → FitBoxes (shown kinds tables) (shown kinds boxes)
 shown_fits kinds boxes tables fit fits =
@@ -169,26 +169,26 @@ spread_places n tables len =
     spread_at (range_with_len 0 n) tables b hk ∙ ap (table_at tables) (get_or-range_with_len 0 n b 0 (omega (arith, hk, whole)) ∙ nothing_added b))
 
 -- tables that agree and are shared agree
-pub shared_some : (spec imp : Netlist) (kinds : List ℕ) → FitKinds kinds imp.boxes → SomeSharedTablesAgree spec imp kinds → SomeTablesAgree spec imp
+pub shared_some : (spec imp : Netlist) (kinds : List ℕ) → FitKinds kinds imp.boxes → SomeSharedTablesMakeEquivalent spec imp kinds → SomeTablesMakeEquivalent spec imp
 shared_some spec imp kinds fit some = (spread kinds some.0, spread_fits kinds imp.boxes some.0 fit some.1, some.2)
 
-pub shared_none : (spec imp : Netlist) (kinds : List ℕ) → FitKinds kinds imp.boxes → NoTablesAgree spec imp → NoSharedTablesAgree spec imp kinds
+pub shared_none : (spec imp : Netlist) (kinds : List ℕ) → FitKinds kinds imp.boxes → NoTablesMakeEquivalent spec imp → NoSharedTablesMakeEquivalent spec imp kinds
 shared_none spec imp kinds fit none = λ tables fits agree. none (spread kinds tables) (spread_fits kinds imp.boxes tables fit fits) agree
 
 -- where all kinds differ all tables are shared
-pub apart_shared : (spec imp : Netlist) (kinds : List ℕ) → FitKinds kinds imp.boxes → AllPairs ◌≢◌ kinds → (tables : List TableBits) → FitBoxes tables imp.boxes → TablesAgree spec imp tables
-    → FitBoxes tables (shown kinds imp.boxes) × TablesAgree spec imp (spread kinds tables)
+pub apart_shared : (spec imp : Netlist) (kinds : List ℕ) → FitKinds kinds imp.boxes → AllPairs ◌≢◌ kinds → (tables : List TableBits) → FitBoxes tables imp.boxes → TablesMakeEquivalent spec imp tables
+    → FitBoxes tables (shown kinds imp.boxes) × TablesMakeEquivalent spec imp (spread kinds tables)
 apart_shared spec imp kinds fit apart tables fits agree =
     let places = apart_places kinds imp.boxes fit apart in
     let boxes_same : shown kinds imp.boxes ≡ imp.boxes = ap (λ ks. shown ks imp.boxes) places ∙ shown_places (length imp.boxes) imp.boxes refl in
     let tables_same : spread kinds tables ≡ tables = ap (λ ks. spread ks tables) places ∙ spread_places (length imp.boxes) tables fits.count in
-    (subst (FitBoxes tables) (sym boxes_same) fits, subst (TablesAgree spec imp) (sym tables_same) agree)
+    (subst (FitBoxes tables) (sym boxes_same) fits, subst (TablesMakeEquivalent spec imp) (sym tables_same) agree)
 
-pub apart_some : (spec imp : Netlist) (kinds : List ℕ) → FitKinds kinds imp.boxes → AllPairs ◌≢◌ kinds → SomeTablesAgree spec imp → SomeSharedTablesAgree spec imp kinds
+pub apart_some : (spec imp : Netlist) (kinds : List ℕ) → FitKinds kinds imp.boxes → AllPairs ◌≢◌ kinds → SomeTablesMakeEquivalent spec imp → SomeSharedTablesMakeEquivalent spec imp kinds
 apart_some spec imp kinds fit apart some = let r = apart_shared spec imp kinds fit apart some.0 some.1 some.2 in (some.0, r.0, r.1)
 
-pub apart_none : (spec imp : Netlist) (kinds : List ℕ) → FitKinds kinds imp.boxes → AllPairs ◌≢◌ kinds → NoSharedTablesAgree spec imp kinds → NoTablesAgree spec imp
+pub apart_none : (spec imp : Netlist) (kinds : List ℕ) → FitKinds kinds imp.boxes → AllPairs ◌≢◌ kinds → NoSharedTablesMakeEquivalent spec imp kinds → NoTablesMakeEquivalent spec imp
 apart_none spec imp kinds fit apart none = λ tables fits agree. let r = apart_shared spec imp kinds fit apart tables fits agree in none tables r.0 r.1
 
-pub shared_or_not : (spec imp : Netlist) (kinds : List ℕ) → NoSharedTablesAgree spec imp kinds ⊎ SomeSharedTablesAgree spec imp kinds
-shared_or_not spec imp kinds = tables_or_none (shown kinds imp.boxes) (λ tables. TablesAgree spec imp (spread kinds tables)) (λ tables. agree_or_not spec imp (spread kinds tables))
+pub shared_or_not : (spec imp : Netlist) (kinds : List ℕ) → NoSharedTablesMakeEquivalent spec imp kinds ⊎ SomeSharedTablesMakeEquivalent spec imp kinds
+shared_or_not spec imp kinds = tables_or_none (shown kinds imp.boxes) (λ tables. TablesMakeEquivalent spec imp (spread kinds tables)) (λ tables. agree_or_not spec imp (spread kinds tables))

@@ -36,11 +36,11 @@ shown_more : {A : Type 0} (ks : List ℕ) (xs : List A) (k : ℕ) (x : A) → le
 shown_more ks xs k x len = ap (each_from gives []) (zip_more ks xs k x len) ∙ each_more gives [] (zip ks xs) (k, x)
 
 module _ {A : Type 0} where
-  -- a box of a kind that stands before is left out
+  -- a box of a kind that precedes is left out
   pub shown_again : (ks : List ℕ) (xs : List A) (k : ℕ) (x : A) → length xs ≡ length ks → Contains ks k → shown (ks ++ k ∷ []) (xs ++ x ∷ []) ≡ shown ks xs
   shown_again ks xs k x len has = shown_more ks xs k x len ∙ ap (λ b. shown ks xs ++ (if b then [] else x ∷ [])) (kind_there ks xs k len has) ∙ append-nil (shown ks xs)
 
-  -- and one of a new kind is shown behind the others
+  -- and one of a new kind is shown after the others
   pub shown_new : (ks : List ℕ) (xs : List A) (k : ℕ) (x : A) → length xs ≡ length ks → (Contains ks k → ⊥) → shown (ks ++ k ∷ []) (xs ++ x ∷ []) ≡ shown ks xs ++ x ∷ []
   shown_new ks xs k x len none = shown_more ks xs k x len ∙ ap (λ b. shown ks xs ++ (if b then [] else x ∷ [])) (kind_missing ks xs k none)
 

@@ -10,7 +10,7 @@ use Rattle.bb_net.specs.declared.loose.LooseCell.{LooseCell}
 use Rattle.bb_net.specs.declared.loose.LooseCell.TheVariants.{Const, Input, Not, And, Or, Xor, Mux, BoxOut, Copy}
 use Rattle.bb_net.specs.Netlists.{Netlist, box_at, first_cells, IsNetlist}
 use Rattle.bb_net.specs.Loose.{LooseList, loose_at, operands, IsLoose, Reaches, IsOnClosedWalk}
-use Rattle.bb_net.specs.Orders.{IsReady, IsOrderOf, OrderExists}
+use Rattle.bb_net.specs.Orders.{IsReadyBox, IsOrderOf, OrderExists}
 use Rattle.bb_net.specs.Inside.Placings.{IsAt, IsPlaced, IsOpen, IsOutput, given_place, open_count, EndsWithin, InputsEnd}
 use Rattle.bb_net.proofs.Finite.{below_or_one}
 use Rattle.bb_net.proofs.NetLemmas.{IsNetlist-first}
@@ -18,7 +18,7 @@ use Rattle.bb_net.proofs.PlaceLists.{Contains-none, Reaches-push, walk_from_step
 use Rattle.bb_net.proofs.PlacedCells.{placed_or_open, at_open, first_more, open_count-set, place_of-at}
 use Rattle.bb_net.proofs.LookedAt.{pins_before}
 use Rattle.bb_net.proofs.OrderLemmas.{copy_or_kept}
-use Rattle.bb_net.proofs.OrderedLists.{IsBegun-first, IsBuilt-first, IsOrderOf-whole, front_fits}
+use Rattle.bb_net.proofs.OrderedLists.{IsBegun-first, IsBuilt-first, IsOrderOf-whole, prefix_fits}
 use Rattle.bb_net.proofs.SomeParts.{IsPart, put_cell, put_copy, put_box}
 
 -- ---- what waits
@@ -60,8 +60,8 @@ cell_waits l to k = elim (placed_or_open to k) [
 abbrev MayNumber : LooseList → List (Option ℕ) → List ℕ → ℕ → Type 0
 MayNumber l to numbers b = (Contains numbers b → ⊥) × ((pin : ℕ) → Contains (box_at l.boxes b).ins pin → IsPlaced to pin)
 
-abbrev BoxStands : LooseList → List (Option ℕ) → List ℕ → ℕ → Type 0
-BoxStands l to numbers b = Contains numbers b ⊎ ((pin : ℕ) × Contains (box_at l.boxes b).ins pin × IsOpen to pin)
+abbrev BoxOccurs : LooseList → List (Option ℕ) → List ℕ → ℕ → Type 0
+BoxOccurs l to numbers b = Contains numbers b ⊎ ((pin : ℕ) × Contains (box_at l.boxes b).ins pin × IsOpen to pin)
 
 numbered_or_not : (numbers : List ℕ) (b : ℕ) → Contains numbers b ⊎ (Contains numbers b → ⊥)
 numbered_or_not numbers b = elim (below_or_one (λ i. get_or numbers i b ≢ b) (λ i. get_or numbers i b ≡ b) (length numbers) (λ i h. elim (cases_eq (get_or numbers i b) b) [ inl e ↦ inr e | inr ne ↦ inl ne ])) [
@@ -69,8 +69,8 @@ numbered_or_not numbers b = elim (below_or_one (λ i. get_or numbers i b ≢ b) 
   | inr one ↦ inl one
 ]
 
-box_stands : (l : LooseList) (to : List (Option ℕ)) (numbers : List ℕ) (b : ℕ) → BoxStands l to numbers b ⊎ MayNumber l to numbers b
-box_stands l to numbers b = elim (numbered_or_not numbers b) [
+box_occurs : (l : LooseList) (to : List (Option ℕ)) (numbers : List ℕ) (b : ℕ) → BoxOccurs l to numbers b ⊎ MayNumber l to numbers b
+box_occurs l to numbers b = elim (numbered_or_not numbers b) [
   | inl has ↦ inl (inl has)
   | inr new ↦ elim (all_or_one to (box_at l.boxes b).ins) [ inl all ↦ inr (new, all) | inr one ↦ inl (inr one) ]
 ]
@@ -90,7 +90,7 @@ first_below P Q (suc n) each = elim (first_below P Q n each) [
 
 -- where no cell may get its place, a cell from which every walk ends has its place if the boxes have numbers on which it
 -- depends
-ended_placed : (l : LooseList) (net : Netlist) (to : List (Option ℕ)) (numbers : List ℕ) (c : ℕ) → IsLoose l → IsPart l net to numbers [] → ((k : ℕ) → k < length l.cells → Waits l to k) → IsReady l numbers c
+ended_placed : (l : LooseList) (net : Netlist) (to : List (Option ℕ)) (numbers : List ℕ) (c : ℕ) → IsLoose l → IsPart l net to numbers [] → ((k : ℕ) → k < length l.cells → Waits l to k) → IsReadyBox l numbers c
     → (n k m pin : ℕ) → EndsWithin n l k → Contains (box_at l.boxes c).ins pin → Reaches m l pin k → k < length l.cells → IsPlaced to k
 ended_placed l net to numbers c loose part waits is zero k m pin end has walk lt = absurd end
 ended_placed l net to numbers c loose part waits is (suc n) k m pin end has walk lt = elim (placed_or_open to k) [
@@ -106,7 +106,7 @@ ended_placed l net to numbers c loose part waits is (suc n) k m pin end has walk
 
 -- the first box that may get its number is the first that is ready
 first_ready : (l : LooseList) (net : Netlist) (to : List (Option ℕ)) (numbers : List ℕ) (b : ℕ) → IsLoose l → IsPart l net to numbers [] → ((k : ℕ) → k < length l.cells → Waits l to k)
-    → ((c : ℕ) → c < b → BoxStands l to numbers c) → (c : ℕ) → c < length l.boxes → (Contains numbers c → ⊥) → IsReady l numbers c → InputsEnd l c → b ≤ c
+    → ((c : ℕ) → c < b → BoxOccurs l to numbers c) → (c : ℕ) → c < length l.boxes → (Contains numbers c → ⊥) → IsReadyBox l numbers c → InputsEnd l c → b ≤ c
 first_ready l net to numbers b loose part waits before c lt new is end = elim (cases_lt c b) [
   | inl less ↦ elim (before c less) [
     | inl has ↦ absurd (new has)
@@ -127,7 +127,7 @@ HasOrder l = (net : Netlist) × (numbers : List ℕ) × IsNetlist net × IsOrder
 
 with_outs : (net : Netlist) (outs : List ℕ) → IsNetlist net → All (λ place. place < length net.cells) outs → IsNetlist (record net { outs = outs })
 with_outs net outs kept there = record {
-  front = kept.front;
+  prefix = kept.prefix;
   ordered = kept.ordered;
   listed = kept.listed;
   driven = kept.driven;
@@ -138,9 +138,9 @@ with_outs net outs kept there = record {
   boxes_fit = kept.boxes_fit;
 }
 
-finished : (l : LooseList) (net : Netlist) (to : List (Option ℕ)) (numbers : List ℕ) → IsLoose l → IsPart l net to numbers [] → ((k : ℕ) → k < length l.cells → IsPlaced to k) → ((b : ℕ) → b < length l.boxes → BoxStands l to numbers b) → HasOrder l
-finished l net to numbers loose part all stands =
-    let numbered : (b : ℕ) → b < length l.boxes → Contains numbers b = λ b h. elim (stands b h) [
+finished : (l : LooseList) (net : Netlist) (to : List (Option ℕ)) (numbers : List ℕ) → IsLoose l → IsPart l net to numbers [] → ((k : ℕ) → k < length l.cells → IsPlaced to k) → ((b : ℕ) → b < length l.boxes → BoxOccurs l to numbers b) → HasOrder l
+finished l net to numbers loose part all occurs =
+    let numbered : (b : ℕ) → b < length l.boxes → Contains numbers b = λ b h. elim (occurs b h) [
       | inl has ↦ has
       | inr one ↦ let p = all one.0 (All-contains (λ j. j < length l.cells) _ one.0 (loose.pins_there b) one.1) in at_open to one.0 p.0 p.1 one.2
     ] in
@@ -154,12 +154,12 @@ finished l net to numbers loose part all stands =
     )
 
 -- a cell without place reads one, where no cell may get its place and no box its number
-stuck_step : (l : LooseList) (net : Netlist) (to : List (Option ℕ)) (numbers : List ℕ) → IsLoose l → IsPart l net to numbers [] → ((k : ℕ) → k < length l.cells → Waits l to k) → ((b : ℕ) → b < length l.boxes → BoxStands l to numbers b)
+stuck_step : (l : LooseList) (net : Netlist) (to : List (Option ℕ)) (numbers : List ℕ) → IsLoose l → IsPart l net to numbers [] → ((k : ℕ) → k < length l.cells → Waits l to k) → ((b : ℕ) → b < length l.boxes → BoxOccurs l to numbers b)
     → (k : ℕ) → (k < length l.cells) × IsOpen to k → (a : ℕ) × Contains (operands l.boxes (loose_at l k)) a × ((a < length l.cells) × IsOpen to a)
-stuck_step l net to numbers loose part waits stands k h = elim (waits k h.0 h.1) [
+stuck_step l net to numbers loose part waits occurs k h = elim (waits k h.0 h.1) [
   | inl output ↦
       let b = output.0 in
-      elim (stands b (box_number l k b output.1 loose h.0 output.2)) [
+      elim (occurs b (box_number l k b output.1 loose h.0 output.2)) [
         | inl has ↦ elim (part.pins k b output.1 h.0 output.2 has) [ inl p ↦ at_open to k p.0 p.1 h.1 | inr none ↦ Contains-none k none ]
         | inr one ↦ (one.0, subst (λ c. Contains (operands l.boxes c) one.0) (sym output.2) one.1, (All-contains (λ j. j < length l.cells) _ one.0 (loose.pins_there b) one.1, one.2))
       ]
@@ -177,7 +177,7 @@ place_next l net to numbers k loose part lt may = elim (copy_or_kept (loose_at l
 ]
 
 number_next : (l : LooseList) (net : Netlist) (to : List (Option ℕ)) (numbers : List ℕ) (b : ℕ) → IsLoose l → IsPart l net to numbers [] → ((k : ℕ) → k < length l.cells → Waits l to k) → b < length l.boxes → MayNumber l to numbers b
-    → ((c : ℕ) → c < b → BoxStands l to numbers c) → Goes l to numbers
+    → ((c : ℕ) → c < b → BoxOccurs l to numbers c) → Goes l to numbers
 number_next l net to numbers b loose part waits lt may before =
     let r = put_box l net to numbers b loose part lt may.0 may.1 (first_ready l net to numbers b loose part waits before) in
     let few = length-le_from_apart (numbers ++ b ∷ []) (length l.boxes) r.2.begun.apart r.2.begun.there in
@@ -186,12 +186,12 @@ number_next l net to numbers b loose part waits lt may before =
 goes : (l : LooseList) (net : Netlist) (to : List (Option ℕ)) (numbers : List ℕ) → IsLoose l → ((k : ℕ) → IsOnClosedWalk l k → ⊥) → IsPart l net to numbers [] → Goes l to numbers
 goes l net to numbers loose free part = elim (below_or_one (Waits l to) (MayPlace l to) (length l.cells) (λ k h. cell_waits l to k)) [
   | inr one ↦ place_next l net to numbers one.0 loose part one.1 one.2
-  | inl waits ↦ elim (first_below (BoxStands l to numbers) (MayNumber l to numbers) (length l.boxes) (box_stands l to numbers)) [
+  | inl waits ↦ elim (first_below (BoxOccurs l to numbers) (MayNumber l to numbers) (length l.boxes) (box_occurs l to numbers)) [
     | inr one ↦ number_next l net to numbers one.0 loose part waits one.1 one.2 one.3
-    | inl stands ↦ elim (below_or_one (IsPlaced to) (IsOpen to) (length l.cells) (λ k h. placed_or_open to k)) [
-      | inl all ↦ inl (finished l net to numbers loose part all stands)
+    | inl occurs ↦ elim (below_or_one (IsPlaced to) (IsOpen to) (length l.cells) (λ k h. placed_or_open to k)) [
+      | inl all ↦ inl (finished l net to numbers loose part all occurs)
       | inr one ↦
-          let walk = walk_from_steps l (λ j. (j < length l.cells) × IsOpen to j) (λ j g. g.0) (stuck_step l net to numbers loose part waits stands) one.0 (one.1, one.2) in
+          let walk = walk_from_steps l (λ j. (j < length l.cells) × IsOpen to j) (λ j g. g.0) (stuck_step l net to numbers loose part waits occurs) one.0 (one.1, one.2) in
           absurd (free walk.0 walk.1)
     ]
   ]
@@ -206,7 +206,7 @@ ends l loose free (suc fuel) net to numbers part less = elim (goes l net to numb
   | inr r ↦ ends l loose free fuel r.0 r.1 r.2 r.3 (omega (arith, less, r.4))
 ]
 
--- the first cells stand where they are
+-- the first cells are where they are
 record AreFirst (n first : ℕ) (to : List (Option ℕ)) : Type 0 where
   whole : length to ≡ n
   placed : (k : ℕ) → k < first → IsAt to k k
@@ -243,7 +243,7 @@ first_places n (suc first) le =
 
 pub order_exists_lem : OrderExists
 order_exists_lem = λ l loose free.
-    let fits = front_fits l loose in
+    let fits = prefix_fits l loose in
     let first = first_places (length l.cells) (l.inputs + 2) fits in
     let to = first.0 in
     let is = first.1 in

@@ -7,9 +7,9 @@ use Rattle.bb_net.specs.declared.cell.Cell.{Cell}
 use Rattle.bb_net.specs.declared.cell.Cell.TheVariants as cell
 use Rattle.bb_net.specs.declared.loose.LooseCell.{LooseCell}
 use Rattle.bb_net.specs.declared.loose.LooseCell.TheVariants.{Const, Input, Not, And, Or, Xor, Mux, BoxOut, Copy}
-use Rattle.bb_net.specs.Netlists.{Netlist, Pins, box_at, IsNetlist, MayFollow, with_cell, with_box}
+use Rattle.bb_net.specs.Netlists.{Netlist, Pins, box_at, IsNetlist, MayBeAppended, with_cell, with_box}
 use Rattle.bb_net.specs.Loose.{LooseList, loose_at, operands, IsLoose}
-use Rattle.bb_net.specs.Orders.{IsKept, IsMoved, IsReady}
+use Rattle.bb_net.specs.Orders.{IsNoCopy, IsMoved, IsReadyBox}
 use Rattle.bb_net.specs.Inside.Placings.{IsAt, IsPlaced, IsOpen, IsOutput, given_place, open_count, InputsEnd, IsBegun, IsBuilt, IsComing}
 use Rattle.bb_net.proofs.PlaceLists.{Contains-none, length-le_from_apart}
 use Rattle.bb_net.proofs.PlacedCells.{placed_or_open, open_count-set, IsBegun-more, IsBegun-box}
@@ -29,8 +29,8 @@ pub record IsPart (l : LooseList) (net : Netlist) (to : List (Option ℕ)) (numb
   pub pins : (k b p : ℕ) → k < length l.cells → loose_at l k ≡ BoxOut b p → Contains numbers b → IsPlaced to k ⊎ Contains late k
 
 -- a cell of the list is put into the netlist
-IsPart-put : (l : LooseList) (net : Netlist) (to : List (Option ℕ)) (numbers late rest : List ℕ) (k : ℕ) (c : Cell) → IsLoose l → IsPart l net to numbers late → k < length l.cells → IsOpen to k → IsKept (loose_at l k)
-    → ((a : ℕ) → Contains (operands l.boxes (loose_at l k)) a → IsPlaced to a) → IsMoved (given_place to) numbers (loose_at l k) c → MayFollow net c → ((b p : ℕ) → loose_at l k ≡ BoxOut b p → Contains numbers b)
+IsPart-put : (l : LooseList) (net : Netlist) (to : List (Option ℕ)) (numbers late rest : List ℕ) (k : ℕ) (c : Cell) → IsLoose l → IsPart l net to numbers late → k < length l.cells → IsOpen to k → IsNoCopy (loose_at l k)
+    → ((a : ℕ) → Contains (operands l.boxes (loose_at l k)) a → IsPlaced to a) → IsMoved (given_place to) numbers (loose_at l k) c → MayBeAppended net c → ((b p : ℕ) → loose_at l k ≡ BoxOut b p → Contains numbers b)
     → ((m : ℕ) → Contains late m → (k ≡ m) ⊎ Contains rest m) → IsPart l (with_cell net c) (set to k (Some (length net.cells))) numbers rest
 IsPart-put l net to numbers late rest k c loose old lt free keep reads moved may output less =
     let q : ℕ = length net.cells in
@@ -43,10 +43,10 @@ IsPart-put l net to numbers late rest k c loose old lt free keep reads moved may
     }
   where
     no_copy : {P : Type 0} (p : ℕ) → loose_at l k ≡ Copy p → P
-    no_copy p e = let never : ⊥ = subst IsKept e keep in absurd never
+    no_copy p e = let never : ⊥ = subst IsNoCopy e keep in absurd never
 
 -- a cell but a copy and an output pin has its cell in the netlist
-moved_cell : (f : ℕ → ℕ) (numbers : List ℕ) (c : LooseCell) → IsKept c → (IsOutput c → ⊥) → (d : Cell) × IsMoved f numbers c d
+moved_cell : (f : ℕ → ℕ) (numbers : List ℕ) (c : LooseCell) → IsNoCopy c → (IsOutput c → ⊥) → (d : Cell) × IsMoved f numbers c d
 moved_cell f numbers (Const b) keep not_out = (cell.Const b, refl)
 moved_cell f numbers (Input i) keep not_out = (cell.Input i, refl)
 moved_cell f numbers (Not a) keep not_out = (cell.Not (f a), refl)
@@ -61,7 +61,7 @@ moved_cell f numbers (Copy p) keep not_out = absurd keep
 abbrev pub Grows : LooseList → List (Option ℕ) → List ℕ → List ℕ → Type 0
 Grows l to numbers late = (net : Netlist) × (after : List (Option ℕ)) × IsPart l net after numbers late × (open_count after + 1 ≡ open_count to)
 
-pub put_cell : (l : LooseList) (net : Netlist) (to : List (Option ℕ)) (numbers : List ℕ) (k : ℕ) → IsLoose l → IsPart l net to numbers [] → k < length l.cells → IsOpen to k → IsKept (loose_at l k) → (IsOutput (loose_at l k) → ⊥)
+pub put_cell : (l : LooseList) (net : Netlist) (to : List (Option ℕ)) (numbers : List ℕ) (k : ℕ) → IsLoose l → IsPart l net to numbers [] → k < length l.cells → IsOpen to k → IsNoCopy (loose_at l k) → (IsOutput (loose_at l k) → ⊥)
     → ((a : ℕ) → Contains (operands l.boxes (loose_at l k)) a → IsPlaced to a) → Grows l to numbers []
 put_cell l net to numbers k loose old lt free keep not_out reads =
     let within : k < length to = omega (arith, lt, old.begun.whole) in
@@ -102,7 +102,7 @@ IsPart-output l net to numbers b number p loose old coming h =
     let pin = pin_cell l b p loose h in
     let has = contains_number numbers number b coming.there coming.is in
     IsPart-put l net to numbers (drop p outs) (drop (p + 1) outs) k (cell.BoxOut number p) loose old pin.0 (coming.free p (omega arith) h)
-    (subst IsKept (sym pin.1) tt)
+    (subst IsNoCopy (sym pin.1) tt)
     (λ a reads. old.begun.pins b a has (subst (λ c. Contains (operands l.boxes c) a) pin.1 reads))
     (subst (λ c. IsMoved (given_place to) numbers c (cell.BoxOut number p)) (sym pin.1) (number, coming.there, coming.is, refl))
     (omega (arith, coming.there, old.built.box_count), sym coming.next)
@@ -124,7 +124,7 @@ put_outputs l numbers b number loose (suc n) p net to e part coming =
 
 -- a box gets its number, and its output pins their places
 pub put_box : (l : LooseList) (net : Netlist) (to : List (Option ℕ)) (numbers : List ℕ) (b : ℕ) → IsLoose l → IsPart l net to numbers [] → b < length l.boxes → (Contains numbers b → ⊥)
-    → ((pin : ℕ) → Contains (box_at l.boxes b).ins pin → IsPlaced to pin) → ((c : ℕ) → c < length l.boxes → (Contains numbers c → ⊥) → IsReady l numbers c → InputsEnd l c → b ≤ c)
+    → ((pin : ℕ) → Contains (box_at l.boxes b).ins pin → IsPlaced to pin) → ((c : ℕ) → c < length l.boxes → (Contains numbers c → ⊥) → IsReadyBox l numbers c → InputsEnd l c → b ≤ c)
     → (after : Netlist) × (places : List (Option ℕ)) × IsPart l after places (numbers ++ b ∷ []) [] × (open_count places ≤ open_count to)
 put_box l net to numbers b loose old lt new pins least =
     let outs : List ℕ = (box_at l.boxes b).outs in

@@ -36,11 +36,11 @@ value_step boxes x box cells k v = gate boxes x box v (cell_at cells k)
 pub value_step-local : (inputs : ℕ) (boxes : List Pins) (x : List Bool) (box : ℕ → ℕ → List Bool → Bool) (cells : List Cell) → ((k : ℕ) → k < length cells → ReadsBefore inputs boxes k (cell_at cells k)) → IsLocal (value_step boxes x box cells) (length cells)
 value_step-local inputs boxes x box cells reads k v w h same = gate_same inputs boxes x box v w k (cell_at cells k) (reads k h) same
 
--- the same where each box output has the bit that stood at its place
+-- the same where each box output has the bit that was at its place
 abbrev pub kept_step : List Cell → List Bool → List Bool → ℕ → (ℕ → Bool) → Bool
 kept_step cells x old k v = gate [] x (λ b p ins. bit_of old k) v (cell_at cells k)
 
--- the first cells are written, and behind them stands what stood there
+-- the first cells are written, and after them is what was there
 pub record IsWritten (cells : List Cell) (x old out : List Bool) (n : ℕ) : Type 0 where
   pub each : IsFilled (kept_step cells x old) (bit_of out) n
   pub rest : (k : ℕ) → n ≤ k → bit_of out k ≡ bit_of old k

@@ -8,7 +8,7 @@ use Rattle.std.proofs.lemmas.List.Elements.{All-contains, Contains-push, Contain
 use Rattle.std.proofs.lemmas.List.Sums.{sum_by-set}
 use Rattle.bb_net.specs.Netlists.{Pins, box_at}
 use Rattle.bb_net.specs.Values.{bit_of}
-use Rattle.bb_net.specs.Loose.{LooseList, loose_at, operands, IsLoose, Reaches, DependsOn, IsOnClosedWalk}
+use Rattle.bb_net.specs.Loose.{LooseList, loose_at, operands, IsLoose, Reaches, PlaceDependsOn, IsOnClosedWalk}
 use Rattle.bb_net.specs.Inside.Walks.{IsMarked, IsSearched, AreDone, CellsRise}
 use Rattle.bb_net.proofs.PlaceLists.{Contains-one, Contains-none, Reaches-push}
 
@@ -142,10 +142,10 @@ seen_on l start seen s (suc n) m k is walk = elim (s.closed m is) [
   | inr done ↦ seen_on l start seen s n walk.0 k (done walk.0 walk.1) walk.2
 ]
 
-pub IsSearched-decides : (l : LooseList) (start : ℕ) (seen : List Bool) → IsSearched l start seen [] → (k : ℕ) → Decides (bit_of seen k) (DependsOn l start k)
+pub IsSearched-decides : (l : LooseList) (start : ℕ) (seen : List Bool) → IsSearched l start seen [] → (k : ℕ) → Decides (bit_of seen k) (PlaceDependsOn l start k)
 IsSearched-decides l start seen s k = (s.reached k, λ walk. seen_on l start seen s walk.0 walk.1.0 k (s.begun walk.1.0 walk.1.1) walk.1.2)
 
-pub on_walk : (l : LooseList) (start : ℕ) (b : Bool) → start < length l.cells → Decides b (DependsOn l start start) → Decides b (IsOnClosedWalk l start)
+pub on_walk : (l : LooseList) (start : ℕ) (b : Bool) → start < length l.cells → Decides b (PlaceDependsOn l start start) → Decides b (IsOnClosedWalk l start)
 on_walk l start b lt d = (λ is. let walk = d.0 is in (lt, walk.0, walk.1), λ walk. d.1 (walk.1, walk.2))
 
 pub not_decided : (b : Bool) (P : Type 0) → Decides b P → b ≡ false → P → ⊥

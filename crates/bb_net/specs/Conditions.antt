@@ -1,14 +1,16 @@
 -- The conditions under which an implementation with boxes cannot be completed so that it agrees with its specification,
--- from the strongest to the weakest. Each says less about the boxes than the one before it: their outputs are unknown; they
--- may have any bits, at one output or at all; they depend on the box's inputs alone; they are those of tables. Beside each
--- condition stands what holds where it does not.
+-- from the strongest to the weakest. Each says less about the boxes than the one before it: their outputs are unknown;
+-- they may have any bits, at one output or at all; they depend on the box's inputs alone; they are those of tables.
+-- Beside each condition is what holds where it does not, so a check that finds nothing says something positive too.
+-- That no tables agree ranges over tables of any size, with exactly the bits that their pins ask for; a bound on bits
+-- belongs to tables that are written down.
 use Rattle.std.specs.Prelude.{◌≡◌, ◌≢◌, ℕ, ◌<◌, Bool, List, [], ◌∷◌, ◌++◌, length, map, Contains, Some, IfSome, slice_index}
 use Rattle.std.specs.List.{flat_map}
 use Rattle.bb_bits.specs.Tables.{TableBits}
 use Rattle.bb_net.specs.Netlists.{Netlist, Pins}
 use Rattle.bb_net.specs.Values.{bit_of, flat, FitBoxes}
 use Rattle.bb_net.specs.Ternary.{tern, tern_of}
-use Rattle.bb_net.specs.Agreement.{wanted_bit, IsVector, AreBoxOutputs, IsOutput, IsRight, IsWrong, AllRight, SomeWrong, TablesAgree}
+use Rattle.bb_net.specs.Equivalence.{wanted_bit, IsVector, AreBoxOutputs, IsOutput, IsRight, IsWrong, AllRight, SomeWrong, TablesMakeEquivalent}
 
 -- the output is known although the boxes are unknown, and is wrong
 abbrev pub IsKnownWrong : Netlist → Netlist → List Bool → ℕ → Type 0
@@ -29,7 +31,7 @@ MayBeRightAmong spec imp patterns = (x : List Bool) → Contains patterns x → 
 pub record IsFirstHit (spec imp : Netlist) (patterns : List (List Bool)) (x : List Bool) (j : ℕ) : Type 0 where
   pub before : List (List Bool)
   pub after : List (List Bool)
-  pub stands : patterns ≡ before ++ x ∷ after
+  pub occurs : patterns ≡ before ++ x ∷ after
   pub earlier : MayBeRightAmong spec imp before
   pub there : IsOutput imp j
   pub wrong : IsKnownWrong spec imp x j
@@ -84,8 +86,8 @@ abbrev pub Suit : Netlist → Netlist → List PinBits → Type 0
 Suit spec imp chosen = (x : List Bool) → IsVector imp x → all_ins imp.boxes (flat imp x (all_outs chosen)) ≡ map (λ bits. bits.ins) chosen
     → AllRight spec imp x (flat imp x (all_outs chosen))
 
--- for each list of input bits of the next box there is a list of output bits with which the same holds of the boxes behind
--- it, and in the end the chosen bits suit
+-- for each list of input bits of the next box there is a list of output bits with which the same holds of the boxes
+-- after it, and in the end the chosen bits suit
 abbrev pub Wins : (List PinBits → Type 0) → List Pins → List PinBits → Type 0
 Wins suit [] chosen = suit chosen
 Wins suit (box ∷ boxes) chosen = (ins : List Bool) → length ins ≡ length box.ins
@@ -99,9 +101,9 @@ abbrev pub NoChoicesSuit : Netlist → Netlist → Type 0
 NoChoicesSuit spec imp = SomeChoicesSuit spec imp → ⊥
 
 -- no tables agree
-abbrev pub NoTablesAgree : Netlist → Netlist → Type 0
-NoTablesAgree spec imp = (tables : List TableBits) → FitBoxes tables imp.boxes → TablesAgree spec imp tables → ⊥
+abbrev pub NoTablesMakeEquivalent : Netlist → Netlist → Type 0
+NoTablesMakeEquivalent spec imp = (tables : List TableBits) → FitBoxes tables imp.boxes → TablesMakeEquivalent spec imp tables → ⊥
 
 -- some tables agree
-abbrev pub SomeTablesAgree : Netlist → Netlist → Type 0
-SomeTablesAgree spec imp = (tables : List TableBits) × FitBoxes tables imp.boxes × TablesAgree spec imp tables
+abbrev pub SomeTablesMakeEquivalent : Netlist → Netlist → Type 0
+SomeTablesMakeEquivalent spec imp = (tables : List TableBits) × FitBoxes tables imp.boxes × TablesMakeEquivalent spec imp tables

@@ -1,5 +1,5 @@
--- What a flat netlist takes from outside and what it gives, in the order of its inputs and outputs. A register bit is cut: its
--- present state is an input, its next state an output. Each is called by its kind and its text.
+-- What a flat netlist takes from outside and what it gives, in the order of its inputs and outputs. A register bit is
+-- cut: its present state is an input, its next state an output. Each is identified by its kind and its text.
 use Rattle.std.specs.Prelude.{ℕ, List, map, ◌++◌, Option}
 use Rattle.std.specs.Prelude.{slice_get}
 use Rattle.std.specs.Option.{option_and_then}
@@ -11,7 +11,7 @@ pub data CutInput : Type 0 where
   TopInput : List ℕ → CutInput
   State : List ℕ → CutInput
 
--- what it gives: a bit of an output port of the top, or what a register bit is to become
+-- what it gives: a bit of an output port of the top, or the next state of a register bit
 pub data CutOutput : Type 0 where
   TopOutput : List ℕ → CutOutput
   NextState : List ℕ → CutOutput

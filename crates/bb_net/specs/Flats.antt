@@ -1,5 +1,6 @@
--- A flat netlist: a netlist with the texts of its inputs, registers, outputs and boxes. Its inputs are those of the top and then
--- the register bits; its outputs are those of the top and then the data of the registers. A text is a list of bytes.
+-- A flat netlist: a netlist with the texts of its inputs, registers, outputs and boxes. Its inputs are those of the top
+-- and then the register bits; its outputs are those of the top and then the data of the registers. A text is a list of
+-- bytes.
 use Rattle.std.specs.Prelude.{◌≡◌, ◌≢◌, ℕ, ◌+◌, ◌<◌, ◌≤◌, List, map, length, All, AllPairs, Contains, IfSome, IsSome}
 use Rattle.std.specs.List.{AllZip}
 use Rattle.bb_bits.specs.Names.{IsPrintable}
@@ -20,8 +21,8 @@ pub record AreNamed (f : FlatNet) : Type 0 where
   pub outputs : length f.net.outs ≡ length f.outs + length f.regs
   pub boxes : AllZip NamesPins f.boxes f.net.boxes
 
--- no text stands twice among the inputs, the registers, the outputs or the boxes
-pub record AreApart (f : FlatNet) : Type 0 where
+-- no text occurs twice among the inputs, the registers, the outputs or the boxes
+pub record HasDistinctNames (f : FlatNet) : Type 0 where
   pub ins : AllPairs ◌≢◌ f.ins
   pub regs : AllPairs ◌≢◌ (map (λ r. r.text) f.regs)
   pub outs : AllPairs ◌≢◌ f.outs
@@ -40,7 +41,7 @@ abbrev pub PinsGoByModules : List BoxTexts → Type 0
 PinsGoByModules boxes = (a b : BoxTexts) → Contains boxes a → Contains boxes b → a.module ≡ b.module → (a.ins ≡ b.ins) × (a.outs ≡ b.outs)
 
 -- it is not too large
-pub record IsWithin (f : FlatNet) : Type 0 where
+pub record IsWithinLimits (f : FlatNet) : Type 0 where
   pub cells : length f.net.cells ≤ 2000000
   pub outs : length f.net.outs ≤ 2000000
   pub boxes : length f.net.boxes ≤ 1000000
@@ -49,10 +50,10 @@ pub record IsWithin (f : FlatNet) : Type 0 where
 pub record IsFlat (f : FlatNet) : Type 0 where
   pub net : IsNetlist f.net
   pub named : AreNamed f
-  pub apart : AreApart f
+  pub apart : HasDistinctNames f
   pub printable : ArePrintable f
   pub modules : PinsGoByModules f.boxes
-  pub small : IsWithin f
+  pub small : IsWithinLimits f
   -- a clock is an input of the top
   pub clocks : All (λ r. IfSome r.clock (λ k. k < length f.ins)) f.regs
 

@@ -1,4 +1,4 @@
--- What the code says to itself: no clause of the top call rests on it.
+-- What the functions of this crate say to each other: no clause of the top call rests on it.
 pub mod NetFaults
 pub mod Placings
 pub mod Walks

@@ -1,6 +1,6 @@
 pub use Rattle.bb_bits.specs.Numbers
 pub use Rattle.bb_bits.specs.Tables
-pub mod Agreement
+pub mod Equivalence
 pub mod Completions
 pub mod Conditions
 pub mod CutPoints

@@ -1,5 +1,6 @@
--- A list of cells in any order. A cell names others by their places, before it or behind it, and a copy has the value of
--- the cell that it names. The constants and the inputs stand first, as in a netlist. Boxes are as in a netlist, in any order.
+-- An unordered netlist: a list of cells in any order. A cell names others by their places, before or after it, and a
+-- buffer (copy) has the value of the cell that it names. The constants and the inputs come first, as in a netlist.
+-- Boxes are as in a netlist, in any order.
 use Rattle.std.specs.Prelude.{◌≡◌, ℕ, ◌+◌, ◌<◌, ◌^◌, zero, suc, Bool, true, false, ◌&&◌, ◌||◌, not, if◌then◌else◌, List, [], ◌∷◌, length, take, map, All, Contains}
 use Rattle.std.specs.List.{range_with_len, slice_index_or}
 use Rattle.bb_net.specs.declared.loose.LooseCell.{LooseCell}
@@ -13,7 +14,7 @@ pub record LooseList : Type 0 where
   pub boxes : List Pins
   pub outs : List ℕ
 
--- the cell at a place; behind the last one counts a constant
+-- the cell at a place; a constant past the end
 abbrev pub loose_at : LooseList → ℕ → LooseCell
 loose_at l place = slice_index_or l.cells place (Const false)
 
@@ -32,8 +33,8 @@ operands boxes (Copy p) = p ∷ []
 -- what such a list has to be
 pub record IsLoose (l : LooseList) : Type 0 where
   -- it begins with the constants and the inputs
-  pub front : take (l.inputs + 2) l.cells ≡ Const false ∷ Const true ∷ map Input (range_with_len 0 l.inputs)
-  -- all places are in the list, and an input is one of so many
+  pub prefix : take (l.inputs + 2) l.cells ≡ Const false ∷ Const true ∷ map Input (range_with_len 0 l.inputs)
+  -- all places are in the list, and an input is one of its inputs
   pub there : (place : ℕ) → place < length l.cells → All (λ k. k < length l.cells) (operands l.boxes (loose_at l place))
   pub inputs_there : (place i : ℕ) → place < length l.cells → loose_at l place ≡ Input i → i < l.inputs
   pub outs_there : All (λ place. place < length l.cells) l.outs
@@ -45,15 +46,15 @@ pub record IsLoose (l : LooseList) : Type 0 where
   pub cells_fit : length l.cells < 2 ^ 32
   pub boxes_fit : length l.boxes < 2 ^ 32
 
--- so many steps of dependence lead from one place to another: from a cell to one that it reads, and so from the output of a
--- box to each of its inputs
+-- a walk of this many steps of dependence leads from one place to another: from a cell to one that it reads, and so
+-- from the output of a box to each of its inputs
 abbrev pub Reaches : ℕ → LooseList → ℕ → ℕ → Type 0
 Reaches zero l from to = from ≡ to
 Reaches (suc n) l from to = (place : ℕ) × Contains (operands l.boxes (loose_at l from)) place × Reaches n l place to
 
 -- a place depends on another, directly or through others
-abbrev pub DependsOn : LooseList → ℕ → ℕ → Type 0
-DependsOn l from to = (n : ℕ) × Reaches (suc n) l from to
+abbrev pub PlaceDependsOn : LooseList → ℕ → ℕ → Type 0
+PlaceDependsOn l from to = (n : ℕ) × Reaches (suc n) l from to
 
 -- the place lies on a closed walk of dependence
 abbrev pub IsOnClosedWalk : LooseList → ℕ → Type 0

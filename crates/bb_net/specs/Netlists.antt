@@ -1,6 +1,6 @@
--- A netlist: a list of cells, in which a cell names other cells by their places, counted from 0. Places 0 and 1 hold the
--- constants 0 and 1, and the inputs follow in order. A box is a part whose contents are open: it reads the cells at its
--- input pins, and each of its output pins is a cell of its own. Every cell reads only cells that stand before it.
+-- A netlist: a list of cells, in which a cell names other cells by their places, counted from 0. Places 0 and 1 hold
+-- the constants 0 and 1, and the inputs follow in order. A black box is a part whose contents are open: it reads the
+-- cells at its input pins, and each of its output pins is a cell of its own. Every cell reads only earlier cells.
 use Rattle.std.specs.Prelude.{◌≡◌, ℕ, ◌+◌, ◌<◌, ◌≤◌, ◌^◌, true, false, List, [], ◌∷◌, ◌++◌, length, take, map, All, Contains, slice_index, slice_set, zero, suc}
 use Rattle.std.specs.List.{range_with_len, slice_index_or}
 use Rattle.bb_net.specs.declared.cell.Cell.{Cell}
@@ -18,11 +18,11 @@ pub record Netlist : Type 0 where
   pub boxes : List Pins
   pub outs : List ℕ
 
--- the cell at a place; behind the last one counts a constant
+-- the cell at a place; a constant past the end
 abbrev pub cell_at : List Cell → ℕ → Cell
 cell_at cells place = slice_index_or cells place (Const false)
 
--- the pins of box b; behind the last one counts a box without pins
+-- the pins of box b; none past the end
 abbrev pub box_at : List Pins → ℕ → Pins
 box_at boxes b = slice_index_or boxes b (record { ins = []; outs = [] })
 
@@ -30,7 +30,7 @@ box_at boxes b = slice_index_or boxes b (record { ins = []; outs = [] })
 abbrev pub first_cells : ℕ → List Cell
 first_cells inputs = Const false ∷ Const true ∷ map Input (range_with_len 0 inputs)
 
--- what a cell reads stands before a place, and an input is one of so many
+-- a cell reads only places before this one, and an input is one of these inputs
 abbrev pub ReadsBefore : ℕ → List Pins → ℕ → Cell → Type 0
 ReadsBefore inputs boxes place (Const b) = Unit {0}
 ReadsBefore inputs boxes place (Input i) = i < inputs
@@ -52,16 +52,16 @@ reads_of boxes (Xor a b) = a ∷ b ∷ []
 reads_of boxes (Mux c t e) = c ∷ t ∷ e ∷ []
 reads_of boxes (BoxOut b p) = (box_at boxes b).ins
 
--- so many steps lead from one place to another, each from a cell to one that it reads
-abbrev pub Leads : ℕ → List Cell → List Pins → ℕ → ℕ → Type 0
-Leads zero cells boxes from to = from ≡ to
-Leads (suc n) cells boxes from to = (place : ℕ) × Contains (reads_of boxes (cell_at cells from)) place × Leads n cells boxes place to
+-- a walk of this many steps leads from one place to another, each step from a cell to one that it reads
+abbrev pub ReadsInSteps : ℕ → List Cell → List Pins → ℕ → ℕ → Type 0
+ReadsInSteps zero cells boxes from to = from ≡ to
+ReadsInSteps (suc n) cells boxes from to = (place : ℕ) × Contains (reads_of boxes (cell_at cells from)) place × ReadsInSteps n cells boxes place to
 
 -- the value at a place depends on that at another
 abbrev pub DependsOn : List Cell → List Pins → ℕ → ℕ → Type 0
-DependsOn cells boxes from to = (n : ℕ) × Leads n cells boxes from to
+DependsOn cells boxes from to = (n : ℕ) × ReadsInSteps n cells boxes from to
 
--- each cell reads only cells that stand before it
+-- each cell reads only earlier cells
 abbrev pub IsOrdered : Netlist → Type 0
 IsOrdered net = (place : ℕ) → place < length net.cells → ReadsBefore net.inputs net.boxes place (cell_at net.cells place)
 
@@ -72,12 +72,12 @@ IsPinAt boxes b p place = (p < length (box_at boxes b).outs) × (slice_index (bo
 -- what every netlist keeps
 pub record IsNetlist (net : Netlist) : Type 0 where
   -- it begins with the constants and the inputs
-  pub front : take (net.inputs + 2) net.cells ≡ first_cells net.inputs
+  pub prefix : take (net.inputs + 2) net.cells ≡ first_cells net.inputs
   pub ordered : IsOrdered net
   -- the output pins of the boxes and the cells BoxOut are one to one
   pub listed : (place b p : ℕ) → place < length net.cells → cell_at net.cells place ≡ BoxOut b p → IsPinAt net.boxes b p place
   pub driven : (b p place : ℕ) → IsPinAt net.boxes b p place → (place < length net.cells) × (cell_at net.cells place ≡ BoxOut b p)
-  -- what a box reads never leads back to the box, nor to one behind it in the list
+  -- what a box reads never depends on the box, nor on a later one
   pub boxes_ordered : (b c p pin place : ℕ) → b ≤ c → Contains (box_at net.boxes b).ins pin → DependsOn net.cells net.boxes pin place → cell_at net.cells place ≡ BoxOut c p → ⊥
   -- pins and outputs are cells
   pub pins_there : (b : ℕ) → All (λ pin. pin < length net.cells) (box_at net.boxes b).ins
@@ -87,9 +87,9 @@ pub record IsNetlist (net : Netlist) : Type 0 where
   pub boxes_fit : length net.boxes < 2 ^ 32
 
 -- a cell may be added at the end: what it reads is there, and an output pin of a box is the next one of that box
-abbrev pub MayFollow : Netlist → Cell → Type 0
-MayFollow net (BoxOut b p) = (b < length net.boxes) × (p ≡ length (box_at net.boxes b).outs)
-MayFollow net cell = ReadsBefore net.inputs net.boxes (length net.cells) cell
+abbrev pub MayBeAppended : Netlist → Cell → Type 0
+MayBeAppended net (BoxOut b p) = (b < length net.boxes) × (p ≡ length (box_at net.boxes b).outs)
+MayBeAppended net cell = ReadsBefore net.inputs net.boxes (length net.cells) cell
 
 -- the boxes after a cell was added at a place: an output pin is listed at its box
 abbrev pub with_pin : List Pins → ℕ → Cell → List Pins

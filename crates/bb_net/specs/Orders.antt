@@ -1,6 +1,8 @@
--- When a netlist is a list of cells put in order: every cell but the copies stands in it once, with its operands moved
--- along; a copy is replaced by the cell that it copies; nothing is joined or dropped. The boxes stand so that each is behind
--- those on which its inputs depend, and among the boxes that are ready the first one of the list comes first.
+-- When a netlist is an unordered list put in topological order: every cell but the buffers (copies) is in it once, with
+-- its operands moved along; a buffer is replaced by the cell that it buffers; nothing is joined or dropped. Each box
+-- comes after those on which its inputs depend, and among the boxes that are ready the first one of the list comes
+-- first. Only this order of the boxes is fixed; other cells may come in any order that is possible. Every chain of
+-- buffers has to end at a cell, since a buffer of itself could be anywhere.
 use Rattle.std.specs.Prelude.{◌≡◌, ◌≢◌, ◌↔◌, ℕ, ◌+◌, ◌<◌, ◌≤◌, zero, suc, Bool, List, length, take, map, AllPairs, Contains, slice_index}
 use Rattle.bb_net.specs.declared.cell.Cell.{Cell}
 use Rattle.bb_net.specs.declared.cell.Cell.TheVariants as cell
@@ -10,25 +12,25 @@ use Rattle.bb_net.specs.Netlists.{Netlist, Pins, cell_at, box_at, IsNetlist}
 use Rattle.bb_net.specs.Values.{bit_of, value_of}
 use Rattle.bb_net.specs.Loose.{LooseList, loose_at, IsLoose, IsLooseValue, NeedsBox, IsOnClosedWalk}
 
--- it is no copy
-abbrev pub IsKept : LooseCell → Type 0
-IsKept (Copy p) = ⊥
-IsKept (Const b) = Unit {0}
-IsKept (Input i) = Unit {0}
-IsKept (Not a) = Unit {0}
-IsKept (And a b) = Unit {0}
-IsKept (Or a b) = Unit {0}
-IsKept (Xor a b) = Unit {0}
-IsKept (Mux c t e) = Unit {0}
-IsKept (BoxOut b p) = Unit {0}
+-- it is no buffer
+abbrev pub IsNoCopy : LooseCell → Type 0
+IsNoCopy (Copy p) = ⊥
+IsNoCopy (Const b) = Unit {0}
+IsNoCopy (Input i) = Unit {0}
+IsNoCopy (Not a) = Unit {0}
+IsNoCopy (And a b) = Unit {0}
+IsNoCopy (Or a b) = Unit {0}
+IsNoCopy (Xor a b) = Unit {0}
+IsNoCopy (Mux c t e) = Unit {0}
+IsNoCopy (BoxOut b p) = Unit {0}
 
--- so many copies lead from a place to one that is no copy
-abbrev pub IsSource : ℕ → LooseList → ℕ → ℕ → Type 0
-IsSource zero l k source = (k ≡ source) × IsKept (loose_at l k)
-IsSource (suc n) l k source = (p : ℕ) × (p < length l.cells) × (loose_at l k ≡ Copy p) × IsSource n l p source
+-- a chain of this many buffers leads from a place to a cell that is no buffer
+abbrev pub IsCopySource : ℕ → LooseList → ℕ → ℕ → Type 0
+IsCopySource zero l k source = (k ≡ source) × IsNoCopy (loose_at l k)
+IsCopySource (suc n) l k source = (p : ℕ) × (p < length l.cells) × (loose_at l k ≡ Copy p) × IsCopySource n l p source
 
--- a cell of the list is this cell of the netlist: its operands are moved, and box b of the netlist has the number in the
--- list that stands at b
+-- a cell of the list is this cell of the netlist: its operands are moved, and the number of box b in the list is entry
+-- b
 abbrev pub IsMoved : (ℕ → ℕ) → List ℕ → LooseCell → Cell → Type 0
 IsMoved to numbers (Const b) c = c ≡ cell.Const b
 IsMoved to numbers (Input i) c = c ≡ cell.Input i
@@ -45,32 +47,32 @@ abbrev pub moved_pins : (ℕ → ℕ) → Pins → Pins
 moved_pins to pins = record { ins = map to pins.ins; outs = map to pins.outs }
 
 -- each box on which box c depends is among these
-abbrev pub IsReady : LooseList → List ℕ → ℕ → Type 0
-IsReady l placed c = (d : ℕ) → NeedsBox l c d → Contains placed d
+abbrev pub IsReadyBox : LooseList → List ℕ → ℕ → Type 0
+IsReadyBox l placed c = (d : ℕ) → NeedsBox l c d → Contains placed d
 
 pub record IsOrderOf (l : LooseList) (net : Netlist) (numbers : List ℕ) : Type 0 where
-  -- where each place of the list stands in the netlist
+  -- where each place of the list is in the netlist
   pub to : ℕ → ℕ
   pub inputs : net.inputs ≡ l.inputs
   -- the constants and the inputs stay where they are
-  pub front : (k : ℕ) → k < l.inputs + 2 → to k ≡ k
-  -- each cell but the copies stands there once, and no other does
+  pub prefix : (k : ℕ) → k < l.inputs + 2 → to k ≡ k
+  -- each cell but the buffers is there once, and no other cell is
   pub there : (k : ℕ) → k < length l.cells → to k < length net.cells
-  pub moved : (k : ℕ) → k < length l.cells → IsKept (loose_at l k) → IsMoved to numbers (loose_at l k) (cell_at net.cells (to k))
-  pub apart : (k m : ℕ) → k < length l.cells → m < length l.cells → IsKept (loose_at l k) → IsKept (loose_at l m) → to k ≡ to m → k ≡ m
-  pub all : (place : ℕ) → place < length net.cells → (k : ℕ) × (k < length l.cells) × IsKept (loose_at l k) × (to k ≡ place)
-  -- a copy stands where the cell stands that it copies, directly or through others
+  pub moved : (k : ℕ) → k < length l.cells → IsNoCopy (loose_at l k) → IsMoved to numbers (loose_at l k) (cell_at net.cells (to k))
+  pub apart : (k m : ℕ) → k < length l.cells → m < length l.cells → IsNoCopy (loose_at l k) → IsNoCopy (loose_at l m) → to k ≡ to m → k ≡ m
+  pub all : (place : ℕ) → place < length net.cells → (k : ℕ) × (k < length l.cells) × IsNoCopy (loose_at l k) × (to k ≡ place)
+  -- a buffer is where the cell is that it buffers, directly or through others
   pub copies : (k p : ℕ) → k < length l.cells → loose_at l k ≡ Copy p → to k ≡ to p
-  pub sources : (k : ℕ) → k < length l.cells → (n source : ℕ) × IsSource n l k source
+  pub sources : (k : ℕ) → k < length l.cells → (n source : ℕ) × IsCopySource n l k source
   pub outs : net.outs ≡ map to l.outs
-  -- each box stands there once, with its pins moved
+  -- each box is there once, with its pins moved
   pub box_count : length net.boxes ≡ length l.boxes
   pub number_count : length numbers ≡ length l.boxes
   pub numbers_apart : AllPairs ◌≢◌ numbers
   pub boxes : (b : ℕ) → b < length l.boxes → (slice_index numbers b < length l.boxes) × (box_at net.boxes b ≡ moved_pins to (box_at l.boxes (slice_index numbers b)))
   -- each is ready at its turn, and is the first of those that are
-  pub ready : (b : ℕ) → b < length l.boxes → IsReady l (take b numbers) (slice_index numbers b)
-  pub first : (b c : ℕ) → b < length l.boxes → c < length l.boxes → (Contains (take b numbers) c → ⊥) → IsReady l (take b numbers) c → slice_index numbers b ≤ c
+  pub ready : (b : ℕ) → b < length l.boxes → IsReadyBox l (take b numbers) (slice_index numbers b)
+  pub first : (b c : ℕ) → b < length l.boxes → c < length l.boxes → (Contains (take b numbers) c → ⊥) → IsReadyBox l (take b numbers) c → slice_index numbers b ≤ c
 
 -- what the boxes of the netlist give, where box gives it by their numbers in the list
 abbrev pub renumbered : List ℕ → (ℕ → ℕ → List Bool → Bool) → ℕ → ℕ → List Bool → Bool

@@ -1,5 +1,5 @@
--- A pair: a specification and an implementation with boxes, over the same inputs and with as many outputs, the texts by
--- which inputs, outputs, boxes and pins are called, and which boxes share their contents. A text is a list of bytes.
+-- A pair: a specification and an implementation with boxes, over the same inputs and with as many outputs, the texts
+-- that name inputs, outputs, boxes and pins, and which boxes share their contents. A text is a list of bytes.
 use Rattle.std.specs.Prelude.{◌≡◌, ℕ, ◌+◌, ◌≤◌, Bool, if◌then◌else◌, List, [], length, sum_by}
 use Rattle.std.specs.List.{AllZip}
 use Rattle.bb_net.specs.declared.pair.OutName.{OutName}
@@ -13,7 +13,8 @@ pub record BoxTexts : Type 0 where
   pub ins : List (List ℕ)
   pub outs : List (List ℕ)
 
--- the key of a box, by which its contents are told: the name of its module where boxes of one module share theirs, and else its path
+-- the key of a box, by which its contents are named: the name of its module where boxes of one module share theirs,
+-- else its path
 abbrev pub box_key : Bool → BoxTexts → List ℕ
 box_key shared box = if shared then box.module else box.path
 
@@ -23,7 +24,7 @@ pub record NetPair : Type 0 where
   pub ins : List (List ℕ)
   pub outs : List OutName
   pub boxes : List BoxTexts
-  -- the kind of each box: boxes of one kind hold one table
+  -- the sharing class of each box: boxes of one class hold one table
   pub kinds : List ℕ
 
 -- one text for each pin of a box
@@ -35,7 +36,7 @@ pub record NamesPins (texts : BoxTexts) (pins : Pins) : Type 0 where
 abbrev pub pin_count : List Pins → ℕ
 pin_count boxes = sum_by (λ pins. length pins.ins + length pins.outs) boxes
 
--- the nets stand beside each other, everything in them has its text, and each box is of a kind
+-- the nets are side by side, everything in them has its text, and each box is of a sharing class
 pub record AreBeside (p : NetPair) : Type 0 where
   pub inputs : p.spec.inputs ≡ p.imp.inputs
   pub outputs : length p.spec.outs ≡ length p.imp.outs

@@ -1,6 +1,6 @@
--- A netlist with its inputs in another order and with its outputs picked anew: what it takes to lay two netlists beside each
--- other whose inputs and outputs have the same names in different orders. No cell is added, joined or dropped; only the inputs
--- change their places.
+-- A netlist with its inputs in another order and with its outputs picked anew: what it takes to compare two netlists by
+-- position whose inputs and outputs have the same names in different orders. No cell is added, joined or dropped; only
+-- the inputs change their places.
 use Rattle.std.specs.Prelude.{◌≡◌, ℕ, ◌+◌, ◌<◌, zero, suc, Bool, List, length, map, All, slice_index}
 use Rattle.std.specs.List.{slice_index_or}
 use Rattle.bb_net.specs.declared.cell.Cell.{Cell}
@@ -13,7 +13,7 @@ use Rattle.bb_net.specs.Values.{bit_of, value_of}
 abbrev pub new_input : List ℕ → ℕ → ℕ
 new_input numbers i = slice_index_or numbers i i
 
--- and the place that a cell has there: input i stands at the place i + 2
+-- and the place that a cell has there: input i is at the place i + 2
 abbrev pub new_place : List ℕ → ℕ → ℕ
 new_place numbers zero = zero
 new_place numbers (suc zero) = suc zero
@@ -29,7 +29,8 @@ moved_cell numbers (Xor a b) = Xor (new_place numbers a) (new_place numbers b)
 moved_cell numbers (Mux c t e) = Mux (new_place numbers c) (new_place numbers t) (new_place numbers e)
 moved_cell numbers (BoxOut b p) = BoxOut b p
 
--- each cell stands at its new place with its operands moved; output j of the new netlist is the output picks(j) of the old one
+-- each cell is at its new place with its operands moved; output j of the new netlist is the output picks(j) of the old
+-- one
 pub record IsRearranged (numbers picks : List ℕ) (old new : Netlist) : Type 0 where
   pub inputs : new.inputs ≡ old.inputs
   -- a number for each input

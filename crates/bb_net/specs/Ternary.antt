@@ -1,7 +1,7 @@
--- Values of cells in three values: a bit that is known, or unknown. A box output is unknown. A gate's value is known where
--- the known values of its operands settle it: an and with an operand 0 is 0, an or with an operand 1 is 1, an xor with an
--- unknown operand is unknown (IEEE 1364-2005, 7.2), and a conditional whose condition is unknown is the bit that both
--- branches have (5.1.13).
+-- Values of cells in three values: a bit that is known, or unknown. A box output is unknown. A gate's value is known
+-- where the known values of its operands settle it: an and with an operand 0 is 0, an or with an operand 1 is 1, an xor
+-- with an unknown operand is unknown (IEEE 1364-2005, 7.2), and a conditional whose condition is unknown is the bit
+-- that both branches have (5.1.13).
 use Rattle.std.specs.Prelude.{◌≡◌, ℕ, ◌<◌, zero, suc, Bool, true, false, not, List, length, map, Option, Some, None}
 use Rattle.std.specs.List.{range_with_len, slice_index_or}
 use Rattle.bb_net.specs.declared.cell.Cell.{Cell}
@@ -61,7 +61,7 @@ gate3 x value (Xor a b) = xor3 (value a) (value b)
 gate3 x value (Mux c t e) = mux3 (value c) (value t) (value e)
 gate3 x value (BoxOut b p) = None
 
--- the value at a place, by at most so many steps from operand to operand
+-- the value at a place, by at most this many steps from operand to operand
 unfoldable pub tern_within : List Cell → List Bool → ℕ → ℕ → Option Bool
 tern_within cells x zero place = None
 tern_within cells x (suc n) place = gate3 x (tern_within cells x n) (cell_at cells place)

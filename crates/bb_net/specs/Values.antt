@@ -1,7 +1,7 @@
 -- The value of a netlist: one bit for each cell, in the order of the cells, the bit of a gate being its function of the
 -- bits of its operands (IEEE 1364-2005, 7.2 for gates and 5.1.13 for the conditional, both without x and z). What the
--- boxes give is a parameter: the bit at output pin p of box b for a list of bits at its input pins, first pin first. Free
--- box outputs, tables and contents that several boxes share are choices of this parameter.
+-- boxes give is a parameter: the bit at output pin p of box b for a list of bits at its input pins, first pin first.
+-- Free box outputs, tables and contents that several boxes share are choices of this parameter.
 use Rattle.std.specs.Prelude.{[], ◌≡◌, ℕ, ◌+◌, ◌<◌, zero, suc, Bool, false, ◌&&◌, ◌||◌, not, if◌then◌else◌, List, length, map, take, sum_by}
 use Rattle.std.specs.List.{range_with_len, slice_index_or}
 use Rattle.bb_bits.specs.Numbers.{number_of}
@@ -26,12 +26,12 @@ gate boxes x box value (Xor a b) = xor (value a) (value b)
 gate boxes x box value (Mux c t e) = if value c then value t else value e
 gate boxes x box value (BoxOut b p) = box b p (map value (box_at boxes b).ins)
 
--- the bit at a place, by at most so many steps from operand to operand
+-- the bit at a place, by at most this many steps from operand to operand
 unfoldable pub bit_within : List Cell → List Pins → List Bool → (ℕ → ℕ → List Bool → Bool) → ℕ → ℕ → Bool
 bit_within cells boxes x box zero place = false
 bit_within cells boxes x box (suc n) place = gate boxes x box (bit_within cells boxes x box n) (cell_at cells place)
 
--- the bit at a place: what a cell reads stands before it, so one step more than its place is enough
+-- the bit at a place: a cell reads only earlier ones, so one step more than its place is enough
 abbrev pub bit_at : List Cell → List Pins → List Bool → (ℕ → ℕ → List Bool → Bool) → ℕ → Bool
 bit_at cells boxes x box place = bit_within cells boxes x box (suc place) place
 
@@ -48,7 +48,7 @@ pub record IsValue (net : Netlist) (x : List Bool) (box : ℕ → ℕ → List B
 abbrev pub output_pins : List Pins → ℕ
 output_pins boxes = sum_by (λ pins. length pins.outs) boxes
 
--- free box outputs: one bit for each output pin, box after box, whatever stands at the input pins
+-- free box outputs: one bit for each output pin, box after box, whatever the bits at the input pins
 abbrev pub free_bit : List Pins → List Bool → ℕ → ℕ → List Bool → Bool
 free_bit boxes z b p ins = bit_of z (output_pins (take b boxes) + p)
 
@@ -56,7 +56,7 @@ free_bit boxes z b p ins = bit_of z (output_pins (take b boxes) + p)
 abbrev pub flat : Netlist → List Bool → List Bool → List Bool
 flat net x z = value_of net x (free_bit net.boxes z)
 
--- the table of box b; behind the last one counts a table without bits
+-- the table of box b; without bits past the end
 abbrev pub table_at : List TableBits → ℕ → TableBits
 table_at tables b = slice_index_or tables b (record { inputs = 0; outputs = 0; rows = [] })
 

@@ -1,18 +1,19 @@
-//! Netlists are built cell by cell.
+//! Netlists are built cell by cell in topological order, so the invariant holds after each call and the whole is never
+//! checked at the end. An error (want of memory) leaves the netlist as it was.
 
 ghost use Rattle.std.specs.Prelude.{◌≡◌, ◌+◌, ◌<◌, ◌^◌, ◌∷◌, ◌++◌, [], ℕ, All, length, slice_set, vec_len, IfOk, OnOk, OnErr};
-ghost use Rattle.bb_net.specs.Netlists.{box_at, MayFollow, with_pin, with_cell, with_box, with_out};
+ghost use Rattle.bb_net.specs.Netlists.{box_at, MayBeAppended, with_pin, with_cell, with_box, with_out};
 
 use crate::{BoxPins, Cell, Net};
 use bb_bits::NoMemory;
 
 impl Net {
-    /// Adds a cell at the end, and gives its place. An output pin of a box is listed at its box.
+    /// Appends a cell and returns its place; an output pin is listed at its box too.
     ///
-    /// What the cell reads has to be there, and an output pin has to be the next one of its box.
+    /// The operands must already be there, and an output pin must be the next one of its box.
     pub fn push(&mut self, cell: Cell) -> Result<u32, NoMemory>
         requires room { length self.old.cells + 1 < 2 ^ 32 }
-        requires follows { MayFollow self.old cell }
+        requires follows { MayBeAppended self.old cell }
         ensures ok { OnOk result (self.new ≡ with_cell self.old cell) }
         ensures place { IfOk result (λ place. place ≡ length self.old.cells) }
         ensures err { OnErr result (self.new ≡ self.old) }
@@ -20,7 +21,7 @@ impl Net {
         append(&mut self.cells, &mut self.boxes, cell)
     }
 
-    /// Adds a box with these input pins and no output pin yet, and gives its number.
+    /// Returns the box's number. Its output pins come later, as `BoxOut` cells in pin order.
     pub fn add_box(&mut self, ins: Vec<u32>) -> Result<u32, NoMemory>
         requires room { length self.old.boxes + 1 < 2 ^ 32 }
         requires there { All (λ pin. pin < length self.old.cells) ins.items }
@@ -34,7 +35,7 @@ impl Net {
         Ok(number)
     }
 
-    /// Adds an output, which is the cell at a place.
+    /// Outputs are numbered in the order of these calls.
     pub fn add_out(&mut self, place: u32) -> Result<(), NoMemory>
         requires there { place < length self.old.cells }
         ensures ok { OnOk result (self.new ≡ with_out self.old place) }
@@ -45,7 +46,7 @@ impl Net {
     }
 }
 
-// Adds a cell, and lists an output pin at its box. Room for the cell is found first, so that a failure changes nothing.
+// Room for the cell is reserved first: after the pin is listed nothing can fail, so an error changes nothing.
 fn append(cells: &mut Vec<Cell>, boxes: &mut Vec<BoxPins>, cell: Cell) -> Result<u32, NoMemory>
     requires room { vec_len cells.old + 1 < 2 ^ 32 }
     requires there { (b p : ℕ) → cell ≡ Cell.BoxOut b p → b < vec_len boxes.old }
@@ -63,7 +64,6 @@ fn append(cells: &mut Vec<Cell>, boxes: &mut Vec<BoxPins>, cell: Cell) -> Result
     Ok(place)
 }
 
-// Lists an output cell at its box.
 fn list_pin(boxes: &mut Vec<BoxPins>, b: u32, place: u32) -> Result<(), NoMemory>
     requires there { b < vec_len boxes.old }
     ensures ok { OnOk result (boxes.new.items ≡ slice_set boxes.old.items b (record (box_at boxes.old.items b) { outs = (box_at boxes.old.items b).outs ++ place ∷ [] })) }

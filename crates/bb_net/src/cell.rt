@@ -1,10 +1,9 @@
-//! The cells of a netlist.
+//! The cells to which gates and operators are lowered: enough that each operator on bits is one cell.
 
-/// A cell of a netlist: a constant, an input, a gate over earlier cells, or an output pin of a box.
+/// A constant, an input, a gate over earlier cells, or an output pin of a box.
 ///
-/// A cell names other cells by their places in the list, counted from 0. `Input(i)` is input `i`, `Mux(c, t, e)` is
-/// `t` where `c` is 1 and `e` where it is 0. `BoxOut(b, p)` stands for pin `p` among the outputs of box `b`; inputs, boxes
-/// and pins are counted from 0 too.
+/// Operands are places in the list of cells, counted from 0, as inputs, boxes and pins are. `Mux(c, t, e)` is `t` where
+/// `c` is 1 and `e` where it is 0. `BoxOut(b, p)` is output pin `p` of box `b`.
 #[derive(Clone, Copy, Debug, PartialEq, Eq)]
 pub enum Cell {
     Const(bool),

@@ -1,55 +1,59 @@
-//! Laws of the conditions under which no contents of the boxes agree. The definitions stand in the specifications; each
-//! function here has laws as its contract and does nothing.
+//! Laws that order the conditions under which no contents of the boxes work, from known and wrong outputs to no tables
+//! at all.
+//!
+//! The conditions are stated on netlists, so that each check looks for one of them and knows nothing of designs. Each
+//! comes with what holds where it does not: a check that finds nothing says something positive too. Functions here do
+//! nothing; their contracts are the laws.
 
 ghost use Rattle.std.specs.Prelude.{◌≡◌, ◌<◌, ◌≤◌, ◌^◌, ◌⊎◌, ℕ, Bool, List, length, All};
 ghost use Rattle.bb_net.specs.Values.{flat};
 ghost use Rattle.bb_bits.specs.Numbers.{number_of, bits_of};
 ghost use Rattle.bb_bits.specs.Laws.RowLaws.{RowsHaveShape, BitsAreChosen, RowsHaveTable};
 ghost use Rattle.bb_net.specs.Netlists.{Netlist, IsNetlist};
-ghost use Rattle.bb_net.specs.Agreement.{IsVector, AreBoxOutputs, IsRight, AllRight};
-ghost use Rattle.bb_net.specs.Conditions.{IsKnownWrong, MayBeRight, IsAlwaysWrong, HasAlwaysWrong, PinBits, Suit, KnownWrongAmong, MayBeRightAmong, IsFirstHit, KnownWrongSomewhere, MayBeRightEverywhere, OneAlwaysWrong, EachSometimesRight, SomeAlwaysWrong, AllSometimesRight, SomeChoicesSuit, NoChoicesSuit, SomeTablesAgree, NoTablesAgree};
+ghost use Rattle.bb_net.specs.Equivalence.{IsVector, AreBoxOutputs, IsRight, AllRight};
+ghost use Rattle.bb_net.specs.Conditions.{IsKnownWrong, MayBeRight, IsAlwaysWrong, HasAlwaysWrong, PinBits, Suit, KnownWrongAmong, MayBeRightAmong, IsFirstHit, KnownWrongSomewhere, MayBeRightEverywhere, OneAlwaysWrong, EachSometimesRight, SomeAlwaysWrong, AllSometimesRight, SomeChoicesSuit, NoChoicesSuit, SomeTablesMakeEquivalent, NoTablesMakeEquivalent};
 
 use bb_bits::{
     number_is_below, number_spelled, number_spelled_once, rows_are_chosen, rows_are_tables,
     rows_have_shape,
 };
 
-/// Each condition is at least as strong as the next one.
+/// Each condition is at least as strong as the next one, so what shows one shows those after it too.
 pub fn conditions_weaken()
     ensures patterns { (spec imp : Netlist) (patterns : List (List Bool)) → All (IsVector imp) patterns
         → KnownWrongAmong spec imp patterns → KnownWrongSomewhere spec imp }
     ensures known { (spec imp : Netlist) → KnownWrongSomewhere spec imp → OneAlwaysWrong spec imp }
     ensures one { (spec imp : Netlist) → OneAlwaysWrong spec imp → SomeAlwaysWrong spec imp }
     ensures some { (spec imp : Netlist) → IsNetlist imp → SomeAlwaysWrong spec imp → NoChoicesSuit spec imp }
-    ensures choices { (spec imp : Netlist) → IsNetlist imp → NoChoicesSuit spec imp → NoTablesAgree spec imp }
+    ensures choices { (spec imp : Netlist) → IsNetlist imp → NoChoicesSuit spec imp → NoTablesMakeEquivalent spec imp }
 {
     laws_of_tables();
 }
 
-/// With at most one box, choices for its inputs are a table.
+/// With one box there is no nesting, so the check by choices already gives its table.
 pub fn choices_are_tables()
-    ensures found { (spec imp : Netlist) → IsNetlist imp → length imp.boxes ≤ 1 → SomeChoicesSuit spec imp → SomeTablesAgree spec imp }
-    ensures none { (spec imp : Netlist) → IsNetlist imp → length imp.boxes ≤ 1 → NoTablesAgree spec imp → NoChoicesSuit spec imp }
+    ensures found { (spec imp : Netlist) → IsNetlist imp → length imp.boxes ≤ 1 → SomeChoicesSuit spec imp → SomeTablesMakeEquivalent spec imp }
+    ensures none { (spec imp : Netlist) → IsNetlist imp → length imp.boxes ≤ 1 → NoTablesMakeEquivalent spec imp → NoChoicesSuit spec imp }
 {
     laws_of_tables();
 }
 
-/// A list of patterns has a first hit, or all its patterns may be right at all outputs.
+/// The first hit is at the first such pattern, and there at the first such output.
 pub fn hit_or_none()
     ensures { (spec imp : Netlist) (patterns : List (List Bool))
         → ((x : List Bool) × (j : ℕ) × IsFirstHit spec imp patterns x j) ⊎ MayBeRightAmong spec imp patterns }
 {}
 
-/// Each condition holds, or what stands beside it.
+/// Excluded middle for the conditions, in a logic that has none: each holds, or the fact stated beside it does.
 pub fn conditions_hold_or_not()
     ensures known { (spec imp : Netlist) → KnownWrongSomewhere spec imp ⊎ MayBeRightEverywhere spec imp }
     ensures one { (spec imp : Netlist) → OneAlwaysWrong spec imp ⊎ EachSometimesRight spec imp }
     ensures some { (spec imp : Netlist) → SomeAlwaysWrong spec imp ⊎ AllSometimesRight spec imp }
     ensures choices { (spec imp : Netlist) → NoChoicesSuit spec imp ⊎ SomeChoicesSuit spec imp }
-    ensures tables { (spec imp : Netlist) → NoTablesAgree spec imp ⊎ SomeTablesAgree spec imp }
+    ensures tables { (spec imp : Netlist) → NoTablesMakeEquivalent spec imp ⊎ SomeTablesMakeEquivalent spec imp }
 {}
 
-/// At one vector each condition holds, or what stands beside it; and bits at the pins suit, or do not.
+/// The same for one vector, and for one choice of bits at the pins.
 pub fn vectors_hold_or_not()
     ensures known { (spec imp : Netlist) (x : List Bool) (j : ℕ) → IsKnownWrong spec imp x j ⊎ MayBeRight spec imp x j }
     ensures one { (spec imp : Netlist) (x : List Bool) (j : ℕ) → IsAlwaysWrong spec imp x j ⊎ ((z : List Bool) × AreBoxOutputs imp z × IsRight spec imp x (flat imp x z) j) }
@@ -57,7 +61,6 @@ pub fn vectors_hold_or_not()
     ensures suit { (spec imp : Netlist) (chosen : List PinBits) → Suit spec imp chosen ⊎ (Suit spec imp chosen → ⊥) }
 {}
 
-// The laws of tables and of the numbers that bits spell.
 fn laws_of_tables()
     ensures shape { RowsHaveShape }
     ensures chosen { BitsAreChosen }

@@ -1,4 +1,7 @@
-//! A flat netlist with the texts of its inputs, registers, outputs and boxes.
+//! A flat netlist: what elaboration makes of one design, before it is paired.
+//!
+//! Registers are cut: present states become inputs and data become outputs, so designs with the same registers are
+//! compared as combinational ones. Names are kept because pairing matches inputs, registers and outputs by them.
 
 ghost use Rattle.std.specs.Prelude.{◌≡◌};
 ghost use Rattle.bb_net.specs.Flats.{FlatNet, IsFlat};
@@ -7,7 +10,8 @@ use crate::{BoxName, Net};
 use bb_bits::{Name, NoMemory};
 use std::marker::Model;
 
-/// A register bit: its text, the edge at which it takes its next state, and the number of the input that is its clock, if one is.
+/// A register bit: its name, the edge at which it takes its next state, and the number of the input that is its clock,
+/// if one is.
 #[derive(Debug, Drop)]
 pub struct Reg {
     pub text: Name,
@@ -27,11 +31,12 @@ impl Clone for Reg {
     }
 }
 
-/// A flat netlist: a netlist with the texts of its inputs, registers, outputs and boxes. Its inputs are those that have texts of
-/// their own and then the present states of the registers, its outputs those with texts and then the data of the registers.
+/// A flat netlist: inputs are those of the top and then the present states of the registers; outputs are those of the
+/// top and then the data of the registers.
 ///
-/// Texts of one kind differ, and each is one or more bytes from 33 to 126, as the name of the module of each box is. Boxes of one
-/// module have pins of the same texts. There are at most 2,000,000 cells, 2,000,000 outputs and 1,000,000 boxes.
+/// Names of one kind differ. Each is one or more bytes from 33 to 126, so it can be printed as it is; so is the name of
+/// each box's module. Boxes of one module have pins of the same names, so boxes that share contents by module fit each
+/// other unchecked. There are at most 2,000,000 cells, 2,000,000 outputs and 1,000,000 boxes.
 #[derive(Debug, Drop)]
 pub struct Flat {
     net: Net,
@@ -41,7 +46,7 @@ pub struct Flat {
     boxes: Vec<BoxName>,
 }
 
-/// The parts of a flat netlist.
+/// Lets pairing move cells and names out of a flat netlist instead of copying them.
 #[derive(Debug, Drop)]
 pub struct FlatParts {
     pub net: Net,
@@ -76,7 +81,7 @@ impl Clone for Flat {
 }
 
 impl Flat {
-    /// A flat netlist of these parts.
+    /// That the parts fit is required and not checked.
     pub fn of(
         net: Net,
         ins: Vec<Name>,
@@ -96,7 +101,7 @@ impl Flat {
         }
     }
 
-    /// The netlist.
+    /// Its inputs are the ports and then the register states, its outputs the ports and then the register data.
     pub fn net(&self) -> &Net
         ensures net { result.now ≡ self.now.net }
         ensures kept { IsFlat self.now }
@@ -104,7 +109,7 @@ impl Flat {
         &self.net
     }
 
-    /// The texts of the inputs, in order.
+    /// The input ports alone, in input order; the inputs after them are the registers'.
     pub fn ins(&self) -> &[Name]
         ensures ins { result.now ≡ self.now.ins }
         ensures kept { IsFlat self.now }
@@ -112,7 +117,7 @@ impl Flat {
         &self.ins
     }
 
-    /// The registers in order.
+    /// In the order of their inputs and outputs, which come after those of the ports.
     pub fn regs(&self) -> &[Reg]
         ensures regs { result.now ≡ self.now.regs }
         ensures kept { IsFlat self.now }
@@ -120,7 +125,7 @@ impl Flat {
         &self.regs
     }
 
-    /// The texts of the outputs, in order.
+    /// The output ports alone, in output order; the outputs after them are the registers'.
     pub fn outs(&self) -> &[Name]
         ensures outs { result.now ≡ self.now.outs }
         ensures kept { IsFlat self.now }
@@ -128,7 +133,7 @@ impl Flat {
         &self.outs
     }
 
-    /// The names of the boxes, in the order of the netlist.
+    /// In the order of the netlist's boxes.
     pub fn boxes(&self) -> &[BoxName]
         ensures boxes { result.now ≡ self.now.boxes }
         ensures kept { IsFlat self.now }
@@ -136,7 +141,7 @@ impl Flat {
         &self.boxes
     }
 
-    /// Its parts, which are moved out of it.
+    /// Moves the parts out; nothing is copied.
     pub fn into_parts(self) -> FlatParts
         ensures parts { record { net = result.net; ins = result.ins.items; regs = result.regs.items; outs = result.outs.items; boxes = result.boxes.items } ≡ self }
         ensures kept { IsFlat self }

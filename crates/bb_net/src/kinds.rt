@@ -1,5 +1,11 @@
-//! Boxes that share their contents: kinds, what belongs to the first box of each kind, and tables of kinds. The definitions stand in the
-//! specifications; but for the first, each function here has laws as its contract and does nothing.
+//! Sharing classes (`kinds`): boxes of one class hold one table.
+//!
+//! Classes are numbered in the order in which they first appear, as a restricted growth string (Knuth, TAOCP 4A,
+//! 7.2.1.5), since a partition has one such list. Two functions on lists carry all sharing: `spread` gives each box the
+//! table of its class, and `shown` is what belongs to the first box of each class. So the value with tables, and when
+//! tables fit or agree, keep one definition each, and a check mentions nothing else of classes.
+//!
+//! But for `own_kinds`, functions here do nothing; their contracts are the laws.
 
 ghost use Rattle.std.specs.Prelude.{◌≡◌, ◌≢◌, ◌<◌, ◌≤◌, ◌⊎◌, ◌↔◌, ℕ, List, [], ◌∷◌, ◌++◌, length, map, take, All, AllPairs, Contains, slice_index, IfOk};
 ghost use Rattle.std.specs.List.{range_with_len, slice_index_or};
@@ -7,14 +13,14 @@ ghost use Rattle.bb_bits.specs.Tables.{TableBits};
 ghost use Rattle.bb_net.specs.Netlists.{Netlist, Pins, box_at};
 ghost use Rattle.bb_net.specs.Values.{table_at, FitBoxes};
 ghost use Rattle.bb_net.specs.Completions.{table_bits};
-ghost use Rattle.bb_net.specs.Conditions.{SomeTablesAgree, NoTablesAgree};
+ghost use Rattle.bb_net.specs.Conditions.{SomeTablesMakeEquivalent, NoTablesMakeEquivalent};
 ghost use Rattle.bb_net.specs.Laws.KindLaws.{KindsAreOne, KindsGrowAgain, KindsGrowNew, KindsShowKeys, ModulesFit, PlacesAreKinds, PlacesFit, ShownKeysDiffer};
-ghost use Rattle.bb_net.specs.Kinds.{AreInOrder, AreKinds, FitKinds, IsFirstOfKind, first_places, shown, spread, SomeSharedTablesAgree, NoSharedTablesAgree};
+ghost use Rattle.bb_net.specs.Kinds.{AreNumberedInOrder, AreKinds, FitKinds, IsFirstOfKind, first_places, shown, spread, SomeSharedTablesMakeEquivalent, NoSharedTablesMakeEquivalent};
 
 use bb_bits::NoMemory;
 use std::alloc::Global;
 
-/// The kinds of so many boxes that share nothing: each is of a kind of its own.
+/// Each box in a class of its own, as where nothing is shared.
 pub fn own_kinds(alloc: Global, count: u32) -> Result<Vec<u32>, NoMemory>
     ensures kinds { IfOk result (λ kinds. kinds.items ≡ range_with_len 0 count) }
 {
@@ -25,14 +31,14 @@ pub fn own_kinds(alloc: Global, count: u32) -> Result<Vec<u32>, NoMemory>
     Ok(kinds)
 }
 
-/// A list of keys has one list of kinds.
+/// A list of keys has one list of classes, so these do not depend on how they were found.
 pub fn keys_have_kinds()
     ensures some { (keys : List (List ℕ)) → (kinds : List ℕ) × AreKinds keys kinds }
     ensures one { KindsAreOne }
 {}
 
-/// A key behind others has their kind or the next one; at the number of each kind stands its key, and each stands once. Boxes of one module
-/// may be of one kind.
+/// A key after others has their class or the next one; the key of each class is at its number, and no key twice. Boxes
+/// of one module may be of one class.
 pub fn keys_are_shown()
     ensures again { KindsGrowAgain }
     ensures new { KindsGrowNew }
@@ -41,12 +47,12 @@ pub fn keys_are_shown()
     ensures modules { ModulesFit }
 {}
 
-/// Kinds are numbered from 0, and a new one has the number of the kinds before it. A box has as many pins as the first box of its kind.
+/// A new class has the number of the classes before it, and a box has as many pins as the first box of its class.
 pub fn kinds_are_counted()
-    ensures front { (kinds : List ℕ) (n : ℕ) → n ≤ length kinds → AreInOrder kinds → AreInOrder (take n kinds) }
-    ensures new { (kinds : List ℕ) (b : ℕ) → AreInOrder kinds → b < length kinds → IsFirstOfKind kinds b
+    ensures prefix { (kinds : List ℕ) (n : ℕ) → n ≤ length kinds → AreNumberedInOrder kinds → AreNumberedInOrder (take n kinds) }
+    ensures new { (kinds : List ℕ) (b : ℕ) → AreNumberedInOrder kinds → b < length kinds → IsFirstOfKind kinds b
         → slice_index kinds b ≡ length (shown (take b kinds) (take b kinds)) }
-    ensures first { (kinds : List ℕ) (k : ℕ) → AreInOrder kinds → Contains kinds k
+    ensures first { (kinds : List ℕ) (k : ℕ) → AreNumberedInOrder kinds → Contains kinds k
         → (b : ℕ) × (b < length kinds) × IsFirstOfKind kinds b × (slice_index kinds b ≡ k) }
     ensures inputs { (kinds : List ℕ) (boxes : List Pins) (b : ℕ) → FitKinds kinds boxes → b < length boxes
         → length (box_at (shown kinds boxes) (slice_index kinds b)).ins ≡ length (box_at boxes b).ins }
@@ -54,23 +60,23 @@ pub fn kinds_are_counted()
         → length (box_at (shown kinds boxes) (slice_index kinds b)).outs ≡ length (box_at boxes b).outs }
 {}
 
-/// What is shown of boxes: for each kind, at its number, what belongs to its first box.
+/// For each class, at its number, `shown` has what belongs to its first box.
 pub fn kinds_are_shown<A>()
-    ensures count { (kinds : List ℕ) (xs : List A) (k : ℕ) → AreInOrder kinds → length xs ≡ length kinds
+    ensures count { (kinds : List ℕ) (xs : List A) (k : ℕ) → AreNumberedInOrder kinds → length xs ≡ length kinds
         → (k < length (shown kinds xs)) ↔ Contains kinds k }
-    ensures first { (kinds : List ℕ) (xs : List A) (none : A) (b : ℕ) → AreInOrder kinds → length xs ≡ length kinds → b < length kinds → IsFirstOfKind kinds b
+    ensures first { (kinds : List ℕ) (xs : List A) (none : A) (b : ℕ) → AreNumberedInOrder kinds → length xs ≡ length kinds → b < length kinds → IsFirstOfKind kinds b
         → slice_index_or (shown kinds xs) (slice_index kinds b) none ≡ slice_index_or xs b none }
     ensures again { (kinds : List ℕ) (xs : List A) (k : ℕ) (x : A) → length xs ≡ length kinds → Contains kinds k
         → shown (kinds ++ k ∷ []) (xs ++ x ∷ []) ≡ shown kinds xs }
     ensures new { (kinds : List ℕ) (xs : List A) (k : ℕ) (x : A) → length xs ≡ length kinds → (Contains kinds k → ⊥)
         → shown (kinds ++ k ∷ []) (xs ++ x ∷ []) ≡ shown kinds xs ++ x ∷ [] }
     ensures places { (xs : List A) → shown (range_with_len 0 (length xs)) xs ≡ xs }
-    ensures firsts { (kinds : List ℕ) (xs : List A) (none : A) → AreInOrder kinds → length xs ≡ length kinds
+    ensures firsts { (kinds : List ℕ) (xs : List A) (none : A) → AreNumberedInOrder kinds → length xs ≡ length kinds
         → shown kinds xs ≡ map (λ b. slice_index_or xs b none) (first_places kinds) }
-    ensures there { (kinds : List ℕ) → AreInOrder kinds → All (λ b. b < length kinds) (first_places kinds) }
+    ensures there { (kinds : List ℕ) → AreNumberedInOrder kinds → All (λ b. b < length kinds) (first_places kinds) }
 {}
 
-/// Kinds that all differ, as those of at most one box do and those of keys that all differ, are the places of the boxes.
+/// Where all classes differ they are the numbers of the boxes: with at most one box, or where nothing is shared.
 pub fn kinds_may_differ()
     ensures keys { (keys : List (List ℕ)) (kinds : List ℕ) → AreKinds keys kinds → AllPairs ◌≢◌ keys → AllPairs ◌≢◌ kinds }
     ensures one { (kinds : List ℕ) (boxes : List Pins) → FitKinds kinds boxes → length boxes ≤ 1 → AllPairs ◌≢◌ kinds }
@@ -80,7 +86,7 @@ pub fn kinds_may_differ()
     ensures spread { (tables : List TableBits) → spread (range_with_len 0 (length tables)) tables ≡ tables }
 {}
 
-/// Tables of kinds are tables of all boxes. Tables of all boxes that are the same at boxes of one kind are tables of kinds.
+/// Tables of classes are tables of all boxes; the converse needs that boxes of one class have the same table.
 pub fn tables_are_spread()
     ensures fit { (kinds : List ℕ) (boxes : List Pins) (tables : List TableBits) → FitKinds kinds boxes → FitBoxes tables (shown kinds boxes)
         → FitBoxes (spread kinds tables) boxes }
@@ -97,13 +103,14 @@ pub fn tables_are_spread()
     ensures bits { (kinds : List ℕ) (boxes : List Pins) → table_bits (shown kinds boxes) ≤ table_bits boxes }
 {}
 
-/// Some tables of kinds agree or none do. Where some do, some tables of boxes do; where all kinds differ, both say the same.
-pub fn shared_tables_agree()
-    ensures cases { (spec imp : Netlist) (kinds : List ℕ) → NoSharedTablesAgree spec imp kinds ⊎ SomeSharedTablesAgree spec imp kinds }
-    ensures some { (spec imp : Netlist) (kinds : List ℕ) → FitKinds kinds imp.boxes → SomeSharedTablesAgree spec imp kinds → SomeTablesAgree spec imp }
-    ensures none { (spec imp : Netlist) (kinds : List ℕ) → FitKinds kinds imp.boxes → NoTablesAgree spec imp → NoSharedTablesAgree spec imp kinds }
+/// Some tables of classes agree, or none do. Sharing allows fewer contents, so the former implies that some tables of
+/// boxes agree; where all classes differ, both say the same.
+pub fn shared_tables_make_equivalent()
+    ensures cases { (spec imp : Netlist) (kinds : List ℕ) → NoSharedTablesMakeEquivalent spec imp kinds ⊎ SomeSharedTablesMakeEquivalent spec imp kinds }
+    ensures some { (spec imp : Netlist) (kinds : List ℕ) → FitKinds kinds imp.boxes → SomeSharedTablesMakeEquivalent spec imp kinds → SomeTablesMakeEquivalent spec imp }
+    ensures none { (spec imp : Netlist) (kinds : List ℕ) → FitKinds kinds imp.boxes → NoTablesMakeEquivalent spec imp → NoSharedTablesMakeEquivalent spec imp kinds }
     ensures some_differ { (spec imp : Netlist) (kinds : List ℕ) → FitKinds kinds imp.boxes → AllPairs ◌≢◌ kinds
-        → SomeSharedTablesAgree spec imp kinds ↔ SomeTablesAgree spec imp }
+        → SomeSharedTablesMakeEquivalent spec imp kinds ↔ SomeTablesMakeEquivalent spec imp }
     ensures none_differ { (spec imp : Netlist) (kinds : List ℕ) → FitKinds kinds imp.boxes → AllPairs ◌≢◌ kinds
-        → NoSharedTablesAgree spec imp kinds ↔ NoTablesAgree spec imp }
+        → NoSharedTablesMakeEquivalent spec imp kinds ↔ NoTablesMakeEquivalent spec imp }
 {}

@@ -1,4 +1,7 @@
-//! Lists of cells in any order, as elaboration makes them.
+//! Unordered netlists, as elaboration makes them.
+//!
+//! Verilog has drivers in any order and joins nets by assignments. So operands may come later than their readers, and
+//! buffers (`Copy`) are cells; `order` resolves both.
 
 ghost use Rattle.std.specs.Prelude.{◌≡◌};
 ghost use Rattle.bb_net.specs.Loose.{LooseList};
@@ -6,9 +9,9 @@ ghost use Rattle.bb_net.specs.Loose.{LooseList};
 use crate::BoxPins;
 use std::marker::Model;
 
-/// A cell of a list in any order: those of a netlist, and copies.
+/// A cell of an unordered netlist: those of `Cell`, and buffers.
 ///
-/// Operands are places in the list, before the cell or behind it. `Copy(p)` has the value of the cell at place `p`.
+/// Operands are places in the list, before or after the cell. `Copy(p)` has the value of the cell at place `p`.
 #[derive(Clone, Copy, Debug, PartialEq, Eq)]
 pub enum LooseCell {
     Const(bool),
@@ -22,7 +25,7 @@ pub enum LooseCell {
     Copy(u32),
 }
 
-/// Cells in any order, with their boxes and the places of the outputs.
+/// An unordered netlist. It may have combinational loops until `order` has looked for them.
 #[derive(Debug, Drop)]
 pub struct Loose {
     pub(crate) inputs: u32,
@@ -40,7 +43,7 @@ impl Model for Loose {
 }
 
 impl Loose {
-    /// The list of these cells, boxes and places of outputs.
+    /// Nothing is checked here; `order` states what it requires.
     pub fn of(inputs: u32, cells: Vec<LooseCell>, boxes: Vec<BoxPins>, outs: Vec<u32>) -> Loose
         ensures list { result ≡ record { inputs = inputs; cells = cells.items; boxes = boxes.items; outs = outs.items } }
     {
@@ -52,14 +55,14 @@ impl Loose {
         }
     }
 
-    /// The cells.
+    /// In list order; an index is a place.
     pub fn cells(&self) -> &[LooseCell]
         ensures cells { result.now ≡ self.now.cells }
     {
         &self.cells
     }
 
-    /// The boxes.
+    /// In list order, which need not follow their dependence.
     pub fn boxes(&self) -> &[BoxPins]
         ensures boxes { result.now ≡ self.now.boxes }
     {

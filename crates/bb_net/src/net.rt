@@ -1,4 +1,6 @@
-//! Netlists, and the pins of their boxes.
+//! A netlist is a vector of cells in topological order, and an operand is an index into it. One walk from the front
+//! then gives every value, and the type itself rules out combinational loops. Unordered lists are a type of their own
+//! (`Loose`), so no check needs a case for them.
 
 ghost use Rattle.std.specs.Prelude.{◌≡◌, ◌+◌, ◌<◌, ◌^◌, [], IfOk};
 ghost use Rattle.bb_net.specs.Netlists.{Netlist, Pins, first_cells, IsNetlist};
@@ -8,7 +10,8 @@ use bb_bits::NoMemory;
 use std::alloc::Global;
 use std::marker::Model;
 
-/// The pins of a box: the cells at its input pins, and its own output cells, both in pin order.
+/// The input pins are places of the cells that drive them, the output pins places of the `BoxOut` cells, both in pin
+/// order.
 #[derive(Debug, Drop)]
 pub struct BoxPins {
     pub(crate) ins: Vec<u32>,
@@ -24,21 +27,21 @@ impl Model for BoxPins {
 }
 
 impl BoxPins {
-    /// The pins of a box with these places.
+    /// Nothing is checked here: the invariant of `Net` constrains the places.
     pub fn of(ins: Vec<u32>, outs: Vec<u32>) -> BoxPins
         ensures pins { result ≡ record { ins = ins.items; outs = outs.items } }
     {
         BoxPins { ins, outs }
     }
 
-    /// The places of the cells at the input pins.
+    /// Places of the driving cells, first pin first.
     pub fn ins(&self) -> &[u32]
         ensures ins { result.now ≡ self.now.ins }
     {
         &self.ins
     }
 
-    /// The places of the cells of the output pins.
+    /// Places of the box's `BoxOut` cells, first pin first.
     pub fn outs(&self) -> &[u32]
         ensures outs { result.now ≡ self.now.outs }
     {
@@ -57,10 +60,10 @@ impl Clone for BoxPins {
     }
 }
 
-/// A netlist: cells in an order in which each reads only earlier ones, its boxes, and the cells at its outputs.
+/// A netlist: cells of which each reads only earlier ones, its boxes, and the places of its outputs.
 ///
-/// Cells 0 and 1 are the constants 0 and 1, and the inputs follow in order. A box stands behind each box on whose
-/// outputs its input pins depend.
+/// Cells 0 and 1 are the constants 0 and 1, and input `i` is cell `i + 2`. A box comes after each box on whose outputs
+/// its input pins depend, so contents can be chosen box by box.
 #[derive(Debug, Drop)]
 pub struct Net {
     pub(crate) inputs: u32,
@@ -95,7 +98,7 @@ impl Clone for Net {
 }
 
 impl Net {
-    /// The netlist of the two constants and the inputs alone.
+    /// Where every build begins: the two constants and the inputs, no box and no output.
     #[tactic(auto, using(crate::proofs::NetLemmas::cells_begin))]
     pub fn start(alloc: Global, inputs: u32) -> Result<Net, NoMemory>
         requires { inputs + 2 < 2 ^ 32 }
@@ -110,14 +113,14 @@ impl Net {
         })
     }
 
-    /// What every netlist keeps; a call of it tells a proof, and does nothing.
+    /// Gives the invariant to a proof; does nothing at run time.
     pub fn keeps_its_order(&self)
         ensures { IsNetlist self.now }
     {
         let _ = &self.cells;
     }
 
-    /// The number of inputs.
+    /// Input `i` is cell `i + 2`.
     pub fn inputs(&self) -> u32
         ensures inputs { result ≡ self.now.inputs }
         ensures kept { IsNetlist self.now }
@@ -125,7 +128,7 @@ impl Net {
         self.inputs
     }
 
-    /// The cells in order.
+    /// In topological order; a cell's index is its place.
     pub fn cells(&self) -> &[Cell]
         ensures cells { result.now ≡ self.now.cells }
         ensures kept { IsNetlist self.now }
@@ -133,7 +136,7 @@ impl Net {
         &self.cells
     }
 
-    /// The boxes in order.
+    /// Each after the boxes on whose outputs its input pins depend.
     pub fn boxes(&self) -> &[BoxPins]
         ensures boxes { result.now ≡ self.now.boxes }
         ensures kept { IsNetlist self.now }
@@ -141,7 +144,7 @@ impl Net {
         &self.boxes
     }
 
-    /// The places of the cells at the outputs, in order.
+    /// Places, in output order; two outputs may have one place.
     pub fn outs(&self) -> &[u32]
         ensures outs { result.now ≡ self.now.outs }
         ensures kept { IsNetlist self.now }
@@ -150,7 +153,6 @@ impl Net {
     }
 }
 
-// The constants 0 and 1, and then the inputs in order.
 #[tactic(auto, using(crate::proofs::NetLemmas::cells_begin))]
 fn start_cells(alloc: Global, inputs: u32) -> Result<Vec<Cell>, NoMemory>
     requires { inputs + 2 < 2 ^ 32 }

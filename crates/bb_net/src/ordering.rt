@@ -1,4 +1,15 @@
-//! Cells in any order, put in an order in which each reads only earlier ones.
+//! Levelization: cells in any order are put in topological order, or a combinational loop is reported.
+//!
+//! Kahn's algorithm and not a depth-first search: there is no recursion, and cells that never get a place show that
+//! there is a loop. The loop is then searched for apart (`walks`), so a sound design pays nothing for its report.
+
+mod advancing;
+mod beginning;
+mod components;
+mod numbering;
+mod placing;
+mod ranks;
+mod walks;
 
 ghost use Rattle.std.specs.Prelude.{◌≡◌, ◌<◌, ◌++◌, [], ℕ, All, length, map, IfOk, IfErr, IfSome, IfNone, OnOk};
 ghost use Rattle.std.specs.BinaryHeap.{heap_items};
@@ -7,26 +18,27 @@ ghost use Rattle.bb_net.specs.Orders.{IsOrderOf, OrderKeepsValues, OrderHasNoWal
 ghost use Rattle.bb_net.specs.Inside.NetFaults.{IsFaultOf};
 ghost use Rattle.bb_net.specs.Inside.Placings.{IsAt, IsOpen, IsPlaced, IsPlacing, given_place};
 
-use crate::advancing::look_at_all;
-use crate::beginning::{begin, everyone};
-use crate::numbering::place_boxes;
-use crate::placing::Placing;
-use crate::walks::least_on_walk;
+use crate::ordering::advancing::look_at_all;
+use crate::ordering::beginning::{begin, everyone};
+use crate::ordering::numbering::place_boxes;
+use crate::ordering::placing::Placing;
+use crate::ordering::walks::least_on_walk;
 use crate::{Loose, Net};
 use bb_bits::NoMemory;
 use std::alloc::AllocError;
+pub use walks::dependences;
 
-/// A netlist whose cells are those of a list in any order, and for each box its number in the list.
+/// The cells in topological order. `boxes` has for each box of `net` its number in the list.
 #[derive(Debug, Drop)]
 pub struct Ordered {
     pub net: Net,
     pub boxes: Vec<u32>,
 }
 
-/// Why cells cannot be ordered.
+/// A list that is well formed has no other fault than a loop.
 #[derive(Debug, Drop)]
 pub enum NetFault {
-    /// The least place on a closed walk of dependence.
+    /// The least place on a combinational loop, so the report does not depend on the order of the search.
     Loop { place: u32 },
     NoMemory,
 }
@@ -42,7 +54,6 @@ impl From<AllocError> for NetFault {
     }
 }
 
-// The first cell that has no place.
 fn first_unplaced(to: &[Option<u32>]) -> Option<usize>
     ensures some { IfSome result (λ k. (k < length to.now) × IsOpen to.now k) }
     ensures none { IfNone result ((k : ℕ) → k < length to.now → IsPlaced to.now k) }
@@ -55,7 +66,7 @@ fn first_unplaced(to: &[Option<u32>]) -> Option<usize>
     None
 }
 
-// The fault of a list of which a cell found no place.
+// A cell without a place implies a loop, so the arm of `None` is dead.
 fn closed_walk(loose: &Loose, s: &Placing) -> Result<NetFault, NoMemory>
     requires placing { IsPlacing loose.now s.now [] [] }
     requires settled { s.now.fresh.items ≡ [] }
@@ -69,7 +80,6 @@ fn closed_walk(loose: &Loose, s: &Placing) -> Result<NetFault, NoMemory>
     }
 }
 
-// Adds the outputs of a list to a netlist in which each of its cells has its place.
 fn add_outs(net: &mut Net, outs: &[u32], to: &[Option<u32>]) -> Result<(), NoMemory>
     requires there { All (λ k. k < length to.now) outs.now }
     requires placed { (k place : ℕ) → IsAt to.now k place → place < length net.old.cells }
@@ -82,7 +92,6 @@ fn add_outs(net: &mut Net, outs: &[u32], to: &[Option<u32>]) -> Result<(), NoMem
     Ok(())
 }
 
-// The netlist of a list each of whose cells has its place.
 fn finish(loose: &Loose, s: Placing) -> Result<Ordered, NoMemory>
     requires placing { IsPlacing loose.now s [] [] }
     requires settled { s.fresh.items ≡ [] }
@@ -104,11 +113,11 @@ fn finish(loose: &Loose, s: Placing) -> Result<Ordered, NoMemory>
     })
 }
 
-/// The cells in an order in which each reads only earlier ones, or the least place on a closed walk.
+/// Levelizes a list, or reports the least place on a combinational loop.
 ///
-/// This is Kahn's algorithm: a cell gets its place as soon as its operands have theirs. A cell waits for one open operand at
-/// a time, and a box for one input pin, so that operands need not be counted. The time is proportional to the numbers of
-/// cells, pins and operands, but for the heap of the boxes that are ready.
+/// This is Kahn's algorithm: a cell gets its place as soon as its operands have theirs. A cell waits for one open
+/// operand at a time, and a box for one input pin, so operands need not be counted. The time is linear in cells, pins
+/// and operands, but for the heap of ready boxes.
 pub fn order(loose: &Loose) -> Result<Ordered, NetFault>
     requires { IsLoose loose.now }
     ensures ok { IfOk result (λ ordered. IsOrderOf loose.now ordered.net ordered.boxes.items) }
@@ -123,17 +132,17 @@ pub fn order(loose: &Loose) -> Result<Ordered, NetFault>
     }
 }
 
-/// The values of an ordered netlist are the only solution of the equations of the list that was ordered.
+/// Levelization keeps the meaning: the values of the netlist are the only solution of the list's equations.
 pub fn order_keeps_values()
     ensures { OrderKeepsValues }
 {}
 
-/// A list that can be ordered has no closed walk of dependence.
+/// With `order_exists`: a list has an order exactly where it has no loop.
 pub fn order_has_no_walk()
     ensures { OrderHasNoWalk }
 {}
 
-/// A list without a closed walk of dependence can be ordered.
+/// The converse of `order_has_no_walk`: a loop is the only reason to fail.
 pub fn order_exists()
     ensures { OrderExists }
 {}

@@ -1,4 +1,7 @@
-//! A specification and an implementation beside each other, with the texts of their inputs, outputs and boxes.
+//! A specification and an implementation side by side, which is what every check is given.
+//!
+//! Both have the same inputs and outputs in the same order, so checks compare by position and look up no name. A pair
+//! owns its netlists: cells and names are moved into it and not copied.
 
 ghost use Rattle.std.specs.Prelude.{◌≡◌, List};
 ghost use Rattle.bb_net.specs.Pairs.{NetPair, BoxTexts, AreBeside, AreSmall, IsPair, box_key};
@@ -7,14 +10,16 @@ use crate::Net;
 use bb_bits::{Name, NoMemory};
 use std::marker::Model;
 
-/// The text of an output: a top output, or the next state of a register.
+/// A top output, or (`next`) the register bit whose next state the output is: registers are cut, and their present
+/// states are inputs.
 #[derive(Debug, Drop)]
 pub struct OutName {
     pub next: bool,
     pub text: Name,
 }
 
-/// The path of a box, the name of its module, and the texts of its pins, in pin order.
+/// The module is kept because with shared contents boxes of one module hold one table. The names of pins are in pin
+/// order.
 #[derive(Debug, Drop)]
 pub struct BoxName {
     path: Name,
@@ -45,7 +50,7 @@ impl Clone for BoxName {
 }
 
 impl BoxName {
-    /// The name of a box with this path, of this module, and with these texts of its pins.
+    /// Nothing is checked here: `Flat` and `Pair` keep that there is one name for each pin.
     pub fn of(path: Name, module: Name, ins: Vec<Name>, outs: Vec<Name>) -> BoxName
         ensures name { result ≡ record { path = path; «module» = «module»; ins = ins.items; outs = outs.items } }
     {
@@ -64,28 +69,28 @@ impl BoxName {
         &self.path
     }
 
-    /// The name of its module.
+    /// Identifies contents that are shared: a text has one module of a name, and the language has no parameters.
     pub fn module(&self) -> &Name
         ensures module { result.now ≡ self.now.module }
     {
         &self.module
     }
 
-    /// The key by which its contents are told: the name of its module where boxes of one module share theirs, and else its path.
+    /// What a report calls the contents: the module where boxes of one module share them, else the path.
     pub fn key(&self, shared: bool) -> &Name
         ensures key { result.now ≡ box_key shared self.now }
     {
         if shared { &self.module } else { &self.path }
     }
 
-    /// The texts of the input pins.
+    /// In pin order, as the places of `BoxPins::ins`.
     pub fn ins(&self) -> &[Name]
         ensures ins { result.now ≡ self.now.ins }
     {
         &self.ins
     }
 
-    /// The texts of the output pins.
+    /// In pin order, as the places of `BoxPins::outs`.
     pub fn outs(&self) -> &[Name]
         ensures outs { result.now ≡ self.now.outs }
     {
@@ -95,9 +100,9 @@ impl BoxName {
 
 /// A specification without boxes and an implementation, over the same inputs and with as many outputs.
 ///
-/// It has a text for each input and each output, and a name and a kind for each box, in their orders. Boxes of one kind hold one table;
-/// kinds are numbered from 0 in the order in which they first appear. Each net has at most 8,000,000 cells, 2,000,000 outputs and
-/// 1,000,000 boxes, and inputs and box pins are at most 2,048 together.
+/// Names and sharing classes (`kinds`) are in the order of what they belong to. Boxes of one class hold one table;
+/// classes are numbered from 0 in the order in which they first appear. Each net has at most 8,000,000 cells, 2,000,000
+/// outputs and 1,000,000 boxes, so a class is a number of 32 bits. Inputs and box pins are at most 2,048 together.
 #[derive(Debug, Drop)]
 pub struct Pair {
     spec: Net,
@@ -119,7 +124,7 @@ impl Model for Pair {
 }
 
 impl Pair {
-    /// The pair of these nets, which are moved into it, with these texts.
+    /// Moves both nets into the pair. That they fit is required and not checked.
     pub fn of(
         spec: Net,
         imp: Net,
@@ -144,7 +149,7 @@ impl Pair {
         }
     }
 
-    /// The specification.
+    /// It has no box.
     pub fn spec(&self) -> &Net
         ensures spec { result.now ≡ self.now.spec }
         ensures kept { IsPair self.now }
@@ -152,7 +157,7 @@ impl Pair {
         &self.spec
     }
 
-    /// The implementation.
+    /// Its inputs and outputs are numbered as the specification's.
     pub fn imp(&self) -> &Net
         ensures imp { result.now ≡ self.now.imp }
         ensures kept { IsPair self.now }
@@ -160,7 +165,7 @@ impl Pair {
         &self.imp
     }
 
-    /// The texts of the inputs, in order.
+    /// In input order, which is that of both nets.
     pub fn ins(&self) -> &[Name]
         ensures ins { result.now ≡ self.now.ins }
         ensures kept { IsPair self.now }
@@ -168,7 +173,7 @@ impl Pair {
         &self.ins
     }
 
-    /// The texts of the outputs, in order.
+    /// In output order, which is that of both nets.
     pub fn outs(&self) -> &[OutName]
         ensures outs { result.now ≡ self.now.outs }
         ensures kept { IsPair self.now }
@@ -176,7 +181,7 @@ impl Pair {
         &self.outs
     }
 
-    /// The names of the implementation's boxes, in order.
+    /// In the order of the implementation's boxes.
     pub fn boxes(&self) -> &[BoxName]
         ensures boxes { result.now ≡ self.now.boxes }
         ensures kept { IsPair self.now }
@@ -184,7 +189,7 @@ impl Pair {
         &self.boxes
     }
 
-    /// The kind of each box, in their order.
+    /// The sharing class of each box, in box order; a class not seen before has the next number.
     pub fn kinds(&self) -> &[u32]
         ensures kinds { result.now ≡ self.now.kinds }
         ensures kept { IsPair self.now }

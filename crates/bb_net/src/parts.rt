@@ -1,4 +1,5 @@
-//! The cells and boxes of a list in any order, by their numbers.
+//! Access to an unordered netlist by number. Operands come in a fixed array with a count, so reading them allocates
+//! nothing.
 
 ghost use Rattle.std.specs.Prelude.{◌≡◌, ◌<◌, ◌≤◌, [], length, take};
 ghost use Rattle.bb_net.specs.Netlists.{box_at};
@@ -8,7 +9,8 @@ use crate::{BoxPins, Loose, LooseCell};
 use std::alloc::Global;
 
 impl LooseCell {
-    // The places that a cell reads which is no output pin of a box: the first so many of three.
+    // Those of a cell that is no output pin: the first `count` of three. An output pin reads the pins of its box
+    // instead.
     pub(crate) fn operands(self) -> ([u32; 3], usize)
         ensures count { result.1 ≤ 3 }
         ensures places { take result.1 result.0 ≡ operands [] self }
@@ -23,35 +25,32 @@ impl LooseCell {
 }
 
 impl Loose {
-    // The number of cells.
     pub(crate) fn cell_count(&self) -> usize
         ensures count { result ≡ length self.now.cells }
     {
         self.cells.len()
     }
 
-    // The number of boxes.
     pub(crate) fn box_count(&self) -> usize
         ensures count { result ≡ length self.now.boxes }
     {
         self.boxes.len()
     }
 
-    /// The number of inputs.
+    /// Input `i` is at place `i + 2`, as in a netlist.
     pub fn input_count(&self) -> u32
         ensures count { result ≡ self.now.inputs }
     {
         self.inputs
     }
 
-    /// The places of the outputs.
+    /// In output order.
     pub fn output_places(&self) -> &[u32]
         ensures outs { result.now ≡ self.now.outs }
     {
         &self.outs
     }
 
-    // The cell at a place.
     pub(crate) fn cell(&self, place: u32) -> LooseCell
         requires there { place < length self.now.cells }
         ensures cell { result ≡ loose_at self.now place }
@@ -59,7 +58,6 @@ impl Loose {
         self.cells[place as usize]
     }
 
-    // The pins of a box.
     pub(crate) fn pins(&self, b: u32) -> &BoxPins
         requires there { b < length self.now.boxes }
         ensures pins { result.now ≡ box_at self.now.boxes b }
@@ -67,7 +65,6 @@ impl Loose {
         &self.boxes[b as usize]
     }
 
-    // Where memory for lists about this one is found.
     pub(crate) fn allocator(&self) -> Global {
         *self.cells.allocator()
     }

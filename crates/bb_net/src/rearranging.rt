@@ -1,4 +1,8 @@
-//! A netlist with its inputs in another order and with its outputs picked anew.
+//! Permutes inputs and selects outputs, so that netlists whose ports have the same names in different orders can be
+//! compared by position.
+//!
+//! Operands are renumbered in place and the cells keep their order: every cell reads only earlier ones still, so
+//! nothing is levelized again.
 
 ghost use Rattle.std.specs.Prelude.{◌≡◌, ◌+◌, ◌<◌, ◌≤◌, ◌^◌, ◌++◌, All, length, map, take, drop, slice_index, IfOk};
 ghost use Rattle.bb_net.specs.Netlists.{Netlist};
@@ -9,14 +13,13 @@ use crate::{BoxPins, Cell, Net};
 use bb_bits::NoMemory;
 use std::alloc::Global;
 
-// The new number of an input.
 fn new_input(numbers: &[u32], i: u32) -> u32
     ensures { result ≡ new_input numbers.now i }
 {
     numbers.get(i as usize).copied().unwrap_or(i)
 }
 
-// The new place of a cell.
+// The constants stay. Past the inputs `numbers` has no entry, so those places stay too.
 fn new_place(numbers: &[u32], place: u32) -> u32
     requires { All (λ n. n + 2 < 2 ^ 32) numbers.now }
     ensures { result ≡ new_place numbers.now place }
@@ -28,7 +31,6 @@ fn new_place(numbers: &[u32], place: u32) -> u32
     }
 }
 
-// A cell with its operands moved.
 fn moved(numbers: &[u32], cell: Cell) -> Cell
     requires { All (λ n. n + 2 < 2 ^ 32) numbers.now }
     ensures { result ≡ moved_cell numbers.now cell }
@@ -49,7 +51,6 @@ fn moved(numbers: &[u32], cell: Cell) -> Cell
     }
 }
 
-// Moves the operands of cells.
 fn move_cells(numbers: &[u32], cells: &mut [Cell])
     requires { All (λ n. n + 2 < 2 ^ 32) numbers.now }
     ensures { cells.new ≡ map (moved_cell numbers.now) cells.old }
@@ -59,8 +60,8 @@ fn move_cells(numbers: &[u32], cells: &mut [Cell])
     }
 }
 
-// Moves the operands of the cells from a place on.
-fn move_cells_behind(numbers: &[u32], cells: &mut [Cell], first: usize)
+// The cells before `first` are the constants and the inputs, which keep their places.
+fn move_cells_after(numbers: &[u32], cells: &mut [Cell], first: usize)
     requires numbers { All (λ n. n + 2 < 2 ^ 32) numbers.now }
     requires there { first ≤ length cells.old }
     ensures { cells.new ≡ take first cells.old ++ map (moved_cell numbers.now) (drop first cells.old) }
@@ -68,7 +69,6 @@ fn move_cells_behind(numbers: &[u32], cells: &mut [Cell], first: usize)
     move_cells(numbers, &mut cells[first..]);
 }
 
-// Moves places.
 fn move_places(numbers: &[u32], places: &mut [u32])
     requires { All (λ n. n + 2 < 2 ^ 32) numbers.now }
     ensures { places.new ≡ map (new_place numbers.now) places.old }
@@ -78,7 +78,6 @@ fn move_places(numbers: &[u32], places: &mut [u32])
     }
 }
 
-// Moves the pins of a box.
 fn move_pins(numbers: &[u32], pins: &mut BoxPins)
     requires { All (λ n. n + 2 < 2 ^ 32) numbers.now }
     ensures { pins.new ≡ moved_pins (new_place numbers.now) pins.old }
@@ -87,7 +86,6 @@ fn move_pins(numbers: &[u32], pins: &mut BoxPins)
     move_places(numbers, &mut pins.outs);
 }
 
-// Moves the pins of boxes.
 fn move_boxes(numbers: &[u32], boxes: &mut [BoxPins])
     requires { All (λ n. n + 2 < 2 ^ 32) numbers.now }
     ensures { boxes.new ≡ map (moved_pins (new_place numbers.now)) boxes.old }
@@ -97,7 +95,6 @@ fn move_boxes(numbers: &[u32], boxes: &mut [BoxPins])
     }
 }
 
-// The places of the outputs that are picked.
 fn picked(alloc: Global, numbers: &[u32], outs: &[u32], picks: &[u32]) -> Result<Vec<u32>, NoMemory>
     requires numbers { All (λ n. n + 2 < 2 ^ 32) numbers.now }
     requires picks { All (λ j. j < length outs.now) picks.now }
@@ -111,8 +108,7 @@ fn picked(alloc: Global, numbers: &[u32], outs: &[u32], picks: &[u32]) -> Result
 }
 
 impl Net {
-    /// The netlist with its inputs in another order and with other outputs: its input i becomes the input `numbers[i]`, and output
-    /// j is the output `picks[j]` that it had.
+    /// Input `i` becomes input `numbers[i]`, and output `j` is the old output `picks[j]`.
     pub fn rearranged(self, alloc: Global, numbers: &[u32], picks: &[u32]) -> Result<Net, NoMemory>
         requires count { length numbers.now ≡ self.inputs }
         requires numbers { All (λ n. n < self.inputs) numbers.now }
@@ -126,7 +122,7 @@ impl Net {
             mut boxes,
             outs: _,
         } = self;
-        move_cells_behind(numbers, &mut cells, inputs as usize + 2);
+        move_cells_after(numbers, &mut cells, inputs as usize + 2);
         move_boxes(numbers, &mut boxes);
         Ok(Net {
             inputs,
@@ -137,12 +133,12 @@ impl Net {
     }
 }
 
-/// In a rearranged netlist a cell has the value that it had.
+/// A cell has the value that it had, where each input has the bit that it had.
 pub fn rearranged_keeps_values()
     ensures { RearrangedKeepsValues }
 {}
 
-/// A netlist can be rearranged by numbers of its inputs, and its outputs picked.
+/// Every netlist can be rearranged, so a statement about rearranged ones is never empty.
 pub fn rearranged_nets_exist()
     ensures { RearrangedNetsExist }
 {}

@@ -1,8 +1,11 @@
-//! The boxes of a pair that are the first of their kind, and how many bits tables of all kinds have.
+//! Sharing classes of a pair's boxes: the first member of each class, and the bits of one table a class.
+//!
+//! Classes are numbered by first appearance, so a box begins a class exactly where its class is the number of classes
+//! so far. One pass without a set finds them.
 
 ghost use Rattle.std.specs.Prelude.{◌≡◌, ◌<◌, ◌≤◌, ◌^◌, length, IfOk, IfSome, IfNone};
 ghost use Rattle.bb_net.specs.Completions.{table_bits};
-ghost use Rattle.bb_net.specs.Kinds.{AreInOrder, FitKinds, first_places, shown};
+ghost use Rattle.bb_net.specs.Kinds.{AreNumberedInOrder, FitKinds, first_places, shown};
 
 use crate::tables::{MOST_BITS, box_bits};
 use crate::{BoxPins, Pair};
@@ -10,14 +13,14 @@ use bb_bits::NoMemory;
 use std::alloc::Global;
 
 impl Pair {
-    /// The boxes that are the first of their kind, by their numbers, in order.
+    /// Numbers of boxes, increasing: one for each sharing class.
     pub fn first_boxes(&self, alloc: Global) -> Result<Vec<u32>, NoMemory>
         ensures firsts { IfOk result (λ firsts. firsts.items ≡ first_places self.now.kinds) }
     {
         first_of_kinds(alloc, self.kinds())
     }
 
-    /// How many bits tables of all kinds have together; None exactly where they have more than 2^24.
+    /// Counts one table for each sharing class; None exactly where the tables have more than 2^24 bits together.
     pub fn table_bits(&self) -> Option<u32>
         ensures some { IfSome result (λ bits. bits ≡ table_bits (shown self.now.kinds self.now.imp.boxes)) }
         ensures small { IfSome result (λ bits. bits ≤ 2 ^ 24) }
@@ -27,9 +30,9 @@ impl Pair {
     }
 }
 
-// The places at which a kind stands first: there it is the number of those before it.
+// A class first appears where its number is the number of classes before it.
 fn first_of_kinds(alloc: Global, kinds: &[u32]) -> Result<Vec<u32>, NoMemory>
-    requires ordered { AreInOrder kinds.now }
+    requires ordered { AreNumberedInOrder kinds.now }
     requires few { length kinds.now < 2 ^ 32 }
     ensures firsts { IfOk result (λ firsts. firsts.items ≡ first_places kinds.now) }
 {
@@ -42,7 +45,6 @@ fn first_of_kinds(alloc: Global, kinds: &[u32]) -> Result<Vec<u32>, NoMemory>
     Ok(firsts)
 }
 
-// The bits of the tables of the first box of each kind, if they are not too many.
 fn count_kind_bits(kinds: &[u32], boxes: &[BoxPins]) -> Option<u32>
     requires fit { FitKinds kinds.now boxes.now }
     ensures some { IfSome result (λ bits. bits ≡ table_bits (shown kinds.now boxes.now)) }

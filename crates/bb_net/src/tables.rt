@@ -1,4 +1,7 @@
-//! Values of a netlist whose boxes hold tables.
+//! Simulation with a table in each box, and the size of tables.
+//!
+//! This is here, below the checks, as two of them give tables. The size counts all tables together, and is compared
+//! with its bound before any table is made.
 
 ghost use Rattle.std.specs.Prelude.{◌≡◌, ◌+◌, ◌*◌, ◌^◌, ◌<◌, ◌≤◌, ℕ, All, length, map, IfSome, IfNone};
 ghost use Rattle.bb_bits.specs.Numbers.{number_of};
@@ -12,11 +15,11 @@ use crate::value::cell_bit;
 use crate::{BoxPins, Cell, Net};
 use bb_bits::{Table, number_doubles, number_is_below, tables_have_few_inputs};
 
-// The most bits that tables may have together.
+// The most bits of tables that a report may print.
 pub(crate) const MOST_BITS: u64 = 1 << 24;
 
 impl Net {
-    /// How many bits tables for all boxes have together; None exactly where they have more than 2^24.
+    /// Counts a table for each box; None exactly where they have more than 2^24 bits together.
     pub fn table_bits(&self) -> Option<u32>
         ensures some { IfSome result (λ bits. bits ≡ table_bits self.now.boxes) }
         ensures small { IfSome result (λ bits. bits ≤ 2 ^ 24) }
@@ -25,8 +28,8 @@ impl Net {
         count_bits(&self.boxes)
     }
 
-    /// Writes the value of each cell, for the inputs `x` and boxes that hold the tables, one for each kind. Each box has a kind, in order,
-    /// and the table of its kind has its numbers of pins.
+    /// `tables` has one for each sharing class. Each box has a class in `kinds`, and the table of its class has its
+    /// numbers of pins; that classes are numbered in order is not required.
     pub fn value_with(&self, x: &[bool], tables: &[Table], kinds: &[u32], out: &mut [bool])
         requires inputs { length x.now ≡ self.now.inputs }
         requires tables { FitBoxes (spread kinds.now tables.now) self.now.boxes }
@@ -37,7 +40,6 @@ impl Net {
     }
 }
 
-// Writes the bit of each cell in order.
 fn write_tabled(
     cells: &[Cell],
     boxes: &[BoxPins],
@@ -58,7 +60,6 @@ fn write_tabled(
     }
 }
 
-// The bit of a cell whose operands are written.
 fn tabled_cell(
     cell: Cell,
     boxes: &[BoxPins],
@@ -81,7 +82,6 @@ fn tabled_cell(
     }
 }
 
-// The bit of an output pin of a box that holds a table.
 fn tabled_pin(pins: &BoxPins, table: &Table, pin: u32, out: &[bool]) -> bool
     requires inputs { table.now.inputs ≡ length pins.now.ins }
     requires pin { pin < table.now.outputs }
@@ -94,7 +94,7 @@ fn tabled_pin(pins: &BoxPins, table: &Table, pin: u32, out: &[bool]) -> bool
     table.bit(row, pin)
 }
 
-// The number that the bits at the places of input pins spell, the first one most significant.
+// The first input pin is the most significant bit.
 fn row_number(inputs: u32, places: &[u32], out: &[bool]) -> u32
     requires inputs { inputs ≡ length places.now }
     requires few { inputs ≤ 24 }
@@ -113,7 +113,7 @@ fn row_number(inputs: u32, places: &[u32], out: &[bool]) -> u32
     number
 }
 
-// The bits of the table of a box, if they are not too many.
+// A box without outputs has no bits, whatever its inputs. The tests before the shift keep it within 64 bits.
 pub(crate) fn box_bits(pins: &BoxPins) -> Option<u64>
     ensures some { IfSome result (λ bits. bits ≡ length pins.now.outs * 2 ^ length pins.now.ins) }
     ensures small { IfSome result (λ bits. bits ≤ 2 ^ 24) }
@@ -130,7 +130,7 @@ pub(crate) fn box_bits(pins: &BoxPins) -> Option<u64>
     (bits <= MOST_BITS).then_some(bits)
 }
 
-// The bits of the tables of boxes, if they are not too many.
+// The bound is looked at after each box, so the sum cannot overflow.
 fn count_bits(boxes: &[BoxPins]) -> Option<u32>
     ensures some { IfSome result (λ bits. bits ≡ table_bits boxes.now) }
     ensures small { IfSome result (λ bits. bits ≤ 2 ^ 24) }

@@ -1,4 +1,8 @@
-//! Values of a netlist in three values.
+//! Three-valued simulation with every box output unknown (IEEE 1364-2005, 7.2 and 5.1.13).
+//!
+//! A known value is the cell's value whatever the boxes hold, so one vector with a known and wrong output refutes all
+//! contents at once. The price is that correlations of unknowns are lost: the exclusive or of an unknown bit with
+//! itself is unknown. Checks by BDD see these.
 
 ghost use Rattle.std.specs.Prelude.{◌≡◌, ◌+◌, ◌<◌, ◌≤◌, ℕ, Bool, List, [], length, map, Option, Some};
 ghost use Rattle.bb_net.specs.Netlists.{Netlist, IsNetlist, IsOrdered, ReadsBefore, cell_at};
@@ -8,7 +12,7 @@ ghost use Rattle.bb_net.specs.Ternary.{not3, and3, or3, xor3, mux3, same3, tern_
 use crate::{Cell, Net};
 
 impl Net {
-    /// Writes the value of each cell in three values, for the inputs `x`, all box outputs being unknown.
+    /// Every box output is `None`. What `out` holds before is not read.
     pub fn tern(&self, x: &[bool], out: &mut [Option<bool>])
         requires inputs { length x.now ≡ self.now.inputs }
         requires room { length out.old ≡ length self.now.cells }
@@ -18,7 +22,6 @@ impl Net {
     }
 }
 
-// Writes the value of each cell in order.
 fn write_known(cells: &[Cell], x: &[bool], out: &mut [Option<bool>])
     requires room { length out.old ≡ length cells.now }
     requires ordered { (place : ℕ) → place < length cells.now → ReadsBefore (length x.now) [] place (cell_at cells.now place) }
@@ -30,7 +33,6 @@ fn write_known(cells: &[Cell], x: &[bool], out: &mut [Option<bool>])
     }
 }
 
-// The value of a cell whose operands are written.
 fn cell_known(cell: Cell, x: &[bool], out: &[Option<bool>]) -> Option<bool>
     requires { ReadsBefore (length x.now) [] (length out.now) cell }
     ensures { result ≡ gate3 x.now (tern_of out.now) cell }
@@ -86,7 +88,7 @@ fn mux_known(c: Option<bool>, t: Option<bool>, e: Option<bool>) -> Option<bool>
     }
 }
 
-// The bit that both branches have.
+// IEEE 1364-2005, 5.1.13: where the condition is unknown, equal data pass.
 fn same_known(t: Option<bool>, e: Option<bool>) -> Option<bool>
     ensures { result ≡ same3 t e }
 {
@@ -96,23 +98,23 @@ fn same_known(t: Option<bool>, e: Option<bool>) -> Option<bool>
     }
 }
 
-/// A netlist has a three-valued value.
+/// The equations of three values have a solution, defined cell by cell: a cell reads only earlier ones.
 pub fn tern_exists()
     ensures { (net : Netlist) (x : List Bool) → IsOrdered net → IsTern net x (tern net x) }
 {}
 
-/// A netlist has only one three-valued value.
+/// They have no other: two solutions agree from the front on, cell by cell.
 pub fn tern_is_unique()
     ensures { (net : Netlist) (x : List Bool) (values : List (Option Bool)) → IsOrdered net → IsTern net x values → values ≡ tern net x }
 {}
 
-/// A known value is the value of the cell whatever the boxes give.
+/// Soundness of three-valued simulation: a known value holds for all contents of the boxes.
 pub fn known_is_value()
     ensures { (net : Netlist) (x : List Bool) (box : ℕ → ℕ → List Bool → Bool) (place : ℕ) (bit : Bool)
         → tern_of (tern net x) place ≡ Some bit → bit_of (value_of net x box) place ≡ bit }
 {}
 
-/// Without boxes every value is known, and is the cell's value.
+/// Without boxes every value is known, so a specification goes through the same code as an implementation.
 pub fn known_without_boxes()
     ensures { (net : Netlist) (x z : List Bool) → IsNetlist net → net.boxes ≡ [] → tern net x ≡ map Some (flat net x z) }
 {}

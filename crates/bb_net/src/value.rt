@@ -1,4 +1,8 @@
-//! Values of a netlist for free box outputs.
+//! Two-valued simulation with free box outputs.
+//!
+//! What a box gives is a parameter of the value. Free bits, tables, and contents that several boxes share are choices
+//! of it, so each law is stated once. Free bits are written to their places first; one walk in topological order then
+//! writes every other cell.
 
 ghost use Rattle.std.specs.Prelude.{◌≡◌, ◌≢◌, ◌+◌, ◌<◌, ◌≤◌, ℕ, [], length, slice_index, take, Bool, List};
 ghost use Rattle.bb_net.specs.Netlists.{Netlist, IsOrdered, IsPinAt, ReadsBefore, cell_at};
@@ -6,7 +10,7 @@ ghost use Rattle.bb_net.specs.Values.{bit_of, gate, output_pins, value_of, IsVal
 
 use crate::{BoxPins, Cell, Net};
 
-// The bit of a cell whose operands are written, where `here` is the bit of a box output.
+// `here` is the bit of a box output, which operands do not determine.
 pub(crate) fn cell_bit(cell: Cell, here: bool, x: &[bool], out: &[bool]) -> bool
     requires { ReadsBefore (length x.now) [] (length out.now) cell }
     ensures { result ≡ gate [] x.now (λ b p ins. here) (bit_of out.now) cell }
@@ -29,7 +33,7 @@ pub(crate) fn cell_bit(cell: Cell, here: bool, x: &[bool], out: &[bool]) -> bool
     }
 }
 
-// Writes the bit of each cell in order. At a box output its bit stands already.
+// A box output reads the bit that is at its own place already.
 fn write_cells(cells: &[Cell], x: &[bool], out: &mut [bool])
     requires room { length out.old ≡ length cells.now }
     requires ordered { (place : ℕ) → place < length cells.now → ReadsBefore (length x.now) [] place (cell_at cells.now place) }
@@ -41,7 +45,6 @@ fn write_cells(cells: &[Cell], x: &[bool], out: &mut [bool])
     }
 }
 
-// Writes bits at the places of a box's output cells, in pin order.
 fn place_pins(outs: &[u32], bits: &[bool], out: &mut [bool])
     requires bits { length bits.now ≡ length outs.now }
     requires there { (p : ℕ) → p < length outs.now → slice_index outs.now p < length out.old }
@@ -55,7 +58,7 @@ fn place_pins(outs: &[u32], bits: &[bool], out: &mut [bool])
     }
 }
 
-// Writes free bits at the places of all output pins, box after box.
+// The bits are box after box, in each box pin by pin.
 fn place_outputs(boxes: &[BoxPins], z: &[bool], out: &mut [bool])
     requires bits { length z.now ≡ output_pins boxes.now }
     requires there { (b p place : ℕ) → IsPinAt boxes.now b p place → place < length out.old }
@@ -72,24 +75,24 @@ fn place_outputs(boxes: &[BoxPins], z: &[bool], out: &mut [bool])
     }
 }
 
-/// A netlist has a value: its cells' bits can be their gates' functions of the bits that they read.
+/// The equations of the cells have a solution, defined cell by cell: a cell reads only earlier ones.
 pub fn value_exists()
     ensures { (net : Netlist) (x : List Bool) (box : ℕ → ℕ → List Bool → Bool) → IsOrdered net → IsValue net x box (value_of net x box) }
 {}
 
-/// A netlist has only one value.
+/// They have no other: two solutions agree from the front on, cell by cell.
 pub fn value_is_unique()
     ensures { (net : Netlist) (x : List Bool) (box : ℕ → ℕ → List Bool → Bool) (bits : List Bool)
         → IsOrdered net → IsValue net x box bits → bits ≡ value_of net x box }
 {}
 
-/// Boxes that give the same at the bits of their input pins give the same value.
+/// Contents matter only at the rows that the vector brings to the boxes.
 pub fn value_goes_by_boxes()
     ensures { ValueGoesByBoxes }
 {}
 
 impl Net {
-    /// Writes the value of each cell, for the inputs `x` and the box outputs `z`, both in order, box after box.
+    /// `x` is in input order, `z` box after box in pin order. What `out` holds before is not read.
     pub fn value(&self, x: &[bool], z: &[bool], out: &mut [bool])
         requires inputs { length x.now ≡ self.now.inputs }
         requires outputs { length z.now ≡ output_pins self.now.boxes }

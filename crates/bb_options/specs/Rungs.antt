@@ -1,4 +1,4 @@
--- The checks of the ladder in their order, those that options ask for, and the bounds of options.
+-- The checks of the ladder in their order, those that options request, and the bounds of options.
 use Rattle.std.specs.Prelude.{ℕ, ◌≤◌, ◌&&◌, Bool, nat_le, List, [], ◌∷◌, codes}
 use Rattle.std.specs.List.{filter}
 use Rattle.bb_options.specs.declared.options.Options.{Options}
@@ -25,13 +25,13 @@ abbrev pub all_rungs : List Rung
 all_rungs = Ternary ∷ Symbolic ∷ Local ∷ Output ∷ Input ∷ Expand ∷ []
 
 -- those from one to another
-abbrev pub is_asked : Options → Rung → Bool
-is_asked o r = nat_le (rank o.from) (rank r) && nat_le (rank r) (rank o.to)
+abbrev pub is_requested : Options → Rung → Bool
+is_requested o r = nat_le (rank o.from) (rank r) && nat_le (rank r) (rank o.to)
 
-abbrev pub asked_rungs : Options → List Rung
-asked_rungs o = filter (is_asked o) all_rungs
+abbrev pub requested_rungs : Options → List Rung
+requested_rungs o = filter (is_requested o) all_rungs
 
--- the bounds are in their ranges, and the first check does not stand behind the last
+-- the bounds are in their ranges, and the first check is not after the last
 pub record AreBounds (o : Options) : Type 0 where
   pub order : rank o.from ≤ rank o.to
   pub seed : 1 ≤ o.seed

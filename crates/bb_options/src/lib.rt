@@ -1,5 +1,6 @@
-//! The checks of the ladder by their names, and the options of a run: which checks are run, and within which bounds. They
-//! stand below the checks themselves, so that what reads the words of a command waits for none of these.
+//! The checks of the ladder by their names, and the options of a run: which checks are run, and within which bounds.
+//! This crate is below the checks, so that what reads the words of a command line is proved beside them and does not
+//! wait for them.
 #![tactic(auto)]
 
 mod options;

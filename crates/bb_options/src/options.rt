@@ -1,28 +1,29 @@
-//! Which checks are run, and their bounds.
+//! The options of a run. Bounds are on what a check holds (patterns, nodes, clauses) and not on time, so that a report
+//! is the same on every machine.
 
 use crate::rung::Rung;
 
-/// Which checks are run, and their bounds.
+/// All bounds are checked when the words are read; `AreBounds` has them as a definition.
 #[derive(Clone, Copy, Debug)]
 pub struct Options {
-    /// The first check.
     pub from: Rung,
-    /// The last one, which does not stand before the first.
+    /// The last check, never before `from`, so that a report always has the line of a check.
     pub to: Rung,
-    /// Whether the checks go on behind an error.
+    /// Whether the checks go on after one that finds an error.
     pub all: bool,
-    /// How many patterns are drawn beside those that are always tried: at most 4,096.
+    /// Patterns drawn at random, in addition to those that are always tried; at most 4,096.
     pub patterns: u32,
-    /// Where the drawing starts: at least 1.
+    /// The seed of the generator, at least 1.
     pub seed: u64,
-    /// How many nodes a check by diagrams may hold: at most 50,000,000.
+    /// The node limit of a check by BDDs, at most 50,000,000.
     pub nodes: u32,
-    /// How many results it may remember: 1 to 1,048,576.
+    /// The entries of the BDD operation cache, 1 to 1,048,576.
     pub cache: u32,
-    /// How many clauses an expansion may have: at most 8,000,000.
+    /// The clause limit of an expansion, at most 8,000,000.
     pub clauses: u32,
-    /// Whether the report shows the proof of a mistake that an expansion finds.
+    /// Whether an error that the expansion finds is reported with its proof.
     pub proof: bool,
-    /// Whether all instances of one empty module have one content, told by the module's name, in place of one each.
+    /// Whether all instances of one black-box module share one content, which is reported under the module's name;
+    /// otherwise each has its own.
     pub shared: bool,
 }

@@ -1,28 +1,29 @@
-//! The checks, by their names.
+//! The checks of the ladder: simulation, then BDDs, then SAT. Later checks find all that earlier ones find, but the
+//! report of an earlier one says more about an error: an output and a vector, then only a vector, then neither.
 
 ghost use Rattle.std.specs.Prelude.{◌≡◌};
 ghost use Rattle.bb_options.specs.Rungs.{rank, rung_name};
 
-/// The checks of the ladder. Each finds every mistake that the one before it finds, and more.
+/// In the order of the ladder. Each check finds every error that the one before it finds, and more.
 #[derive(Clone, Copy, Debug, PartialEq, Eq)]
 pub enum Rung {
-    /// Patterns in three values, the boxes unknown.
+    /// Simulation of patterns in three values (0, 1, unknown), with unknown box outputs.
     Ternary,
-    /// All vectors in three values, the boxes unknown.
+    /// The same at all vectors, by BDDs.
     Symbolic,
-    /// An output alone is wrong at some vector, whatever the boxes give.
+    /// Each output alone: is it wrong at some vector, whatever the boxes give?
     Local,
-    /// The outputs together are wrong at some vector, whatever the boxes give.
+    /// All outputs together: at some vector no box outputs make all of them right.
     Output,
-    /// Whatever the boxes give for their inputs alone, box by box, some output is wrong at some vector. With one box, and with
-    /// nested boxes, this is exact.
+    /// All outputs and all vectors, where each box sees its own inputs and those of the boxes before it. Exact with one
+    /// box, and with nested boxes.
     Input,
-    /// Whatever tables the boxes hold, some output is wrong at some vector, by clauses over all vectors. This is exact.
+    /// By SAT, over tables for the boxes and the vectors that are needed. Exact.
     Expand,
 }
 
 impl Rung {
-    /// Its place in the ladder, from 0 on.
+    /// From 0 on, in the order of the ladder.
     pub fn rank(self) -> u8
         ensures rank { result ≡ rank self }
     {
@@ -36,7 +37,7 @@ impl Rung {
         }
     }
 
-    /// Its name in words and reports.
+    /// As it is written in options and in reports.
     pub fn name(self) -> &'static str
         ensures name { result.now ≡ rung_name self }
     {

@@ -4,16 +4,16 @@ use Rattle.std.proofs.lemmas.Grind.{common_steps}
 use Rattle.std.specs.Io.KnownBytes.{Consumes, IsAtEnd}
 
 -- the pieces fill the limit
-pub front-full : (before now : Option (List ℕ)) (limit : ℕ) (bytes : List ℕ) → Consumes before now bytes → length bytes ≡ limit
+pub prefix-full : (before now : Option (List ℕ)) (limit : ℕ) (bytes : List ℕ) → Consumes before now bytes → length bytes ≡ limit
     → IfSome before (λ left. bytes ≡ take limit left)
-front-full None now limit bytes read full = tt
-front-full (Some xs) None limit bytes read full = absurd read
-front-full (Some xs) (Some ys) limit bytes read full = grind (arith, common_steps, read, full)
+prefix-full None now limit bytes read full = tt
+prefix-full (Some xs) None limit bytes read full = absurd read
+prefix-full (Some xs) (Some ys) limit bytes read full = grind (arith, common_steps, read, full)
 
 -- the last read gave nothing
-pub front-end : (before mid now : Option (List ℕ)) (limit : ℕ) (bytes nothing : List ℕ) → Consumes before mid bytes
+pub prefix-end : (before mid now : Option (List ℕ)) (limit : ℕ) (bytes nothing : List ℕ) → Consumes before mid bytes
     → Consumes mid now nothing → nothing ≡ [] → IsAtEnd now → length bytes ≤ limit → IfSome before (λ left. bytes ≡ take limit left)
-front-end None mid now limit bytes nothing read last none end within = tt
-front-end (Some xs) None now limit bytes nothing read last none end within = absurd read
-front-end (Some xs) (Some ys) None limit bytes nothing read last none end within = absurd last
-front-end (Some xs) (Some ys) (Some zs) limit bytes nothing read last none end within = grind (arith, common_steps, read, last, none, end, within)
+prefix-end None mid now limit bytes nothing read last none end within = tt
+prefix-end (Some xs) None now limit bytes nothing read last none end within = absurd read
+prefix-end (Some xs) (Some ys) None limit bytes nothing read last none end within = absurd last
+prefix-end (Some xs) (Some ys) (Some zs) limit bytes nothing read last none end within = grind (arith, common_steps, read, last, none, end, within)

@@ -1,4 +1,4 @@
--- What the code says to itself: no clause of the top call rests on it.
+-- What code and proofs share: no clause of the top call rests on it.
 pub mod KeptFiles
 pub mod MemFiles
 pub mod MemSink

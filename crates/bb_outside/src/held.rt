@@ -1,4 +1,6 @@
-//! What files in memory hold under a name.
+//! Contents of files in memory, for both kinds of these. Contents are a function of names: the first file of a name
+//! counts, and an unknown name has the empty text, so a clause on what is held has no case for a file that is missing.
+
 ghost use Rattle.std.specs.Prelude.{◌≡◌, take, IfOk};
 ghost use Rattle.bb_outside.specs.Inside.MemFiles.{text_under, entries};
 
@@ -6,7 +8,7 @@ use crate::NoMemory;
 use std::alloc::Global;
 use std::rc::Rc;
 
-// The bytes of the first file of this name.
+// The first file of this name counts. An unknown name has the empty text, so that contents are a function of names.
 fn text<'a>(files: &'a [(String, Vec<u8>)], name: &str) -> &'a [u8]
     ensures { result.now ≡ text_under (entries files.now) name.now }
 {
@@ -18,8 +20,8 @@ fn text<'a>(files: &'a [(String, Vec<u8>)], name: &str) -> &'a [u8]
     &[]
 }
 
-// The first of them, as many as the limit says, or all where there are fewer.
-pub(crate) fn front(
+// A copy, as a real read makes one.
+pub(crate) fn prefix(
     alloc: Global,
     files: &[(String, Vec<u8>)],
     name: &str,

@@ -1,4 +1,6 @@
-//! Files that keep what was read.
+//! A wrapper over any files that keeps what was read. The list is here and neither in the top call nor in each kind of
+//! files: the top call stays one body that knows of no list, and tests use the wrapper that the program uses.
+
 ghost use Rattle.std.specs.Prelude.{◌≡◌, ◌<◌, ◌≤◌, ◌^◌, ◌++◌, ◌∷◌, [], ℕ, List, take, IfOk, IfSome, IsErrOf, OnOk, OnErr, option_map, vec_len};
 ghost use Rattle.bb_outside.specs.Counts.{IsRead, outcome_of};
 ghost use Rattle.bb_outside.specs.Inside.KeptFiles.{entries, reads_of};
@@ -8,19 +10,19 @@ use std::alloc::{AllocError, Global};
 use std::marker::Model;
 use std::rc::Rc;
 
-/// A read that gave bytes or failed.
+/// One read. Reads that found no memory are not listed.
 #[derive(Debug, Drop)]
 pub struct KeptRead {
-    /// The name of its file.
+    /// The name that was requested.
     pub name: String,
-    /// How many bytes it asked for at most.
+    /// The limit of the read, in bytes.
     pub limit: u64,
-    /// The bytes that it gave, or nothing where it failed.
+    /// None where the read failed.
     pub gave: Option<Rc<Vec<u8>>>,
 }
 
-/// Files over others, which keep a list of the reads since then, and so tell what each gave. The bytes are those that the others gave, and
-/// no copy of them. A read for which the list finds no room answers want of memory, and is no failure even where the others failed.
+/// Lists the reads since the files were wrapped. Bytes are shared with the caller and not copied. A read for which the
+/// list finds no room reports lack of memory and is no failure, even where the wrapped files failed.
 #[derive(Debug, Drop)]
 pub struct KeptFiles<F: Files + Drop> {
     files: F,
@@ -32,13 +34,13 @@ impl<F: Files + Drop> Model for KeptFiles<F> {
 
     ghost Value = { Kept F };
 
-    ghost view = { λ k. record { files = k.files; told = entries k.reads.items } };
+    ghost view = { λ k. record { files = k.files; reported = entries k.reads.items } };
 }
 
 impl<F: Files + Drop> KeptFiles<F> {
-    /// These files, with an empty list.
+    /// The list begins empty, whatever the files read before.
     pub fn new(alloc: Global, files: F) -> KeptFiles<F>
-        ensures { result ≡ record { files = files; told = [] } }
+        ensures { result ≡ record { files = files; reported = [] } }
     {
         KeptFiles {
             files,
@@ -46,15 +48,14 @@ impl<F: Files + Drop> KeptFiles<F> {
         }
     }
 
-    /// The reads since these files were wrapped.
+    /// In the order of the reads.
     pub fn reads(&self) -> &[KeptRead]
-        ensures { entries result.now ≡ self.now.told }
+        ensures { entries result.now ≡ self.now.reported }
     {
         &self.reads
     }
 }
 
-// Adds a read to a list.
 fn keep(
     alloc: Global,
     reads: &mut Vec<KeptRead>,
@@ -74,22 +75,22 @@ fn keep(
 impl<F: Files + Drop> Files for KeptFiles<F> {
     ghost holds = { λ k name. F.holds k.files name };
 
-    ghost reads = { λ k. reads_of (F.reads k.files).count k.told };
+    ghost reads = { λ k. reads_of (F.reads k.files).count k.reported };
 
     fn read(&mut self, alloc: Global, name: &str, limit: u64) -> Result<Rc<Vec<u8>>, FileFault>
         ensures within { IfOk result (λ bytes. vec_len bytes.value ≤ limit) }
         ensures bytes { IfOk result (λ bytes. IfSome (F.holds self.old.files name.now) (λ held. bytes.value.items ≡ take limit held)) }
 
-        // The list has this read more, or is the same where memory was wanting.
-        ensures told { IfSome (outcome_of result) (λ gave. self.new.told ≡ self.old.told ++ record { name = name.now; limit = limit; gave = gave } ∷ []) }
-        ensures untold { IsErrOf result FileFault.NoMemory → self.new.told ≡ self.old.told }
+        // The list is longer by this read, or the same after lack of memory.
+        ensures reported { IfSome (outcome_of result) (λ gave. self.new.reported ≡ self.old.reported ++ record { name = name.now; limit = limit; gave = gave } ∷ []) }
+        ensures untold { IsErrOf result FileFault.NoMemory → self.new.reported ≡ self.old.reported }
 
-        // Bytes or a failure are what the other files answered to a read of this name and limit.
+        // The result is that of the wrapped files, for this name and limit.
         ensures passed { IfSome (outcome_of result) (λ gave. IsRead (F.reads self.old.files) (F.reads self.new.files) name.now limit (Some gave)) }
 
-        // What a caller over any files sees.
+        // The clauses of the trait.
         ensures holds { (n : List ℕ) → F.holds self.new.files n ≡ F.holds self.old.files n }
-        ensures reads { IsRead (reads_of (F.reads self.old.files).count self.old.told) (reads_of (F.reads self.new.files).count self.new.told) name.now limit (outcome_of result) }
+        ensures reads { IsRead (reads_of (F.reads self.old.files).count self.old.reported) (reads_of (F.reads self.new.files).count self.new.reported) name.now limit (outcome_of result) }
     {
         let answer = self.files.read(alloc, name, limit);
         let gave = match &answer {

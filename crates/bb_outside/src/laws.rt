@@ -1,8 +1,11 @@
-//! What a reader expects of the definitions that the clauses cite.
+//! Laws of the definitions that clauses on files and sinks cite. Each function has a law as its contract and does
+//! nothing.
+
 ghost use Rattle.bb_outside.specs.Counts.{RoseIsGrowth};
 ghost use Rattle.bb_outside.specs.Inside.MemFiles.{FirstOfTheNameCounts};
 
-/// A count rose exactly where it grew, or stands at the last value that it can have.
+/// Counts saturate, so "it rose" also holds of a count at its last value: a premise that no failure was counted is then
+/// never met.
 pub fn rose_is_growth()
     ensures { RoseIsGrowth }
 {}

@@ -1,7 +1,7 @@
-//! What lies outside: files that are read and a sink that takes the report. Each is a trait whose clauses
-//! speak of what is held or was written and of counts of failures; one pair of types keeps everything in
-//! memory and says exactly what it does, another is the real file system and standard output. A third pair never fails.
-//! A wrapper keeps what files gave.
+//! The outside of the program as two traits: files that are read, and a sink that takes the report. Their clauses speak
+//! of what is held or was written and of counts of failures, so that one body of the top call serves the system, tests
+//! and callers in memory. Of each trait there are three kinds: one in memory that fails by a plan, for tests; the real
+//! one; and one that never fails. A wrapper over any files keeps what was read.
 #![tactic(auto)]
 
 mod files;

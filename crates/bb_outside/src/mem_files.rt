@@ -1,15 +1,18 @@
-//! Files in memory, which fail by a list.
+//! Files in memory whose reads fail by a list of numbers, so that tests reach each failure of a read at will. Which
+//! read fails is known beforehand, so the contract says exactly what each read does.
+
 ghost use Rattle.std.specs.Prelude.{◌≡◌, ◌≤◌, ◌↔◌, ℕ, List, Option, Some, take, map, length, Contains, IfOk, IfSome, IsErrOf, vec_len, string_bytes};
 ghost use Rattle.bb_outside.specs.Counts.{IsRead, outcome_of};
 ghost use Rattle.bb_outside.specs.Inside.MemFiles.{text_under, is_failing, after_read, entries, reads_of};
 
-use crate::held::front;
+use crate::held::prefix;
 use crate::{FileFault, Files};
 use std::alloc::Global;
 use std::marker::Model;
 use std::rc::Rc;
 
-/// Files in memory. Looking up an unknown name gives the empty text, and of files with one name the first is found.
+/// An unknown name has the empty text; of files of one name the first counts. It keeps no list of its reads: that would
+/// bind every body over files to a meaning that only some have.
 #[derive(Debug, Drop)]
 pub struct MemFiles {
     files: Vec<(String, Vec<u8>)>,
@@ -27,7 +30,7 @@ impl Model for MemFiles {
 }
 
 impl MemFiles {
-    /// Files by name, and the numbers of the reads that fail. The first read has number 0.
+    /// `failing` has the numbers of the reads that fail, counted from 0.
     pub fn new(files: Vec<(String, Vec<u8>)>, failing: Vec<u64>) -> MemFiles
         ensures { result ≡ record { files = entries files.items; failing = failing.items; reads = 0; faults = 0 } }
     {
@@ -49,11 +52,11 @@ impl Files for MemFiles {
         ensures within { IfOk result (λ bytes. vec_len bytes.value ≤ limit) }
         ensures bytes { IfOk result (λ bytes. bytes.value.items ≡ take limit (text_under self.old.files name.now)) }
 
-        // It fails exactly where the number of the call is in the list. Only the counts change.
+        // Fails exactly where `failing` has the number of the read. Contents never change.
         ensures fails { IsErrOf result FileFault.Failed ↔ Contains self.old.failing self.old.reads }
         ensures after { self.new ≡ after_read self.old }
 
-        // What a caller over any files sees.
+        // The clauses of the trait.
         ensures holds { (n : List ℕ) → Some (text_under self.new.files n) ≡ Some (text_under self.old.files n) }
         ensures reads { IsRead (reads_of self.old) (reads_of self.new) name.now limit (outcome_of result) }
     {
@@ -63,6 +66,6 @@ impl Files for MemFiles {
             self.faults = self.faults.saturating_add(1);
             return Err(FileFault::Failed);
         }
-        Ok(front(alloc, &self.files, name, limit)?)
+        Ok(prefix(alloc, &self.files, name, limit)?)
     }
 }

@@ -1,4 +1,6 @@
-//! A sink in memory, which takes and fails by a plan.
+//! A sink in memory that takes and fails by a plan, so that tests reach every way in which a real sink behaves: whole
+//! pieces, short writes, and failures.
+
 ghost use Rattle.std.specs.Prelude.{◌≡◌, ◌<◌, ◌≤◌, take, ◌+◌, ◌↔◌, [], ◌++◌, Some, max, length, drop, IfOk, OnOk, OnErr, IsOk, IsErr, vec_len, vec_capacity};
 ghost use Rattle.std.specs.Io.KnownBytes.{WriteAppends};
 ghost use Rattle.bb_outside.specs.Counts.{CountsWhere};
@@ -8,16 +10,17 @@ use crate::{Failed, NoMemory, Sink};
 use std::alloc::Global;
 use std::marker::Model;
 
-/// What one call of a sink in memory does.
+/// One step of a plan.
 #[derive(Clone, Copy, Debug, PartialEq, Eq)]
 pub enum Take {
-    /// It takes at most this many bytes, but one at least.
+    /// Takes at most this many bytes, but at least one: a sink that takes nothing of a piece never ends.
     Some(u32),
-    /// It fails.
+    /// Fails, and takes nothing.
     Fail,
 }
 
-/// A sink in memory. Each call follows the next entry of the plan, and past the plan each takes the whole piece.
+/// Each call follows the next step of the plan; after its last step each piece is taken whole. Room is reserved
+/// beforehand, so that lack of room is a failure that a test can plan.
 #[derive(Debug, Drop)]
 pub struct MemSink {
     bytes: Vec<u8>,
@@ -41,7 +44,7 @@ impl Model for MemSink {
 impl MemSink {
     ghost use Rattle.bb_outside.specs.Inside.MemSink.{PlannedSink};
 
-    /// An empty sink with no room.
+    /// Without room each `put` fails: call `reserve` first.
     pub fn new(alloc: Global, plan: Vec<Take>) -> MemSink
         ensures { result ≡ record { bytes = []; room = 0; plan = plan.items; faults = 0 } }
     {
@@ -54,7 +57,7 @@ impl MemSink {
         }
     }
 
-    /// Makes room for at least `n` more bytes.
+    /// `n` counts from now, not from the start. Never fails where the room suffices already.
     pub fn reserve(&mut self, n: u64) -> Result<(), NoMemory>
         ensures ok { OnOk result (self.new ≡ record self.old { room = max self.old.room n }) }
         ensures err { OnErr result (self.new ≡ self.old) }
@@ -67,7 +70,7 @@ impl MemSink {
         Ok(())
     }
 
-    /// The bytes taken so far.
+    /// In the order in which they were taken; failed calls add none.
     pub fn bytes(&self) -> &[u8]
         ensures { result.now ≡ self.now.bytes }
     {
@@ -75,7 +78,7 @@ impl MemSink {
     }
 }
 
-// How many bytes the first entry of a plan takes of a piece of this length.
+// None where the step fails.
 fn share(plan: &[Take], len: usize) -> Option<usize>
     ensures { result ≡ wanted plan.now len }
 {
@@ -86,7 +89,7 @@ fn share(plan: &[Take], len: usize) -> Option<usize>
     }
 }
 
-// The index of the next entry of a plan, or its length at the end.
+// Stays at the end of the plan.
 fn index_after(plan: &[Take], at: usize) -> usize
     requires { at ≤ length plan.now }
     ensures within { result ≤ length plan.now }
@@ -95,7 +98,7 @@ fn index_after(plan: &[Take], at: usize) -> usize
     if at < plan.len() { at + 1 } else { at }
 }
 
-// Appends bytes for which there is room.
+// Cannot fail, since the room was reserved.
 fn append(bytes: &mut Vec<u8>, piece: &[u8])
     requires { vec_len bytes.old + length piece.now ≤ vec_capacity bytes.old }
     ensures items { bytes.new.items ≡ bytes.old.items ++ piece.now }
@@ -110,13 +113,13 @@ impl Sink for MemSink {
     ghost faults = { λ s. s.faults };
 
     fn put(&mut self, piece: &[u8]) -> Result<usize, Failed>
-        // It takes what the plan says, or fails where the plan says so or the room is too small.
+        // Fails where the plan says so or the room is too small.
         ensures taken { IfOk result (λ n. wanted self.old.plan (length piece.now) ≡ Some n) }
         ensures takes { IfOk result (λ n. self.new ≡ after_put self.old piece.now n) }
         ensures fails { IsErr result ↔ Refuses self.old (length piece.now) }
         ensures refused { OnErr result (self.new ≡ after_refusal self.old) }
 
-        // What a caller over any sink sees.
+        // The clauses of the trait.
         ensures at_most { IfOk result (λ n. n ≤ length piece.now) }
         ensures at_least { 0 < length piece.now → IfOk result (λ n. 1 ≤ n) }
         ensures bytes { WriteAppends (Some self.old.bytes) (Some self.new.bytes) result piece.now }

@@ -1,17 +1,19 @@
-//! Files in memory that never fail.
+//! Files in memory that never fail, for callers who have the texts and want the status alone. They count their reads,
+//! since the trait promises that a count rises, and keep no list: what they hold is known anyway.
+
 ghost use Rattle.std.specs.Prelude.{◌≡◌, ◌≤◌, ℕ, List, Some, take, IfOk, IsErrOf, vec_len};
 ghost use Rattle.bb_outside.specs.Counts.{IsRead, next_count, outcome_of};
 ghost use Rattle.bb_outside.specs.Inside.MemFiles.{entries, text_under};
 ghost use Rattle.bb_outside.specs.Inside.QuietFiles.{holds_of, reads_of};
 
-use crate::held::front;
+use crate::held::prefix;
 use crate::{FileFault, Files};
 use std::alloc::Global;
 use std::marker::Model;
 use std::rc::Rc;
 
-/// Files in memory whose reads never fail. Looking up an unknown name gives the empty text, and of files with one name the first is
-/// found, as in [`MemFiles`](crate::MemFiles). A read answers bytes or want of memory.
+/// An unknown name has the empty text; of files of one name the first counts, as in [`MemFiles`](crate::MemFiles). A
+/// read gives bytes or lack of memory.
 #[derive(Debug, Drop)]
 pub struct QuietFiles {
     files: Vec<(String, Vec<u8>)>,
@@ -28,7 +30,7 @@ impl Model for QuietFiles {
 }
 
 impl QuietFiles {
-    /// Files by name.
+    /// No read has been counted yet.
     pub fn new(files: Vec<(String, Vec<u8>)>) -> QuietFiles
         ensures { result ≡ record { files = entries files.items; reads = 0 } }
     {
@@ -45,15 +47,15 @@ impl Files for QuietFiles {
         ensures within { IfOk result (λ bytes. vec_len bytes.value ≤ limit) }
         ensures bytes { IfOk result (λ bytes. bytes.value.items ≡ take limit (text_under self.old.files name.now)) }
 
-        // It never fails, and the count of reads alone changes.
+        // Never fails, and only the count of reads changes.
         ensures never_fails { IsErrOf result FileFault.Failed → ⊥ }
         ensures after { self.new ≡ record self.old { reads = next_count self.old.reads } }
 
-        // What a caller over any files sees.
+        // The clauses of the trait.
         ensures holds { (n : List ℕ) → holds_of self.new n ≡ holds_of self.old n }
         ensures reads { IsRead (reads_of self.old) (reads_of self.new) name.now limit (outcome_of result) }
     {
         self.reads = self.reads.saturating_add(1);
-        Ok(front(alloc, &self.files, name, limit)?)
+        Ok(prefix(alloc, &self.files, name, limit)?)
     }
 }

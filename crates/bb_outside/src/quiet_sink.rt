@@ -1,4 +1,6 @@
-//! A sink that never fails.
+//! A sink that never fails, for callers who want the status alone. It keeps nothing, so it needs no memory and has no
+//! failure to count.
+
 ghost use Rattle.std.specs.Prelude.{◌≡◌, ◌+◌, ◌-◌, ◌^◌, ◌<◌, ◌≤◌, None, length, min, IfOk, IsErr, IsOk};
 ghost use Rattle.std.specs.Io.KnownBytes.{WriteAppends};
 ghost use Rattle.bb_outside.specs.Counts.{CountsWhere};
@@ -6,7 +8,7 @@ ghost use Rattle.bb_outside.specs.Counts.{CountsWhere};
 use crate::{Failed, Sink};
 use std::marker::Model;
 
-/// A sink that takes each piece whole and keeps none of it, for a caller who wants the status alone. It counts the bytes.
+/// Takes each piece whole and keeps none of it; it counts bytes.
 #[derive(Debug, Drop)]
 pub struct QuietSink {
     taken: u64,
@@ -21,14 +23,14 @@ impl Model for QuietSink {
 }
 
 impl QuietSink {
-    /// A sink that has taken nothing.
+    /// The count begins at 0.
     pub fn new() -> QuietSink
         ensures { result ≡ 0 }
     {
         QuietSink { taken: 0 }
     }
 
-    /// How many bytes it has taken. The count stays at its last value, 2^64 - 1.
+    /// In bytes; stays at 2^64 - 1 when it is there.
     pub fn taken(&self) -> u64
         ensures { result ≡ self.now }
     {
@@ -42,12 +44,12 @@ impl Sink for QuietSink {
     ghost faults = { λ _. 0 };
 
     fn put(&mut self, piece: &[u8]) -> Result<usize, Failed>
-        // It takes the whole piece, and counts it.
+        // Takes the whole piece and counts it.
         ensures takes { IsOk result }
         ensures whole { IfOk result (λ n. n ≡ length piece.now) }
         ensures counts { self.new ≡ min (self.old + length piece.now) (2 ^ 64 - 1) }
 
-        // What a caller over any sink sees.
+        // The clauses of the trait.
         ensures at_most { IfOk result (λ n. n ≤ length piece.now) }
         ensures at_least { 0 < length piece.now → IfOk result (λ n. 1 ≤ n) }
         ensures bytes { WriteAppends None None result piece.now }

@@ -1,4 +1,7 @@
-//! The files of the system.
+//! The files of the system. Callers over any files learn nothing of what they hold: no contract can say that, since
+//! nothing is known beforehand and a file may change between two calls. For an open file the private function below
+//! says that its first bytes are read; that the file opened is the one named is tested.
+
 ghost use Rattle.std.specs.Prelude.{◌≡◌, ◌≤◌, take, IfOk, IfSome, IsErr, IsErrOf, None, vec_len};
 ghost use Rattle.bb_outside.specs.Counts.{CountsWhere, IsRead, outcome_of};
 
@@ -9,10 +12,10 @@ use std::marker::Model;
 use std::rc::Rc;
 use std::{fs, io, rt};
 
-// How many bytes one read of a file asks for at most.
+// In bytes. A read may give fewer, so reads go on until one gives none.
 const STEP: usize = 16384;
 
-/// The files of a runtime, read by their paths. It tells nothing of what they hold.
+/// Files by their paths. No contents are promised.
 #[derive(Drop)]
 pub struct StdFiles<R: rt::Files + Drop> {
     files: R,
@@ -26,13 +29,13 @@ impl<R: rt::Files + Drop> Model for StdFiles<R> {
 
     ghost Value = { Reads };
 
-    ghost view = { λ s. record { count = s.reads; faults = s.faults; told = None } };
+    ghost view = { λ s. record { count = s.reads; faults = s.faults; reported = None } };
 }
 
 impl<R: rt::Files + Drop> StdFiles<R> {
-    /// The files that this runtime reaches.
+    /// The counts begin at 0.
     pub fn new(files: R) -> StdFiles<R>
-        ensures { result ≡ record { count = 0; faults = 0; told = None } }
+        ensures { result ≡ record { count = 0; faults = 0; reported = None } }
     {
         StdFiles {
             files,
@@ -42,17 +45,17 @@ impl<R: rt::Files + Drop> StdFiles<R> {
     }
 }
 
-// Reads a file up to its end, or to the limit.
-fn read_front<F: Read>(alloc: Global, file: &mut F, limit: u64) -> Result<Vec<u8>, FileFault>
+// An error in the middle fails the whole read, an interrupted one included: a part of a file is no text to judge.
+fn read_prefix<F: Read>(alloc: Global, file: &mut F, limit: u64) -> Result<Vec<u8>, FileFault>
     ensures within { IfOk result (λ bytes. vec_len bytes ≤ limit) }
-    // Where the file tells what it has left, these are its first bytes, all of them up to the limit.
-    ensures front { IfOk result (λ bytes. IfSome (F.remaining file.old) (λ left. bytes.items ≡ take limit left)) }
+    // Where the contents of the open file are known, these are its first bytes, up to the limit.
+    ensures prefix { IfOk result (λ bytes. IfSome (F.remaining file.old) (λ left. bytes.items ≡ take limit left)) }
 {
     let mut bytes = Vec::new(alloc);
     let mut buffer = [0; STEP];
     while (bytes.len() as u64) < limit {
-        let asked = (limit - bytes.len() as u64).min(STEP as u64) as usize;
-        let Ok(count) = file.read(&mut buffer[..asked]) else {
+        let requested = (limit - bytes.len() as u64).min(STEP as u64) as usize;
+        let Ok(count) = file.read(&mut buffer[..requested]) else {
             return Err(FileFault::Failed);
         };
         if count == 0 {
@@ -63,20 +66,20 @@ fn read_front<F: Read>(alloc: Global, file: &mut F, limit: u64) -> Result<Vec<u8
     Ok(bytes)
 }
 
-// Reads a file that was to be opened. A path of a directory opens, and its read fails.
+// A directory opens without error; its read fails.
 fn read_opened<F: Read + Drop>(
     alloc: Global,
     opened: io::Result<F>,
     limit: u64,
 ) -> Result<Vec<u8>, FileFault>
     ensures within { IfOk result (λ bytes. vec_len bytes ≤ limit) }
-    ensures front { IfOk opened (λ file. IfOk result (λ bytes. IfSome (F.remaining file) (λ left. bytes.items ≡ take limit left))) }
+    ensures prefix { IfOk opened (λ file. IfOk result (λ bytes. IfSome (F.remaining file) (λ left. bytes.items ≡ take limit left))) }
     ensures unopened { IsErr opened → IsErrOf result FileFault.Failed }
 {
     let Ok(mut file) = opened else {
         return Err(FileFault::Failed);
     };
-    read_front(alloc, &mut file, limit)
+    read_prefix(alloc, &mut file, limit)
 }
 
 impl<R: rt::Files + Drop> Files for StdFiles<R> {
@@ -87,10 +90,10 @@ impl<R: rt::Files + Drop> Files for StdFiles<R> {
     fn read(&mut self, alloc: Global, name: &str, limit: u64) -> Result<Rc<Vec<u8>>, FileFault>
         ensures within { IfOk result (λ bytes. vec_len bytes.value ≤ limit) }
 
-        // A failure is counted where it is told, and only there.
+        // A failure is counted exactly where it is reported.
         ensures counted { CountsWhere (IsErrOf result FileFault.Failed) self.old.faults self.new.faults }
 
-        // What a caller over any files sees.
+        // The clauses of the trait.
         ensures reads { IsRead self.old self.new name.now limit (outcome_of result) }
     {
         self.reads = self.reads.saturating_add(1);

@@ -1,4 +1,6 @@
-//! Standard output.
+//! Standard output. What it holds is stated by the standard library's contract of streams, so this adapter promises
+//! what its stream promises.
+
 ghost use Rattle.std.specs.Prelude.{◌≡◌, ◌<◌, ◌≤◌, length, IfOk, IsErr};
 ghost use Rattle.std.specs.Io.KnownBytes.{WriteAppends};
 ghost use Rattle.bb_outside.specs.Counts.{CountsWhere};
@@ -7,7 +9,7 @@ use crate::{Failed, Sink};
 use std::io::Write;
 use std::marker::Model;
 
-/// A stream that bytes are written to, as standard output. It tells what the stream tells of what was written.
+/// A sink over any stream; used with standard output.
 #[derive(Drop)]
 pub struct StdOut<W: Write + Drop> {
     stream: W,
@@ -23,7 +25,7 @@ impl<W: Write + Drop> Model for StdOut<W> {
 }
 
 impl<W: Write + Drop> StdOut<W> {
-    /// A sink over this stream.
+    /// The count of failures begins at 0.
     pub fn new(stream: W) -> StdOut<W>
         ensures { result ≡ record { held = W.contents stream; faults = 0 } }
     {
@@ -36,9 +38,9 @@ impl<W: Write + Drop> Sink for StdOut<W> {
 
     ghost faults = { λ s. s.faults };
 
-    // A write that takes nothing of a piece is a failure, since it would never end.
+    // A write that takes nothing of a piece is a failure, since a loop over the rest would never end.
     fn put(&mut self, piece: &[u8]) -> Result<usize, Failed>
-        // What a caller over any sink sees.
+        // The clauses of the trait.
         ensures at_most { IfOk result (λ n. n ≤ length piece.now) }
         ensures at_least { 0 < length piece.now → IfOk result (λ n. 1 ≤ n) }
         ensures bytes { WriteAppends self.old.held self.new.held result piece.now }

@@ -13,11 +13,11 @@ use Rattle.bb_lex.specs.declared.token.Kind.TheVariants as kinds
 use Rattle.bb_parse.specs.Symbols.{Symbol, Identifier, Reserved, SizedNumber, PlainNumber, Sign}
 use Rattle.bb_parse.specs.Lists.{IsName, IsOptional, IsList}
 use Rattle.bb_parse.specs.Declarations.{IsRange, direction_word, port_kind_word, IsPortKind, IsPort, IsPlainHead, IsNextPort, IsMoreDeclared, AreDeclared, AreHeads, absent, empty, named, declared, IsHeader}
-use Rattle.bb_parse.specs.Inside.Symbols.{is_next, behind, next_kind}
+use Rattle.bb_parse.specs.Inside.Symbols.{is_next, after, next_kind}
 use Rattle.bb_parse.specs.Inside.Steps.{read_mark, read_name, read_plain, read_list}
 use Rattle.bb_parse.specs.Inside.Declarations.{taken, optional_taken, direction_of, port_kind_of, read_range, read_optional_range, read_port, read_head, read_next_port, read_ansi, read_ansi_more, read_ansi_heads, read_heads, read_header, header_at}
 use Rattle.bb_parse.proofs.Marks.{next_is, rank_next, no_comma}
-use Rattle.bb_parse.proofs.Parts.{and_then, and_so, either_way, behind_front, mark_sound, name_sound, plain_sound}
+use Rattle.bb_parse.proofs.Parts.{and_then, and_so, either_way, after_prefix, mark_sound, name_sound, plain_sound}
 use Rattle.bb_parse.proofs.ListLaws.{Sound, Complete, list_sound, list_complete}
 
 -- what is read is of the grammar
@@ -90,11 +90,11 @@ more_declared_sound before zero ts = refl
 more_declared_sound before (suc n) ts =
     let P : List PlainHead × List Symbol → Type 0 = λ hs. IsMoreDeclared before ts hs.0 hs.1 in
     either_way (is_next Comma ts) _ _ P
-    (λ h. and_then (read_ansi before (behind ts)) _ (λ x. IsNextPort before (behind ts) x.0.0 (Identifier x.0.1 ∷ x.1)) P (ansi_sound before (behind ts)) (λ x p.
+    (λ h. and_then (read_ansi before (after ts)) _ (λ x. IsNextPort before (after ts) x.0.0 (Identifier x.0.1 ∷ x.1)) P (ansi_sound before (after ts)) (λ x p.
     let head : PlainHead = record { name = x.0.1; decl = Some x.0.0 } in
-    behind_front head (read_ansi_more x.0.0 n x.1) P
+    after_prefix head (read_ansi_more x.0.0 n x.1) P
     (and_so (read_ansi_more x.0.0 n x.1) (λ hs. IsMoreDeclared x.0.0 x.1 hs.0 hs.1) (λ hs. IsMoreDeclared before ts (head ∷ hs.0) hs.1) (more_declared_sound x.0.0 n x.1) (λ hs q.
-    (x.0.0, behind ts, x.1, next_is Comma ts h, p, refl, q)))))
+    (x.0.0, after ts, x.1, next_is Comma ts h, p, refl, q)))))
     (λ h. refl)
 
 ansi_heads_sound : Sound AreDeclared read_ansi_heads
@@ -104,7 +104,7 @@ ansi_heads_sound ts =
     and_then (read_port ts) _ (λ p. IsPort ts p.0 p.1) P (port_sound ts) (λ p q.
     and_then (read_name p.1) _ (λ n. p.1 ≡ Identifier n.0 ∷ n.1) P (name_sound p.1) (λ n r.
     let head : PlainHead = record { name = n.0; decl = Some p.0 } in
-    behind_front head (read_ansi_more p.0 (length n.1) n.1) P
+    after_prefix head (read_ansi_more p.0 (length n.1) n.1) P
     (and_so (read_ansi_more p.0 (length n.1) n.1) (λ hs. IsMoreDeclared p.0 n.1 hs.0 hs.1) (λ hs. AreDeclared ts (head ∷ hs.0) hs.1) (more_declared_sound p.0 (length n.1) n.1) (λ hs s.
     (p.0, n.1, subst (λ z. IsPort ts p.0 z) r q, refl, s)))))
 
@@ -124,9 +124,9 @@ read_header_sound : (all ts : List Symbol) → all ≡ Reserved words.Module ∷
 unfolding read_header
 read_header_sound all ts begins =
     and_then (read_name ts) _ (λ n. ts ≡ Identifier n.0 ∷ n.1) _ (name_sound ts) (λ n p.
-    and_then (if is_next LeftRound n.1 then read_heads (behind n.1) else Some ([], n.1)) _ (λ hs. AreHeads n.1 hs.0 hs.1) _
-    (either_way (is_next LeftRound n.1) (read_heads (behind n.1)) (Some ([], n.1)) (λ hs. AreHeads n.1 hs.0 hs.1)
-    (λ h. heads_sound n.1 (behind n.1) (next_is LeftRound n.1 h))
+    and_then (if is_next LeftRound n.1 then read_heads (after n.1) else Some ([], n.1)) _ (λ hs. AreHeads n.1 hs.0 hs.1) _
+    (either_way (is_next LeftRound n.1) (read_heads (after n.1)) (Some ([], n.1)) (λ hs. AreHeads n.1 hs.0 hs.1)
+    (λ h. heads_sound n.1 (after n.1) (next_is LeftRound n.1 h))
     (λ h. absent refl refl))
     (λ hs q. and_then (read_mark Semicolon hs.1) _ (λ u. hs.1 ≡ Sign Semicolon ∷ u.1) _ (mark_sound Semicolon hs.1) (λ u r.
     (n.1, begins ∙ ap (λ z. Reserved words.Module ∷ z) p, subst (λ z. AreHeads n.1 hs.0 z) r q))))
@@ -213,7 +213,7 @@ plain_heads_begin ts [] rest p = elim p [ ]
 plain_heads_begin ts (head ∷ heads) rest p = (rw p.1.0 refl, rw p.1.0 refl)
 
 heads_complete : (ts : List Symbol) (heads : List PlainHead) (rest : List Symbol) → AreHeads ts heads (Sign Semicolon ∷ rest)
-    → (if is_next LeftRound ts then read_heads (behind ts) else Some ([], ts)) ≡ Some (heads, Sign Semicolon ∷ rest)
+    → (if is_next LeftRound ts then read_heads (after ts) else Some ([], ts)) ≡ Some (heads, Sign Semicolon ∷ rest)
 unfolding read_heads
 heads_complete ts heads rest (absent p q) = rw (p, q) refl
 heads_complete ts heads rest (empty p q) = rw (p, q) refl

@@ -6,9 +6,9 @@ use Rattle.bb_lex.specs.declared.mark.Mark.{Mark}
 use Rattle.bb_lex.specs.declared.mark.Mark.TheVariants.{LeftRound, RightRound, LeftSquare, RightSquare, LeftBrace, RightBrace, Comma, Semicolon, Colon, Dot, Equals, Tilde, Query, LessEqual}
 use Rattle.bb_parse.specs.Symbols.{Symbol, Identifier, SizedNumber, PlainNumber, Sign}
 use Rattle.bb_parse.specs.Lists.{Rule, IsName, IsOptional, IsMore, IsList}
-use Rattle.bb_parse.specs.Expressions.{IsSelect, IsPrimary, select, sized, plain, round, concat, repeat, IsSigns, IsNegated, IsFold, IsUnary, bit_operator, word_operator, chained, worded, IsOperands, IsChain, is_bitwise, IsLevel, IsArms, IsExpr, IsLval}
+use Rattle.bb_parse.specs.Expressions.{IsSelect, IsPrimary, select, sized, plain, round, concat, repeat, IsSigns, IsNegated, IsFold, IsUnary, bit_operator, word_operator, chain_expression, worded, IsOperands, IsChain, is_bitwise, IsLevel, IsArms, IsExpr, IsLval}
 use Rattle.bb_parse.specs.Declarations.{IsRange}
-use Rattle.bb_parse.specs.Items.{IsAssigned, IsNet, IsAssignment, AreTerminals, IsGate, IsPlace, IsNamed, AreConns, IsCall, IsClock, IsItem}
+use Rattle.bb_parse.specs.Items.{IsAssigned, IsNet, IsAssignment, AreTerminals, IsGate, IsPlace, IsNamed, AreConns, IsCall, IsClockExpression, IsItem}
 use Rattle.bb_parse.specs.Nesting.{mark_count, mark_square, greatest_from, nesting}
 use Rattle.bb_parse.proofs.OperatorMarks.{KeepsCount, KeepCounts, one_keeps_counts, bits_keep_counts, words_keep_counts}
 use Rattle.bb_parse.proofs.Parts.{to_either}
@@ -18,7 +18,7 @@ use Rattle.bb_parse.proofs.Statements.{greatest_least}
 abbrev Within : ℕ → List Symbol → Type 0
 Within c ts = greatest_from 0 c ts ≤ 200
 
--- what is of the one rule is of the other where the counter stays within 200, as it then does behind it
+-- what is of the one rule is of the other where the counter stays within 200, as it then does after it
 abbrev Narrows : {A : Type 0} → ℕ → Rule A → Rule A → Type 0
 Narrows {A} c is is' = (ts : List Symbol) (x : A) (rest : List Symbol) → is ts x rest → Within c ts → is' ts x rest × Within c rest
 
@@ -59,9 +59,9 @@ select_within c ts (Part name i j) rest p w =
     let w' = along c ts (Identifier name ∷ Sign LeftSquare ∷ PlainNumber i ∷ Sign Colon ∷ PlainNumber j ∷ Sign RightSquare ∷ rest) p w in omega (arith, w')
 select_within c ts e rest p w = elim p [ ]
 
--- behind a mark that opens and closes nothing
-behind_operator : (c : ℕ) (m : Mark) (a : List Symbol) → KeepsCount m c → Within c (Sign m ∷ a) → Within c a
-behind_operator c m a keeps w =
+-- after a mark that opens and closes nothing
+after_operator : (c : ℕ) (m : Mark) (a : List Symbol) → KeepsCount m c → Within c (Sign m ∷ a) → Within c a
+after_operator c m a keeps w =
     let w1 : greatest_from (mark_square m 0) (mark_count m 0 c) a ≤ 200 = omega (arith, w) in
     rw (keeps.0, keeps.1) at w1
 
@@ -100,7 +100,7 @@ module _ (c : ℕ) (inner inner' : Rule Expression) (n : (d : ℕ) → c + 1 ≤
   fold_narrows : Narrows c (IsFold inner) (IsFold inner')
   fold_narrows ts e rest (inl p) w = let one = primary_narrows ts e rest p w in (inl one.0, one.1)
   fold_narrows ts e rest (inr p) w =
-      let w' = behind_operator c p.0 p.2 (one_keeps_counts p.0 p.1 c p.5) (along c ts (Sign p.0 ∷ p.2) p.4 w) in
+      let w' = after_operator c p.0 p.2 (one_keeps_counts p.0 p.1 c p.5) (along c ts (Sign p.0 ∷ p.2) p.4 w) in
       let one = negated_narrows (IsPrimary inner) (IsPrimary inner') primary_narrows p.2 p.3 rest p.6 w' in
       (inr (p.0, p.1, p.2, p.3, p.4, p.5, one.0, p.7), one.1)
 
@@ -111,7 +111,7 @@ module _ {O : Type 0} (c : ℕ) (operator : Mark → Option O) (keeps : KeepCoun
   operands_narrow : Narrows c (IsOperands operator is) (IsOperands operator is')
   operands_narrow ts [] rest p w = (p, along c ts rest p w)
   operands_narrow ts (x ∷ xs) rest p w =
-      let w' = behind_operator c p.0 p.1 (keeps p.0 x.0 c p.4) (along c ts (Sign p.0 ∷ p.1) p.3 w) in
+      let w' = after_operator c p.0 p.1 (keeps p.0 x.0 c p.4) (along c ts (Sign p.0 ∷ p.1) p.3 w) in
       let one = n p.1 x.1 p.2 p.5 w' in
       let others = operands_narrow p.2 xs rest p.6 one.1 in
       ((p.0, p.1, p.2, p.3, p.4, one.0, others.0), others.1)
@@ -127,7 +127,7 @@ module _ (c : ℕ) (inner inner' : Rule Expression) (n : (d : ℕ) → c + 1 ≤
   level_narrows zero ts e rest p w = unary_narrows c inner inner' n ts e rest p w
   level_narrows (suc k) ts e rest p w =
       to_either (is_bitwise k) _ _ _ _ (Within c rest)
-      (λ q. chain_narrows c (bit_operator k) (bits_keep_counts k) (IsLevel k inner) (IsLevel k inner') (level_narrows k) chained ts e rest q w)
+      (λ q. chain_narrows c (bit_operator k) (bits_keep_counts k) (IsLevel k inner) (IsLevel k inner') (level_narrows k) chain_expression ts e rest q w)
       (λ q. chain_narrows c (word_operator k) (words_keep_counts k) (IsLevel k inner) (IsLevel k inner') (level_narrows k) worded ts e rest q w)
       p
 
@@ -231,7 +231,7 @@ call_narrows n ts x rest p w =
     let one = conns_narrow n p.0 x.1 (Sign RightRound ∷ rest) p.2 (omega (arith, w')) in
     ((p.0, p.1, one.0), omega (arith, one.1))
 
-clock_within : (c : ℕ) (ts : List Symbol) (e : Expression) (rest : List Symbol) → IsClock ts e rest → Within c ts → Within c rest
+clock_within : (c : ℕ) (ts : List Symbol) (e : Expression) (rest : List Symbol) → IsClockExpression ts e rest → Within c ts → Within c rest
 clock_within c ts (Net name) rest p w = let w' = along c ts (Identifier name ∷ rest) p w in omega (arith, w')
 clock_within c ts (Bit name i) rest p w = let w' = along c ts (Identifier name ∷ Sign LeftSquare ∷ PlainNumber i ∷ Sign RightSquare ∷ rest) p w in omega (arith, w')
 clock_within c ts e rest p w = elim p [ ]

@@ -6,13 +6,13 @@ use Rattle.bb_lex.specs.declared.mark.Mark.{Mark}
 use Rattle.bb_lex.specs.declared.mark.Mark.TheVariants.{LeftRound, RightRound, LeftSquare, RightSquare, LeftBrace, RightBrace, Colon, Tilde, Query}
 use Rattle.bb_parse.specs.Symbols.{Symbol, Identifier, Reserved, SizedNumber, PlainNumber, Sign}
 use Rattle.bb_parse.specs.Lists.{Rule, IsList}
-use Rattle.bb_parse.specs.Expressions.{IsSelect, IsPrimary, select, sized, plain, round, concat, repeat, IsSigns, IsNegated, on_one, IsFold, IsUnary, bit_operator, chained, word_operator, worded, IsOperands, IsChain, is_bitwise, IsLevel, IsLor, IsArms, conditional, IsExpr, IsLval}
-use Rattle.bb_parse.specs.Inside.Symbols.{is_next, behind}
+use Rattle.bb_parse.specs.Expressions.{IsSelect, IsPrimary, select, sized, plain, round, concat, repeat, IsSigns, IsNegated, on_one, IsFold, IsUnary, bit_operator, chain_expression, word_operator, worded, IsOperands, IsChain, is_bitwise, IsLevel, IsLor, IsArms, conditional, IsExpr, IsLval}
+use Rattle.bb_parse.specs.Inside.Symbols.{is_next, after}
 use Rattle.bb_parse.specs.Inside.Steps.{Read, read_mark, read_name, read_plain, read_list}
 use Rattle.bb_parse.specs.Inside.Expressions.{read_index, read_select, begins_repeat, read_braces, read_round, bracket_at, read_primary, read_signs, read_negated, next_operator, fold_at, read_fold, read_unary, operands_at, read_operands, chain_from, read_row, read_level, with_arms, read_arm, read_arms, read_conditional, read_expr, read_lvals, read_lval}
 use Rattle.bb_parse.proofs.Marks.{next_is, no_square}
 use Rattle.bb_parse.proofs.OperatorMarks.{operator_is}
-use Rattle.bb_parse.proofs.Parts.{and_then, and_so, either_way, either_sound, behind_front, mark_sound, name_sound, plain_sound}
+use Rattle.bb_parse.proofs.Parts.{and_then, and_so, either_way, either_sound, after_prefix, mark_sound, name_sound, plain_sound}
 use Rattle.bb_parse.proofs.ListLaws.{Sound, Complete, list_sound}
 
 -- selects
@@ -22,7 +22,7 @@ unfolding read_index
 index_sound name all ts begins =
     and_then (read_plain ts) _ (λ i. ts ≡ PlainNumber i.0 ∷ i.1) _ (plain_sound ts) (λ i p.
     either_way (is_next Colon i.1) _ _ _
-    (λ h. and_then (read_plain (behind i.1)) _ (λ j. behind i.1 ≡ PlainNumber j.0 ∷ j.1) _ (plain_sound (behind i.1)) (λ j q.
+    (λ h. and_then (read_plain (after i.1)) _ (λ j. after i.1 ≡ PlainNumber j.0 ∷ j.1) _ (plain_sound (after i.1)) (λ j q.
     and_then (read_mark RightSquare j.1) _ (λ u. j.1 ≡ Sign RightSquare ∷ u.1) _ (mark_sound RightSquare j.1) (λ u r.
     begins ∙ ap (λ z. Identifier name ∷ Sign LeftSquare ∷ z) (p ∙ ap (λ z. PlainNumber i.0 ∷ z) (next_is Colon i.1 h ∙ ap (λ z. Sign Colon ∷ z) (q ∙ ap (λ z. PlainNumber j.0 ∷ z) r))))))
     (λ h. and_then (read_mark RightSquare i.1) _ (λ u. i.1 ≡ Sign RightSquare ∷ u.1) _ (mark_sound RightSquare i.1) (λ u r.
@@ -33,7 +33,7 @@ unfolding read_select
 select_sound ts =
     and_then (read_name ts) _ (λ n. ts ≡ Identifier n.0 ∷ n.1) _ (name_sound ts) (λ n p.
     either_way (is_next LeftSquare n.1) _ _ _
-    (λ h. index_sound n.0 ts (behind n.1) (p ∙ ap (λ z. Identifier n.0 ∷ z) (next_is LeftSquare n.1 h)))
+    (λ h. index_sound n.0 ts (after n.1) (p ∙ ap (λ z. Identifier n.0 ∷ z) (next_is LeftSquare n.1 h)))
     (λ h. p))
 
 pub select_complete : Complete 1 IsSelect read_select
@@ -66,11 +66,11 @@ module _ (inner : Rule Expression) (read : List Symbol → Read Expression) (s :
   braces_sound all ts begins =
       either_way (begins_repeat ts) _ _ _
       (λ h. and_then (read_plain ts) _ (λ k. (ts ≡ PlainNumber k.0 ∷ k.1) × (is_next LeftBrace k.1 ≡ true)) _ (repeat_begins ts h) (λ k p.
-      and_then (read_list read (behind k.1)) _ (λ es. IsList inner (behind k.1) es.0 es.1) _ (list_sound inner read s (behind k.1)) (λ es q.
+      and_then (read_list read (after k.1)) _ (λ es. IsList inner (after k.1) es.0 es.1) _ (list_sound inner read s (after k.1)) (λ es q.
       and_then (read_mark RightBrace es.1) _ (λ u. es.1 ≡ Sign RightBrace ∷ u.1) _ (mark_sound RightBrace es.1) (λ u r.
       and_then (read_mark RightBrace u.1) _ (λ v. u.1 ≡ Sign RightBrace ∷ v.1) _ (mark_sound RightBrace u.1) (λ v t.
-      repeat k.0 es.0 (behind k.1) (begins ∙ ap (λ z. Sign LeftBrace ∷ z) (p.0 ∙ ap (λ z. PlainNumber k.0 ∷ z) (next_is LeftBrace k.1 p.1)))
-      (subst (λ z. IsList inner (behind k.1) es.0 z) (r ∙ ap (λ z. Sign RightBrace ∷ z) t) q) refl)))))
+      repeat k.0 es.0 (after k.1) (begins ∙ ap (λ z. Sign LeftBrace ∷ z) (p.0 ∙ ap (λ z. PlainNumber k.0 ∷ z) (next_is LeftBrace k.1 p.1)))
+      (subst (λ z. IsList inner (after k.1) es.0 z) (r ∙ ap (λ z. Sign RightBrace ∷ z) t) q) refl)))))
       (λ h. and_then (read_list read ts) _ (λ es. IsList inner ts es.0 es.1) _ (list_sound inner read s ts) (λ es q.
       and_then (read_mark RightBrace es.1) _ (λ u. es.1 ≡ Sign RightBrace ∷ u.1) _ (mark_sound RightBrace es.1) (λ u r.
       concat es.0 ts begins (subst (λ z. IsList inner ts es.0 z) r q) refl)))
@@ -96,7 +96,7 @@ module _ (inner : Rule Expression) (read : List Symbol → Read Expression) (s :
 
   signs_sound : (n : ℕ) (ts : List Symbol) → IsSigns (read_signs n ts).0 ts (read_signs n ts).1
   signs_sound zero ts = refl
-  signs_sound (suc n) ts = signs_by (is_next Tilde ts) (read_signs n (behind ts)) ts (λ h. (behind ts, next_is Tilde ts h, signs_sound n (behind ts)))
+  signs_sound (suc n) ts = signs_by (is_next Tilde ts) (read_signs n (after ts)) ts (λ h. (after ts, next_is Tilde ts h, signs_sound n (after ts)))
 
   negated_sound : (is : Rule Expression) (read_one : List Symbol → Read Expression) → Sound is read_one → Sound (IsNegated is) (read_negated read_one)
   unfolding read_negated
@@ -108,9 +108,9 @@ module _ (inner : Rule Expression) (read : List Symbol → Read Expression) (s :
   fold_sound_by ts None e = and_so (read_primary read ts) (λ x. IsPrimary inner ts x.0 x.1) _ (primary_sound ts) (λ x p. inl p)
   fold_sound_by ts (Some op) e =
       let m = operator_is on_one ts op e in
-      and_then (read_negated (read_primary read) (behind ts)) _ (λ x. IsNegated (IsPrimary inner) (behind ts) x.0 x.1) _
-      (negated_sound (IsPrimary inner) (read_primary read) primary_sound (behind ts)) (λ x p.
-      inr (m.0, op, behind ts, x.0, m.1, m.2, p, refl))
+      and_then (read_negated (read_primary read) (after ts)) _ (λ x. IsNegated (IsPrimary inner) (after ts) x.0 x.1) _
+      (negated_sound (IsPrimary inner) (read_primary read) primary_sound (after ts)) (λ x p.
+      inr (m.0, op, after ts, x.0, m.1, m.2, p, refl))
 
   fold_sound : Sound (IsFold inner) (read_fold read)
   unfolding read_fold
@@ -134,10 +134,10 @@ module _ {O : Type 0} where
         let P : List (O × Expression) × List Symbol → Type 0 = λ xs. IsOperands operator is ts xs.0 xs.1 in
         operands_either (next_operator operator ts) ts _ P (λ h. refl) (λ op h.
         let m = operator_is operator ts op h in
-        and_then (operand (behind ts)) _ (λ x. is (behind ts) x.0 x.1) P (s (behind ts)) (λ x p.
+        and_then (operand (after ts)) _ (λ x. is (after ts) x.0 x.1) P (s (after ts)) (λ x p.
         let y : O × Expression = (op, x.0) in
-        behind_front y (read_operands operator operand n x.1) P (and_so (read_operands operator operand n x.1) (λ xs. IsOperands operator is x.1 xs.0 xs.1) (λ xs. IsOperands operator is ts (y ∷ xs.0) xs.1) (operands_sound n x.1) (λ xs q.
-        (m.0, behind ts, x.1, m.1, m.2, p, q)))))
+        after_prefix y (read_operands operator operand n x.1) P (and_so (read_operands operator operand n x.1) (λ xs. IsOperands operator is x.1 xs.0 xs.1) (λ xs. IsOperands operator is ts (y ∷ xs.0) xs.1) (operands_sound n x.1) (λ xs q.
+        (m.0, after ts, x.1, m.1, m.2, p, q)))))
 
     chain_sound : (made : Expression → List (O × Expression) → Expression) (ts : List Symbol) (x : Expression) (a : List Symbol) → is ts x a
         → IfSome (chain_from made x (read_operands operator operand (length a) a)) (λ y. IsChain operator made is ts y.0 y.1)
@@ -152,13 +152,13 @@ module _ (inner : Rule Expression) (read : List Symbol → Read Expression) (s :
   level_sound (suc n) ts =
       and_then (read_level n read ts) _ (λ x. IsLevel n inner ts x.0 x.1) _ (level_sound n ts) (λ x p.
       either_sound (is_bitwise n) _ _ _ _
-      (chain_sound (bit_operator n) (IsLevel n inner) (read_level n read) (level_sound n) chained ts x.0 x.1 p)
+      (chain_sound (bit_operator n) (IsLevel n inner) (read_level n read) (level_sound n) chain_expression ts x.0 x.1 p)
       (chain_sound (word_operator n) (IsLevel n inner) (read_level n read) (level_sound n) worded ts x.0 x.1 p))
 
-  arms_front : (x : Expression × Expression) (r : Read (List (Expression × Expression) × Expression)) (P : (List (Expression × Expression) × Expression) × List Symbol → Type 0)
+  arms_prefix : (x : Expression × Expression) (r : Read (List (Expression × Expression) × Expression)) (P : (List (Expression × Expression) × Expression) × List Symbol → Type 0)
       → IfSome r (λ y. P ((x ∷ y.0.0, y.0.1), y.1)) → IfSome (with_arms (x ∷ []) r) P
-  arms_front x None P h = tt
-  arms_front x (Some y) P h = h
+  arms_prefix x None P h = tt
+  arms_prefix x (Some y) P h = h
 
   arm_sound : (y : Expression) (ts : List Symbol) → IfSome (read_arm y read ts) (λ a. (a.0.0 ≡ y) × inner ts a.0.1 (Sign Colon ∷ a.1))
   unfolding read_arm
@@ -173,9 +173,9 @@ module _ (inner : Rule Expression) (read : List Symbol → Read Expression) (s :
       let P : (List (Expression × Expression) × Expression) × List Symbol → Type 0 = λ x. IsArms inner ts x.0.0 x.0.1 x.1 in
       and_then (read_level 9 read ts) _ (λ c. IsLor inner ts c.0 c.1) P (level_sound 9 ts) (λ c p.
       either_way (is_next Query c.1) _ _ P
-      (λ h. and_then (read_arm c.0 read (behind c.1)) _ (λ a. (a.0.0 ≡ c.0) × inner (behind c.1) a.0.1 (Sign Colon ∷ a.1)) P (arm_sound c.0 (behind c.1)) (λ a q.
-      arms_front a.0 (read_arms read n a.1) P (and_so (read_arms read n a.1) (λ x. IsArms inner a.1 x.0.0 x.0.1 x.1) (λ x. IsArms inner ts (a.0 ∷ x.0.0) x.0.1 x.1) (arms_sound n a.1) (λ x t.
-      (behind c.1, a.1, subst (λ z. IsLor inner ts z (Sign Query ∷ behind c.1)) (sym q.0) (subst (λ z. IsLor inner ts c.0 z) (next_is Query c.1 h) p), q.1, t)))))
+      (λ h. and_then (read_arm c.0 read (after c.1)) _ (λ a. (a.0.0 ≡ c.0) × inner (after c.1) a.0.1 (Sign Colon ∷ a.1)) P (arm_sound c.0 (after c.1)) (λ a q.
+      arms_prefix a.0 (read_arms read n a.1) P (and_so (read_arms read n a.1) (λ x. IsArms inner a.1 x.0.0 x.0.1 x.1) (λ x. IsArms inner ts (a.0 ∷ x.0.0) x.0.1 x.1) (arms_sound n a.1) (λ x t.
+      (after c.1, a.1, subst (λ z. IsLor inner ts z (Sign Query ∷ after c.1)) (sym q.0) (subst (λ z. IsLor inner ts c.0 z) (next_is Query c.1 h) p), q.1, t)))))
       (λ h. p))
 
   conditional_sound : (ts : List Symbol) → IfSome (read_conditional read ts)
@@ -194,7 +194,7 @@ unfolding read_lval read_lvals
 lval_sound zero ts = tt
 lval_sound (suc n) ts =
     either_way (is_next LeftBrace ts) _ _ _
-    (λ h. and_then (read_list (read_lval n) (behind ts)) _ (λ es. IsList (IsLval n) (behind ts) es.0 es.1) _ (list_sound (IsLval n) (read_lval n) (lval_sound n) (behind ts)) (λ es p.
+    (λ h. and_then (read_list (read_lval n) (after ts)) _ (λ es. IsList (IsLval n) (after ts) es.0 es.1) _ (list_sound (IsLval n) (read_lval n) (lval_sound n) (after ts)) (λ es p.
     and_then (read_mark RightBrace es.1) _ (λ u. es.1 ≡ Sign RightBrace ∷ u.1) _ (mark_sound RightBrace es.1) (λ u q.
-    inr (es.0, behind ts, next_is LeftBrace ts h, subst (λ z. IsList (IsLval n) (behind ts) es.0 z) q p, refl))))
+    inr (es.0, after ts, next_is LeftBrace ts h, subst (λ z. IsList (IsLval n) (after ts) es.0 z) q p, refl))))
     (λ h. and_so (read_select ts) (λ x. IsSelect ts x.0 x.1) _ (select_sound ts) (λ x p. inl p))

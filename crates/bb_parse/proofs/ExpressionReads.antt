@@ -6,8 +6,8 @@ use Rattle.bb_lex.specs.declared.mark.Mark.TheVariants.{LeftRound, RightRound, L
 use Rattle.bb_lex.specs.declared.token.Kind.TheVariants as kinds
 use Rattle.bb_parse.specs.Symbols.{Symbol, Identifier, Reserved, SizedNumber, PlainNumber, Sign}
 use Rattle.bb_parse.specs.Lists.{Rule, IsMore, IsList}
-use Rattle.bb_parse.specs.Expressions.{IsSelect, IsPrimary, select, sized, plain, round, concat, repeat, IsSigns, IsNegated, on_one, IsFold, IsUnary, bit_operator, chained, word_operator, worded, IsOperands, IsChain, is_bitwise, IsLevel, IsLor, IsArms, conditional, IsExpr, IsLval}
-use Rattle.bb_parse.specs.Inside.Symbols.{is_next, behind, next_kind}
+use Rattle.bb_parse.specs.Expressions.{IsSelect, IsPrimary, select, sized, plain, round, concat, repeat, IsSigns, IsNegated, on_one, IsFold, IsUnary, bit_operator, chain_expression, word_operator, worded, IsOperands, IsChain, is_bitwise, IsLevel, IsLor, IsArms, conditional, IsExpr, IsLval}
+use Rattle.bb_parse.specs.Inside.Symbols.{is_next, after, next_kind}
 use Rattle.bb_parse.specs.Inside.Steps.{Read, ◌>>=◌}
 use Rattle.bb_parse.specs.Inside.Expressions.{begins_operator, begins_repeat, read_braces, read_round, read_primary, read_signs, read_negated, next_operator, read_fold, read_unary, read_operands, chain_from, read_row, read_level, read_arm, read_arms, read_conditional, read_expr, read_lvals, read_lval}
 use Rattle.bb_parse.proofs.Marks.{rank_next, no_query}
@@ -35,7 +35,7 @@ repeat_is (SizedNumber b ∷ ts) h = cc
 repeat_is (PlainNumber n ∷ ts) h = (n, ts, refl, h)
 repeat_is (Sign m ∷ ts) h = cc
 
-brace_is : (ts : List Symbol) → is_next LeftBrace ts ≡ true → ts ≡ Sign LeftBrace ∷ behind ts
+brace_is : (ts : List Symbol) → is_next LeftBrace ts ≡ true → ts ≡ Sign LeftBrace ∷ after ts
 brace_is [] h = cc
 brace_is (Identifier n ∷ ts) h = cc
 brace_is (Reserved w ∷ ts) h = cc
@@ -44,10 +44,10 @@ brace_is (PlainNumber n ∷ ts) h = cc
 brace_is (Sign LeftBrace ∷ ts) h = refl
 brace_is (Sign m ∷ ts) h = cc
 
--- no brace comes behind a member of a list in braces
-no_brace_behind : {A : Type 0} (is : Rule A) (b : List Symbol) (xs : List A) (rest : List Symbol) → IsMore is b xs (Sign RightBrace ∷ rest) → is_next LeftBrace b ≡ false
-no_brace_behind is b [] rest q = rw q refl
-no_brace_behind is b (x ∷ xs) rest q = rw q.2 refl
+-- no brace comes after a member of a list in braces
+no_brace_after : {A : Type 0} (is : Rule A) (b : List Symbol) (xs : List A) (rest : List Symbol) → IsMore is b xs (Sign RightBrace ∷ rest) → is_next LeftBrace b ≡ false
+no_brace_after is b [] rest q = rw q refl
+no_brace_after is b (x ∷ xs) rest q = rw q.2 refl
 
 true_or_false : (b : Bool) → (b ≡ true) ⊎ (b ≡ false)
 true_or_false true = inl refl
@@ -75,9 +75,9 @@ module _ (inner : Rule Expression) (read : List Symbol → Read Expression) (c :
         | inl h ↦
             let r = repeat_is a h in
             let one = c a x p.0 p.1 (more_stops inner read p.0 xs (Sign RightBrace ∷ rest) p.2 (omega arith)) in
-            let begins : a ≡ PlainNumber r.0 ∷ Sign LeftBrace ∷ behind r.1 = r.2 ∙ ap (λ z. PlainNumber r.0 ∷ z) (brace_is r.1 r.3) in
-            let left : p.0 ≡ Sign LeftBrace ∷ behind r.1 = alone r.0 (behind r.1) x p.0 (ap read (sym begins) ∙ one.0) in
-            let not_left : is_next LeftBrace p.0 ≡ false = no_brace_behind inner p.0 xs rest p.2 in
+            let begins : a ≡ PlainNumber r.0 ∷ Sign LeftBrace ∷ after r.1 = r.2 ∙ ap (λ z. PlainNumber r.0 ∷ z) (brace_is r.1 r.3) in
+            let left : p.0 ≡ Sign LeftBrace ∷ after r.1 = alone r.0 (after r.1) x p.0 (ap read (sym begins) ∙ one.0) in
+            let not_left : is_next LeftBrace p.0 ≡ false = no_brace_after inner p.0 xs rest p.2 in
             let is_left : is_next LeftBrace p.0 ≡ true = ap (is_next LeftBrace) left in
             cc
         | inr h ↦ h
@@ -120,7 +120,7 @@ module _ (inner : Rule Expression) (read : List Symbol → Read Expression) (c :
       let others = signs_complete k p.0 a n p.2 h le' in
       (rw (p.1, others.0) refl, omega (arith, ap length p.1, others.1))
 
-  -- what begins with no sign is read behind a run of signs
+  -- what begins with no sign is read after a run of signs
   negated_complete : (is : Rule Expression) (read_one : List Symbol → Read Expression) → Complete 1 is read_one → ((a : List Symbol) → read_one (Sign Tilde ∷ a) ≡ None)
       → Complete 1 (IsNegated is) (read_negated read_one)
   unfolding read_negated
@@ -178,7 +178,7 @@ module _ (inner : Rule Expression) (read : List Symbol → Read Expression) (c :
   level_complete zero ts e rest p h = unary_complete inner read c alone ts e rest p h
   level_complete (suc n) ts e rest p h =
       either_complete (is_bitwise n) _ _ _ (read_level n read ts) _ _ (e, rest)
-      (λ q. chain_complete (bit_operator n) (IsLevel n inner) (read_level n read) (suc n) (ranked (bit_operator n) n (bit_ranks n)) (level_complete n) chained ts e rest q h)
+      (λ q. chain_complete (bit_operator n) (IsLevel n inner) (read_level n read) (suc n) (ranked (bit_operator n) n (bit_ranks n)) (level_complete n) chain_expression ts e rest q h)
       (λ q. chain_complete (word_operator n) (IsLevel n inner) (read_level n read) (suc n) (ranked (word_operator n) n (word_ranks n)) (level_complete n) worded ts e rest q h)
       p
 

@@ -16,14 +16,14 @@ use Rattle.bb_lex.specs.declared.mark.Mark.TheVariants.{Comma, Query, Colon, Rig
 use Rattle.bb_lex.specs.declared.token.Token.{Token}
 use Rattle.bb_lex.specs.Bytes.{is_graphic, Each}
 use Rattle.bb_lex.specs.Cut.{IsTokenOf}
-use Rattle.bb_lex.specs.Laws.{TokensStandInText, NamesArePrintable, SizedBitsFit, PlainValuesFit}
+use Rattle.bb_lex.specs.Laws.{TokensAreInText, NamesArePrintable, SizedBitsFit, PlainValuesFit}
 use Rattle.bb_lex.specs.Meaning.{name_of, IsNameOrWord}
 use Rattle.bb_parse.specs.Symbols.{Symbol, Identifier, Reserved, SizedNumber, PlainNumber, Sign, IsSymbol, AreSymbols}
 use Rattle.bb_parse.specs.Lists.{Rule, IsName, IsOptional, IsMore, IsList}
-use Rattle.bb_parse.specs.Expressions.{IsSelect, IsPrimary, select, sized, plain, round, concat, repeat, IsSigns, negated, IsNegated, IsFold, IsUnary, on_words, bit_operator, word_operator, IsOperands, chained, worded, IsChain, is_bitwise, IsLevel, IsArms, conditional, IsExpr, IsLval}
+use Rattle.bb_parse.specs.Expressions.{IsSelect, IsPrimary, select, sized, plain, round, concat, repeat, IsSigns, with_signs, IsNegated, IsFold, IsUnary, on_words, bit_operator, word_operator, IsOperands, chain_expression, worded, IsChain, is_bitwise, IsLevel, IsArms, conditional, IsExpr, IsLval}
 use Rattle.bb_parse.specs.Declarations.{IsRange, IsPortKind, IsPort, IsPlainHead, IsNextPort, IsMoreDeclared, AreDeclared, AreHeads, absent, empty, named, declared, IsHeader}
-use Rattle.bb_parse.specs.Items.{IsAssigned, IsNet, IsAssignment, AreTerminals, IsGate, IsPlace, IsNamed, AreConns, IsCall, IsClock, IsItem}
-use Rattle.bb_parse.specs.Sources.{IsFirst, AreItems, IsSource}
+use Rattle.bb_parse.specs.Items.{IsAssigned, IsNet, IsAssignment, AreTerminals, IsGate, IsPlace, IsNamed, AreConns, IsCall, IsClockExpression, IsItem}
+use Rattle.bb_parse.specs.Sources.{IsFirstStatement, AreItems, IsSource}
 use Rattle.bb_parse.specs.Laws.{SourcesAreFormed}
 use Rattle.bb_parse.proofs.OperatorMarks.{of_row-some}
 use Rattle.bb_parse.proofs.Parts.{by_either}
@@ -110,7 +110,7 @@ module _ (inner : Rule Expression) (f : Forms IsFormedExpression inner) where
   signs_form zero ts rest p h = by ts rest p h
   signs_form (suc k) ts rest p h = signs_form k p.0 rest p.2 (by ts _ p.1 h).1
 
-  negated_formed : (k : ℕ) (e : Expression) → IsFormedExpression e → IsFormedExpression (negated k e)
+  negated_formed : (k : ℕ) (e : Expression) → IsFormedExpression e → IsFormedExpression (with_signs k e)
   negated_formed zero e h = h
   negated_formed (suc k) e h = (omega arith, h)
 
@@ -128,7 +128,7 @@ module _ (inner : Rule Expression) (f : Forms IsFormedExpression inner) where
   unary_forms : Forms IsFormedExpression (IsUnary inner)
   unary_forms = negated_forms (IsFold inner) fold_forms
 
--- a formed operand, behind an operator of a kind
+-- a formed operand, after an operator of a kind
 abbrev IsFormedOperand : {O : Type 0} → (O → Type 0) → O × Expression → Type 0
 IsFormedOperand is x = is x.0 × IsFormedExpression x.1
 
@@ -144,7 +144,7 @@ words_formed n (x ∷ xs) h = (h.0.0, h.0.1, words_formed n xs h.1)
 abbrev MakesFormed : {O : Type 0} → (O → Type 0) → (Expression → List (O × Expression) → Expression) → Type 0
 MakesFormed {O} is made = (e : Expression) (xs : List (O × Expression)) → IsFormedExpression e → AllByRecursion (IsFormedOperand is) xs → IsFormedExpression (made e xs)
 
-chained_formed : MakesFormed (λ op. Unit {0}) chained
+chained_formed : MakesFormed (λ op. Unit {0}) chain_expression
 chained_formed e [] f h = f
 chained_formed e (x ∷ xs) f h = (f, h.0.1, operands_formed xs h.1)
 
@@ -183,7 +183,7 @@ module _ (inner : Rule Expression) (f : Forms IsFormedExpression inner) where
   level_forms zero ts e rest p h = unary_forms inner f ts e rest p h
   level_forms (suc n) ts e rest p h =
       by_either (is_bitwise n) _ _ _
-      (λ q. chain_forms (bit_operator n) (λ op. Unit {0}) (λ m op is. tt) (IsLevel n inner) (level_forms n) chained chained_formed ts e rest q h)
+      (λ q. chain_forms (bit_operator n) (λ op. Unit {0}) (λ m op is. tt) (IsLevel n inner) (level_forms n) chain_expression chained_formed ts e rest q h)
       (λ q. chain_forms (word_operator n) (λ op. level_of op ≡ n) (λ m op is. (of_row-some level_of n (on_words m) op is).1) (IsLevel n inner) (level_forms n) worded (worded_formed n) ts e rest q h)
       p
 
@@ -202,7 +202,7 @@ expr_forms (suc n) ts e rest p h =
     let w = arms_form (IsExpr n) (expr_forms n) ts p.0 p.1 rest p.2 h in
     (subst IsFormedExpression (sym p.3) (conditional_formed p.0 p.1 w.0.0 w.0.1), w.1)
 
--- what is formed and may stand on a left side
+-- what is formed and may be on a left side
 abbrev IsFormedLeft : Expression → Type 0
 IsFormedLeft e = IsFormedExpression e × (is_assignable e ≡ true)
 
@@ -334,7 +334,7 @@ call_forms depth ts x rest p h =
     let w = conns_form depth p.0 x.1 (Sign RightRound ∷ rest) p.2 u.1.1 in
     ((u.0, w.0), w.1.1)
 
-clock_forms : Forms (λ e. IsFormedExpression e × IsNetOrBit e) IsClock
+clock_forms : Forms (λ e. IsFormedExpression e × IsNetOrBit e) IsClockExpression
 clock_forms ts (Net name) rest p h = let w = by ts _ p h in ((w.0, tt), w.1)
 clock_forms ts (Bit name i) rest p h = let w = by ts _ p h in (((w.0, w.1.1.0), tt), w.1.1.1.1)
 clock_forms ts e rest p h = elim p [ ]
@@ -388,8 +388,8 @@ module _ (names : NamesArePrintable) (sized_fit : SizedBitsFit) (plain_fit : Pla
   symbols_sound (t ∷ tokens) [] all p = elim p [ ]
   symbols_sound (t ∷ tokens) (s ∷ ss) all p = (symbol_sound t s all.0 p.0, symbols_sound tokens ss all.1 p.1)
 
-  -- the tokens of a statement, and those behind it
-  split : (tokens s a : List Token) → IsFirst tokens s a → AllByRecursion (λ t. IsTokenOf t text) tokens → AllByRecursion (λ t. IsTokenOf t text) s × AllByRecursion (λ t. IsTokenOf t text) a
+  -- the tokens of a statement, and those after it
+  split : (tokens s a : List Token) → IsFirstStatement tokens s a → AllByRecursion (λ t. IsTokenOf t text) tokens → AllByRecursion (λ t. IsTokenOf t text) s × AllByRecursion (λ t. IsTokenOf t text) a
   split tokens s a first all = all_parts (λ t. IsTokenOf t text) s a (subst (λ (z : List Token). AllByRecursion (λ t. IsTokenOf t text) z) first.0 all)
 
   items_formed : (tokens : List Token) (items : List PlainItem) (rest : List Token) → AreItems text tokens items rest → AllByRecursion (λ t. IsTokenOf t text) tokens
@@ -409,6 +409,6 @@ module _ (names : NamesArePrintable) (sized_fit : SizedBitsFit) (plain_fit : Pla
       let items = items_formed p.1 m.items p.2 p.6 both.1 in
       ((header.0, header.1, items.0), source_formed p.2 ms p.7 items.1)
 
-pub sources_are_formed : NamesArePrintable → SizedBitsFit → PlainValuesFit → TokensStandInText → SourcesAreFormed
-sources_are_formed names sized_fit plain_fit stand text modules p =
-    source_formed names sized_fit plain_fit text p.0 modules p.2 (all_of_text stand text p.0 p.1)
+pub sources_are_formed : NamesArePrintable → SizedBitsFit → PlainValuesFit → TokensAreInText → SourcesAreFormed
+sources_are_formed names sized_fit plain_fit occur text modules p =
+    source_formed names sized_fit plain_fit text p.0 modules p.2 (all_of_text occur text p.0 p.1)

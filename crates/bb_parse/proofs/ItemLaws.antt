@@ -11,14 +11,14 @@ use Rattle.bb_parse.specs.Symbols.{Symbol, Identifier, Reserved, SizedNumber, Pl
 use Rattle.bb_parse.specs.Lists.{IsName, IsOptional, IsMore, IsList}
 use Rattle.bb_parse.specs.Expressions.{IsExpr, IsLval}
 use Rattle.bb_parse.specs.Declarations.{IsRange, IsPort}
-use Rattle.bb_parse.specs.Items.{IsNet, IsAssignment, supply_word, gate_word, AreTerminals, IsGate, IsPlace, IsNamed, AreConns, IsCall, edge_word, IsClock, IsItem}
-use Rattle.bb_parse.specs.Inside.Symbols.{is_next, behind, next_kind}
-use Rattle.bb_parse.specs.Inside.Steps.{◌>>=◌, with_front, read_mark, read_name, read_plain, read_more, read_list}
+use Rattle.bb_parse.specs.Items.{IsNet, IsAssignment, supply_word, gate_word, AreTerminals, IsGate, IsPlace, IsNamed, AreConns, IsCall, edge_word, IsClockExpression, IsItem}
+use Rattle.bb_parse.specs.Inside.Symbols.{is_next, after, next_kind}
+use Rattle.bb_parse.specs.Inside.Steps.{◌>>=◌, with_prefix, read_mark, read_name, read_plain, read_more, read_list}
 use Rattle.bb_parse.specs.Inside.Expressions.{read_expr, read_lval}
 use Rattle.bb_parse.specs.Inside.Declarations.{taken, read_optional_range, read_port, read_ports, read_regs, read_supply}
 use Rattle.bb_parse.specs.Inside.Items.{read_net, read_nets, read_sides, read_assignment, read_assign, read_optional_name, read_terms, read_gate, read_gates, read_place, read_named, read_conns, read_call, read_calls, edge_of, read_clock, read_event, read_clocked, read_always, worded, read_body}
 use Rattle.bb_parse.proofs.Marks.{next_is}
-use Rattle.bb_parse.proofs.Parts.{and_then, and_so, either_way, behind_front, mark_sound, name_sound, plain_sound}
+use Rattle.bb_parse.proofs.Parts.{and_then, and_so, either_way, after_prefix, mark_sound, name_sound, plain_sound}
 use Rattle.bb_parse.proofs.ListLaws.{Sound, list_sound, more_sound}
 use Rattle.bb_parse.proofs.ExpressionLaws.{expr_sound, lval_sound}
 use Rattle.bb_parse.proofs.DeclarationLaws.{optional_range_sound, port_sound}
@@ -52,8 +52,8 @@ unfolding read_net
 net_sound depth ts =
     and_then (read_name ts) _ (λ n. ts ≡ Identifier n.0 ∷ n.1) _ (name_sound ts) (λ n p.
     either_way (is_next Equals n.1) _ _ _
-    (λ h. and_then (read_expr depth (behind n.1)) _ (λ e. IsExpr depth (behind n.1) e.0 e.1) _ (expr_sound depth (behind n.1)) (λ e q.
-    (n.1, p, (behind n.1, next_is Equals n.1 h, q))))
+    (λ h. and_then (read_expr depth (after n.1)) _ (λ e. IsExpr depth (after n.1) e.0 e.1) _ (expr_sound depth (after n.1)) (λ e q.
+    (n.1, p, (after n.1, next_is Equals n.1 h, q))))
     (λ h. (n.1, p, refl)))
 
 nets_sound : (depth : ℕ) (all ts : List Symbol) → all ≡ Reserved words.Wire ∷ ts → IfSome (read_nets depth ts) (λ x. IsItem depth all x.0 x.1)
@@ -96,7 +96,7 @@ terms_sound depth ts =
     let P : List Expression × List Symbol → Type 0 = λ xs. AreTerminals depth ts xs.0 xs.1 in
     and_then (read_expr depth ts) _ (λ x. IsExpr depth ts x.0 x.1) P (expr_sound depth ts) (λ x p.
     and_then (read_mark Comma x.1) _ (λ u. x.1 ≡ Sign Comma ∷ u.1) P (mark_sound Comma x.1) (λ u q.
-    behind_front x.0 (read_list (read_expr depth) u.1) P
+    after_prefix x.0 (read_list (read_expr depth) u.1) P
     (and_so (read_list (read_expr depth) u.1) (λ xs. IsList (IsExpr depth) u.1 xs.0 xs.1) (λ xs. AreTerminals depth ts (x.0 ∷ xs.0) xs.1)
     (list_sound (IsExpr depth) (read_expr depth) (expr_sound depth) u.1) (λ xs r. (u.1, subst (λ z. IsExpr depth ts x.0 z) q p, r)))))
 
@@ -135,21 +135,21 @@ named_sound depth ts =
 
 -- places before something other than ): the first is not the only one, or not open
 first_place : (depth : ℕ) (ts : List Symbol) (x : Expression × List Symbol) → IsExpr depth ts x.0 x.1
-    → IfSome (with_front (Some x.0 ∷ []) (read_more (read_place depth) (length x.1) x.1)) (λ y. AreConns depth ts (Order y.0) y.1)
+    → IfSome (with_prefix (Some x.0 ∷ []) (read_more (read_place depth) (length x.1) x.1)) (λ y. AreConns depth ts (Order y.0) y.1)
 first_place depth ts x p =
     let P : List (Option Expression) × List Symbol → Type 0 = λ y. AreConns depth ts (Order y.0) y.1 in
-    behind_front (Some x.0) (read_more (read_place depth) (length x.1) x.1) P
+    after_prefix (Some x.0) (read_more (read_place depth) (length x.1) x.1) P
     (and_so (read_more (read_place depth) (length x.1) x.1) (λ xs. IsMore (IsPlace depth) x.1 xs.0 xs.1) (λ xs. AreConns depth ts (Order (Some x.0 ∷ xs.0)) xs.1)
     (more_sound (IsPlace depth) (read_place depth) (place_sound depth) (length x.1) x.1) (λ xs q. (x.1, p, q)))
 
 open_first : (depth n : ℕ) (a : List Symbol)
-    → IfSome (with_front (None ∷ []) (read_more (read_place depth) (suc n) (Sign Comma ∷ a))) (λ y. AreConns depth (Sign Comma ∷ a) (Order y.0) y.1)
+    → IfSome (with_prefix (None ∷ []) (read_more (read_place depth) (suc n) (Sign Comma ∷ a))) (λ y. AreConns depth (Sign Comma ∷ a) (Order y.0) y.1)
 open_first depth n a =
     let P : List (Option Expression) × List Symbol → Type 0 = λ y. AreConns depth (Sign Comma ∷ a) (Order y.0) y.1 in
     let Q : List (Option Expression) × List Symbol → Type 0 = λ y. P (None ∷ y.0, y.1) in
-    behind_front None (read_more (read_place depth) (suc n) (Sign Comma ∷ a)) P
+    after_prefix None (read_more (read_place depth) (suc n) (Sign Comma ∷ a)) P
     (and_then (read_place depth a) _ (λ x. IsPlace depth a x.0 x.1) Q (place_sound depth a) (λ x p.
-    behind_front x.0 (read_more (read_place depth) n x.1) Q
+    after_prefix x.0 (read_more (read_place depth) n x.1) Q
     (and_so (read_more (read_place depth) n x.1) (λ xs. IsMore (IsPlace depth) x.1 xs.0 xs.1) (λ xs. AreConns depth (Sign Comma ∷ a) (Order (None ∷ x.0 ∷ xs.0)) xs.1)
     (more_sound (IsPlace depth) (read_place depth) (place_sound depth) n x.1) (λ xs q. (Sign Comma ∷ a, refl, (a, x.1, refl, p, q))))))
 
@@ -158,17 +158,17 @@ places_at : (depth : ℕ) (ts : List Symbol) → is_next RightRound ts ≡ false
 unfolding read_place
 places_at depth ts h k =
     let P : List (Option Expression) × List Symbol → Type 0 = λ y. AreConns depth ts (Order y.0) y.1 in
-    rw (k, h) (and_then (read_expr depth ts >>= (λ e. Some (Some e.0, e.1))) (λ x. with_front (x.0 ∷ []) (read_more (read_place depth) (length x.1) x.1))
+    rw (k, h) (and_then (read_expr depth ts >>= (λ e. Some (Some e.0, e.1))) (λ x. with_prefix (x.0 ∷ []) (read_more (read_place depth) (length x.1) x.1))
     (λ x. (e : Expression) × (x.0 ≡ Some e) × IsExpr depth ts e x.1) P
     (and_then (read_expr depth ts) _ (λ e. IsExpr depth ts e.0 e.1) _ (expr_sound depth ts) (λ e p. (e.0, refl, p)))
-    (λ x p. subst (λ z. IfSome (with_front (z ∷ []) (read_more (read_place depth) (length x.1) x.1)) P) (sym p.1) (first_place depth ts (p.0, x.1) p.2)))
+    (λ x p. subst (λ z. IfSome (with_prefix (z ∷ []) (read_more (read_place depth) (length x.1) x.1)) P) (sym p.1) (first_place depth ts (p.0, x.1) p.2)))
 
 comma_places : (depth : ℕ) (a : List Symbol) → IfSome (read_list (read_place depth) (Sign Comma ∷ a)) (λ y. AreConns depth (Sign Comma ∷ a) (Order y.0) y.1)
 unfolding read_place
 comma_places depth a = open_first depth (length a) a
 
-comma_first : (depth : ℕ) (ts : List Symbol) → ts ≡ Sign Comma ∷ behind ts → IfSome (read_list (read_place depth) ts) (λ y. AreConns depth ts (Order y.0) y.1)
-comma_first depth ts e = subst (λ (z : List Symbol). IfSome (read_list (read_place depth) z) (λ y. AreConns depth z (Order y.0) y.1)) (sym e) (comma_places depth (behind ts))
+comma_first : (depth : ℕ) (ts : List Symbol) → ts ≡ Sign Comma ∷ after ts → IfSome (read_list (read_place depth) ts) (λ y. AreConns depth ts (Order y.0) y.1)
+comma_first depth ts e = subst (λ (z : List Symbol). IfSome (read_list (read_place depth) z) (λ y. AreConns depth z (Order y.0) y.1)) (sym e) (comma_places depth (after ts))
 
 true_or_false : (b : Bool) → (b ≡ true) ⊎ (b ≡ false)
 true_or_false true = inl refl
@@ -207,12 +207,12 @@ calls_sound depth ts =
     and_then (read_mark Semicolon xs.1) _ (λ u. xs.1 ≡ Sign Semicolon ∷ u.1) _ (mark_sound Semicolon xs.1) (λ u r.
     (n.1, p, subst (λ z. IsList (IsCall depth) n.1 xs.0 z) r q))))
 
-clock_sound : Sound IsClock read_clock
+clock_sound : Sound IsClockExpression read_clock
 unfolding read_clock
 clock_sound ts =
     and_then (read_name ts) _ (λ n. ts ≡ Identifier n.0 ∷ n.1) _ (name_sound ts) (λ n p.
     either_way (is_next LeftSquare n.1) _ _ _
-    (λ h. and_then (read_plain (behind n.1)) _ (λ i. behind n.1 ≡ PlainNumber i.0 ∷ i.1) _ (plain_sound (behind n.1)) (λ i q.
+    (λ h. and_then (read_plain (after n.1)) _ (λ i. after n.1 ≡ PlainNumber i.0 ∷ i.1) _ (plain_sound (after n.1)) (λ i q.
     and_then (read_mark RightSquare i.1) _ (λ u. i.1 ≡ Sign RightSquare ∷ u.1) _ (mark_sound RightSquare i.1) (λ u r.
     p ∙ ap (λ z. Identifier n.0 ∷ z) (next_is LeftSquare n.1 h ∙ ap (λ z. Sign LeftSquare ∷ z) (q ∙ ap (λ z. PlainNumber i.0 ∷ z) r)))))
     (λ h. p))
@@ -227,15 +227,15 @@ edge_sound (SizedNumber b ∷ ts) = tt
 edge_sound (PlainNumber n ∷ ts) = tt
 edge_sound (Sign m ∷ ts) = tt
 
-event_sound : (ts : List Symbol) → IfSome (read_event ts) (λ x. (a : List Symbol) × (ts ≡ Sign At ∷ Sign LeftRound ∷ Reserved (edge_word x.0.0) ∷ a) × IsClock a x.0.1 (Sign RightRound ∷ x.1))
+event_sound : (ts : List Symbol) → IfSome (read_event ts) (λ x. (a : List Symbol) × (ts ≡ Sign At ∷ Sign LeftRound ∷ Reserved (edge_word x.0.0) ∷ a) × IsClockExpression a x.0.1 (Sign RightRound ∷ x.1))
 unfolding read_event
 event_sound ts =
     and_then (read_mark At ts) _ (λ a. ts ≡ Sign At ∷ a.1) _ (mark_sound At ts) (λ a p.
     and_then (read_mark LeftRound a.1) _ (λ b. a.1 ≡ Sign LeftRound ∷ b.1) _ (mark_sound LeftRound a.1) (λ b q.
     and_then (taken (edge_of (next_kind b.1)) b.1) _ (λ e. b.1 ≡ Reserved (edge_word e.0) ∷ e.1) _ (edge_sound b.1) (λ e r.
-    and_then (read_clock e.1) _ (λ c. IsClock e.1 c.0 c.1) _ (clock_sound e.1) (λ c s.
+    and_then (read_clock e.1) _ (λ c. IsClockExpression e.1 c.0 c.1) _ (clock_sound e.1) (λ c s.
     and_then (read_mark RightRound c.1) _ (λ u. c.1 ≡ Sign RightRound ∷ u.1) _ (mark_sound RightRound c.1) (λ u t.
-    (e.1, p ∙ ap (λ z. Sign At ∷ z) (q ∙ ap (λ z. Sign LeftRound ∷ z) r), subst (λ z. IsClock e.1 c.0 z) t s))))))
+    (e.1, p ∙ ap (λ z. Sign At ∷ z) (q ∙ ap (λ z. Sign LeftRound ∷ z) r), subst (λ z. IsClockExpression e.1 c.0 z) t s))))))
 
 clocked_sound : (depth : ℕ) (ts : List Symbol) → IfSome (read_clocked depth ts) (λ x. (a : List Symbol) × IsLval depth ts x.0.0 (Sign LessEqual ∷ a) × IsExpr depth a x.0.1 (Sign Semicolon ∷ x.1))
 unfolding read_clocked
@@ -247,7 +247,7 @@ clocked_sound depth ts =
 always_sound : (depth : ℕ) (all ts : List Symbol) → all ≡ Reserved words.Always ∷ ts → IfSome (read_always depth ts) (λ x. IsItem depth all x.0 x.1)
 unfolding read_always
 always_sound depth all ts begins =
-    and_then (read_event ts) _ (λ e. (a : List Symbol) × (ts ≡ Sign At ∷ Sign LeftRound ∷ Reserved (edge_word e.0.0) ∷ a) × IsClock a e.0.1 (Sign RightRound ∷ e.1)) _ (event_sound ts) (λ e p.
+    and_then (read_event ts) _ (λ e. (a : List Symbol) × (ts ≡ Sign At ∷ Sign LeftRound ∷ Reserved (edge_word e.0.0) ∷ a) × IsClockExpression a e.0.1 (Sign RightRound ∷ e.1)) _ (event_sound ts) (λ e p.
     and_then (read_clocked depth e.1) _ (λ x. (a : List Symbol) × IsLval depth e.1 x.0.0 (Sign LessEqual ∷ a) × IsExpr depth a x.0.1 (Sign Semicolon ∷ x.1)) _ (clocked_sound depth e.1) (λ x q.
     (p.0, e.1, q.0, begins ∙ ap (λ z. Reserved words.Always ∷ z) p.1, p.2, q.1, q.2)))
 

@@ -15,8 +15,8 @@ use Rattle.bb_parse.specs.Symbols.{Symbol, Identifier, Reserved, Sign}
 use Rattle.bb_parse.specs.Lists.{IsName, IsOptional, IsMore, IsList}
 use Rattle.bb_parse.specs.Expressions.{IsExpr}
 use Rattle.bb_parse.specs.Declarations.{IsRange, IsPort, direction_word}
-use Rattle.bb_parse.specs.Items.{IsNet, IsAssignment, supply_word, gate_word, AreTerminals, IsGate, IsPlace, IsNamed, AreConns, IsCall, edge_word, IsClock, IsItem}
-use Rattle.bb_parse.specs.Inside.Symbols.{is_next, behind}
+use Rattle.bb_parse.specs.Items.{IsNet, IsAssignment, supply_word, gate_word, AreTerminals, IsGate, IsPlace, IsNamed, AreConns, IsCall, edge_word, IsClockExpression, IsItem}
+use Rattle.bb_parse.specs.Inside.Symbols.{is_next, after}
 use Rattle.bb_parse.specs.Inside.Steps.{read_name, read_more, read_list}
 use Rattle.bb_parse.specs.Inside.Expressions.{read_expr}
 use Rattle.bb_parse.specs.Inside.Declarations.{read_optional_range, read_port, read_ports, read_regs, read_supply}
@@ -162,7 +162,7 @@ call_complete depth ts x rest p h =
     let all = conns_complete depth p.0 x.1 rest p.2 in
     (rw (p.1, all.0) refl, omega (arith, ap length p.1, all.1))
 
-clock_complete : (ts : List Symbol) (e : Expression) (rest : List Symbol) → IsClock ts e (Sign RightRound ∷ rest) → read_clock ts ≡ Some (e, Sign RightRound ∷ rest)
+clock_complete : (ts : List Symbol) (e : Expression) (rest : List Symbol) → IsClockExpression ts e (Sign RightRound ∷ rest) → read_clock ts ≡ Some (e, Sign RightRound ∷ rest)
 unfolding read_clock
 clock_complete ts (Net name) rest p = rw p refl
 clock_complete ts (Bit name i) rest p = rw p refl
@@ -175,7 +175,7 @@ edge_is true = refl
 always_complete : (depth : ℕ) (ts : List Symbol) (r : PlainAlways) (rest : List Symbol) → IsItem depth (Reserved words.Always ∷ ts) (Always r) rest → read_always depth ts ≡ Some (Always r, rest)
 unfolding read_always read_event read_clocked read_sides
 always_complete depth ts r rest p =
-    let begins : ts ≡ Sign At ∷ Sign LeftRound ∷ Reserved (edge_word r.falling) ∷ p.0 = ap behind p.3 in
+    let begins : ts ≡ Sign At ∷ Sign LeftRound ∷ Reserved (edge_word r.falling) ∷ p.0 = ap after p.3 in
     let left = lval_complete depth p.1 r.left (Sign LessEqual ∷ p.2) p.5 (omega arith) in
     let right = expr_complete depth p.2 r.right (Sign Semicolon ∷ rest) p.6 (omega arith) in
     rw (begins, edge_is r.falling, clock_complete p.0 r.clock p.1 p.4, left.0, right.0) refl
@@ -184,11 +184,11 @@ direction_worded : (dir : Dir) (depth : ℕ) (ts : List Symbol) → worded (dire
 direction_worded dirs.Input depth ts = refl
 direction_worded dirs.Output depth ts = refl
 
-supply_worded : (high : Bool) (depth : ℕ) (ts : List Symbol) → worded (supply_word high) depth ts ≡ read_supply high (behind ts)
+supply_worded : (high : Bool) (depth : ℕ) (ts : List Symbol) → worded (supply_word high) depth ts ≡ read_supply high (after ts)
 supply_worded false depth ts = refl
 supply_worded true depth ts = refl
 
-gate_worded : (gate : Gate) (depth : ℕ) (ts : List Symbol) → worded (gate_word gate) depth ts ≡ read_gates gate depth (behind ts)
+gate_worded : (gate : Gate) (depth : ℕ) (ts : List Symbol) → worded (gate_word gate) depth ts ≡ read_gates gate depth (after ts)
 gate_worded gates.And depth ts = refl
 gate_worded gates.Nand depth ts = refl
 gate_worded gates.Or depth ts = refl
@@ -213,23 +213,23 @@ item_complete depth ts (Ports port names) rest p =
 item_complete depth ts (Nets range nets) rest p =
     let begins = nets_begin depth p.1 nets (Sign Semicolon ∷ rest) p.4 in
     let all = list_complete (IsNet depth) (read_net depth) (net_complete depth) p.1 nets (Sign Semicolon ∷ rest) p.4 (omega arith) in
-    read_worded depth words.Wire ts p.0 p.2 ∙ ap (λ z. read_nets depth (behind z)) p.2 ∙ rw (ranged p.0 range begins.0 p.1 begins.1 p.3 begins.2, all.0) refl
+    read_worded depth words.Wire ts p.0 p.2 ∙ ap (λ z. read_nets depth (after z)) p.2 ∙ rw (ranged p.0 range begins.0 p.1 begins.1 p.3 begins.2, all.0) refl
 item_complete depth ts (Regs range names) rest p =
     let begins = names_begin p.1 names (Sign Semicolon ∷ rest) p.4 in
-    read_worded depth words.Reg ts p.0 p.2 ∙ ap (λ z. read_regs (behind z)) p.2 ∙ rw (ranged p.0 range begins.0 p.1 begins.1 p.3 begins.2, names_complete p.1 names rest p.4) refl
+    read_worded depth words.Reg ts p.0 p.2 ∙ ap (λ z. read_regs (after z)) p.2 ∙ rw (ranged p.0 range begins.0 p.1 begins.1 p.3 begins.2, names_complete p.1 names rest p.4) refl
 item_complete depth ts (Supply high range names) rest p =
     let begins = names_begin p.1 names (Sign Semicolon ∷ rest) p.4 in
-    read_worded depth (supply_word high) ts p.0 p.2 ∙ supply_worded high depth ts ∙ ap (λ z. read_supply high (behind z)) p.2
+    read_worded depth (supply_word high) ts p.0 p.2 ∙ supply_worded high depth ts ∙ ap (λ z. read_supply high (after z)) p.2
     ∙ rw (ranged p.0 range begins.0 p.1 begins.1 p.3 begins.2, names_complete p.1 names rest p.4) refl
 item_complete depth ts (Assign all) rest p =
     let each = list_complete (IsAssignment depth) (read_assignment depth) (assignment_complete depth) p.0 all (Sign Semicolon ∷ rest) p.2 (omega arith) in
-    read_worded depth words.Assign ts p.0 p.1 ∙ ap (λ z. read_assign depth (behind z)) p.1 ∙ rw each.0 refl
+    read_worded depth words.Assign ts p.0 p.1 ∙ ap (λ z. read_assign depth (after z)) p.1 ∙ rw each.0 refl
 item_complete depth ts (Gates gate all) rest p =
     let each = list_complete (IsGate depth) (read_gate depth) (gate_complete depth) p.0 all (Sign Semicolon ∷ rest) p.2 (omega arith) in
-    read_worded depth (gate_word gate) ts p.0 p.1 ∙ gate_worded gate depth ts ∙ ap (λ z. read_gates gate depth (behind z)) p.1 ∙ rw each.0 refl
+    read_worded depth (gate_word gate) ts p.0 p.1 ∙ gate_worded gate depth ts ∙ ap (λ z. read_gates gate depth (after z)) p.1 ∙ rw each.0 refl
 item_complete depth ts (Calls name all) rest p =
     let each = list_complete (IsCall depth) (read_call depth) (call_complete depth) p.0 all (Sign Semicolon ∷ rest) p.2 (omega arith) in
     calls_read depth ts name p.0 p.1 ∙ rw each.0 refl
 item_complete depth ts (Always r) rest p =
-    let q : IsItem depth (Reserved words.Always ∷ behind ts) (Always r) rest = (p.0, p.1, p.2, ap (λ z. Reserved words.Always ∷ behind z) p.3, p.4, p.5, p.6) in
-    read_worded depth words.Always ts (behind ts) (p.3 ∙ ap (λ z. Reserved words.Always ∷ behind z) (sym p.3)) ∙ always_complete depth (behind ts) r rest q
+    let q : IsItem depth (Reserved words.Always ∷ after ts) (Always r) rest = (p.0, p.1, p.2, ap (λ z. Reserved words.Always ∷ after z) p.3, p.4, p.5, p.6) in
+    read_worded depth words.Always ts (after ts) (p.3 ∙ ap (λ z. Reserved words.Always ∷ after z) (sym p.3)) ∙ always_complete depth (after ts) r rest q

@@ -3,7 +3,7 @@ use Rattle.std.proofs.Common.{◌≡◌, ℕ, zero, suc, ◌+◌, List, [], Opti
 use Rattle.bb_ast.specs.Syntax.{Expression}
 use Rattle.bb_lex.specs.declared.mark.Mark.{Mark}
 use Rattle.bb_parse.specs.Symbols.{Symbol}
-use Rattle.bb_parse.specs.Expressions.{bit_operator, word_operator, chained, worded, is_bitwise}
+use Rattle.bb_parse.specs.Expressions.{bit_operator, word_operator, chain_expression, worded, is_bitwise}
 use Rattle.bb_parse.specs.Inside.Steps.{Read}
 use Rattle.bb_parse.specs.Inside.Expressions.{next_operator, begins_operator, read_operands, chain_from, read_row, read_unary, read_level}
 use Rattle.bb_parse.proofs.OperatorMarks.{none_begins}
@@ -23,7 +23,7 @@ unfolding read_row
 row_alone n operand x ts h =
     let none = none_begins n ts h in
     either_same (is_bitwise n) _ _ (Some (x, ts))
-    (ap (chain_from chained x) (no_operands (bit_operator n) operand (length ts) ts none.0))
+    (ap (chain_from chain_expression x) (no_operands (bit_operator n) operand (length ts) ts none.0))
     (ap (chain_from worded x) (no_operands (word_operator n) operand (length ts) ts none.1))
 
 pub level_zero : (inner : List Symbol → Read Expression) (ts : List Symbol) → read_level 0 inner ts ≡ read_unary inner ts

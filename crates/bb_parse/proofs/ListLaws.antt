@@ -3,10 +3,10 @@ use Rattle.std.proofs.Common.{◌≡◌, ℕ, zero, suc, ◌<◌, ◌≤◌, Lis
 use Rattle.bb_lex.specs.declared.mark.Mark.TheVariants.{Comma}
 use Rattle.bb_parse.specs.Symbols.{Symbol}
 use Rattle.bb_parse.specs.Lists.{Rule, IsMore, IsList}
-use Rattle.bb_parse.specs.Inside.Symbols.{is_next, behind}
+use Rattle.bb_parse.specs.Inside.Symbols.{is_next, after}
 use Rattle.bb_parse.specs.Inside.Steps.{Read, read_more, read_list}
 use Rattle.bb_parse.proofs.Marks.{next_is, rank_next, no_comma}
-use Rattle.bb_parse.proofs.Parts.{and_then, and_so, either_way, behind_front}
+use Rattle.bb_parse.proofs.Parts.{and_then, and_so, either_way, after_prefix}
 
 -- what is read is of the rule
 abbrev pub Sound : {A : Type 0} → Rule A → (List Symbol → Read A) → Type 0
@@ -22,19 +22,19 @@ module _ {A : Type 0} (is : Rule A) (read : List Symbol → Read A) where
   more_sound s (suc n) ts =
       let P : List A × List Symbol → Type 0 = λ xs. IsMore is ts xs.0 xs.1 in
       either_way (is_next Comma ts) _ _ P
-      (λ h. and_then (read (behind ts)) _ (λ x. is (behind ts) x.0 x.1) P (s (behind ts))
-      (λ x p. behind_front x.0 (read_more read n x.1) P (and_so (read_more read n x.1) (λ xs. IsMore is x.1 xs.0 xs.1) (λ xs. IsMore is ts (x.0 ∷ xs.0) xs.1) (more_sound s n x.1)
-      (λ xs q. (behind ts, x.1, next_is Comma ts h, p, q)))))
+      (λ h. and_then (read (after ts)) _ (λ x. is (after ts) x.0 x.1) P (s (after ts))
+      (λ x p. after_prefix x.0 (read_more read n x.1) P (and_so (read_more read n x.1) (λ xs. IsMore is x.1 xs.0 xs.1) (λ xs. IsMore is ts (x.0 ∷ xs.0) xs.1) (more_sound s n x.1)
+      (λ xs q. (after ts, x.1, next_is Comma ts h, p, q)))))
       (λ h. refl)
 
   pub list_sound : Sound is read → Sound (IsList is) (read_list read)
   list_sound s ts =
       let P : List A × List Symbol → Type 0 = λ xs. IsList is ts xs.0 xs.1 in
       and_then (read ts) _ (λ x. is ts x.0 x.1) P (s ts)
-      (λ x p. behind_front x.0 (read_more read (length x.1) x.1) P (and_so (read_more read (length x.1) x.1) (λ xs. IsMore is x.1 xs.0 xs.1) (λ xs. IsList is ts (x.0 ∷ xs.0) xs.1) (more_sound s (length x.1) x.1)
+      (λ x p. after_prefix x.0 (read_more read (length x.1) x.1) P (and_so (read_more read (length x.1) x.1) (λ xs. IsMore is x.1 xs.0 xs.1) (λ xs. IsList is ts (x.0 ∷ xs.0) xs.1) (more_sound s (length x.1) x.1)
       (λ xs q. (x.1, p, q))))
 
-  -- a comma or the end of the list comes behind a member
+  -- a comma or the end of the list comes after a member
   pub more_stops : (ts : List Symbol) (xs : List A) (rest : List Symbol) → IsMore is ts xs rest → 12 < rank_next rest → 11 < rank_next ts
   more_stops ts [] rest p h = rw p (omega arith)
   more_stops ts (x ∷ xs) rest p h = rw p.2 (omega arith)

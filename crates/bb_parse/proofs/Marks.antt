@@ -1,4 +1,4 @@
--- Marks: what it means that one is next, and how loosely one goes on with what stands before it.
+-- Marks: what it means that one is next, and how loosely one goes on with what precedes it.
 use Rattle.std.proofs.Common.{◌≡◌, ℕ, ◌<◌, List, [], ◌∷◌, Some, true, false, refl, ap, sym, ◌∙◌, arith, get_or, ◌==◌}
 use Rattle.std.proofs.lemmas.Bool.{eqb-true}
 use denote.Enum.Declared.{tag_of}
@@ -8,7 +8,7 @@ use Rattle.bb_lex.specs.declared.mark.Mark.{Mark}
 use Rattle.bb_lex.specs.declared.mark.Mark.TheVariants.{LeftRound, RightRound, LeftSquare, RightSquare, LeftBrace, RightBrace, Comma, Semicolon, Colon, Dot, Equals, At, Amp, Bar, Caret, Tilde, Query, Plus, Minus, Less, Greater, Bang, LessEqual, GreaterEqual, EqualEqual, BangEqual, LessLess, GreaterGreater, AmpAmp, BarBar, TildeAmp, TildeBar, TildeCaret, CaretTilde}
 use Rattle.bb_lex.specs.declared.token.Kind.TheVariants as kinds
 use Rattle.bb_parse.specs.Symbols.{Symbol, Identifier, Reserved, SizedNumber, PlainNumber, Sign}
-use Rattle.bb_parse.specs.Inside.Symbols.{mark_number, is_next, behind, next_kind}
+use Rattle.bb_parse.specs.Inside.Symbols.{mark_number, is_next, after, next_kind}
 
 all_marks : List Mark
 all_marks =
@@ -28,7 +28,7 @@ same_mark : (m n : Mark) → (mark_number m == mark_number n) ≡ true → m ≡
 same_mark m n h = sym (mark_numbered-mark_number m) ∙ ap mark_numbered (eqb-true _ _ h) ∙ mark_numbered-mark_number n
 
 -- where a mark is next, the list begins with it
-pub next_is : (m : Mark) (ts : List Symbol) → is_next m ts ≡ true → ts ≡ Sign m ∷ behind ts
+pub next_is : (m : Mark) (ts : List Symbol) → is_next m ts ≡ true → ts ≡ Sign m ∷ after ts
 next_is m [] h = cc
 next_is m (Identifier n ∷ ts) h = cc
 next_is m (Reserved w ∷ ts) h = cc
@@ -53,7 +53,7 @@ mark_next m wanted (PlainNumber n ∷ ts) h = cc
 mark_next m wanted (Sign n ∷ ts) h = let e : m ≡ n = cc in rw e refl
 
 -- [ goes on with a name, an operator with an operand, ? and = with a condition and a net, and a comma with a list. The operators of a
--- row go on with what stands before them as an operand of it
+-- row go on with what precedes them as an operand of it
 abbrev pub rank : Mark → ℕ
 rank LeftSquare = 1
 rank Plus = 2
@@ -78,7 +78,7 @@ rank Equals = 11
 rank Comma = 12
 rank _ = 15
 
--- how loosely what comes next goes on with what stands before it
+-- how loosely what comes next goes on with what precedes it
 abbrev pub rank_next : List Symbol → ℕ
 rank_next [] = 15
 rank_next (Identifier n ∷ ts) = 15

@@ -9,9 +9,9 @@ use Rattle.bb_ast.specs.Levels.{level_of}
 use Rattle.bb_lex.specs.declared.mark.Mark.{Mark}
 use Rattle.bb_lex.specs.declared.mark.Mark.TheVariants.{LeftRound, RightRound, LeftSquare, RightSquare, LeftBrace, RightBrace, Colon, Amp, Bar, Caret, Query, Plus, Minus, Less, Greater, LessEqual, GreaterEqual, EqualEqual, BangEqual, LessLess, GreaterGreater, AmpAmp, BarBar, TildeCaret, CaretTilde}
 use Rattle.bb_parse.specs.Symbols.{Symbol, Identifier, Reserved, SizedNumber, PlainNumber, Sign}
-use Rattle.bb_parse.specs.Expressions.{on_one, on_bits, bit_row, on_words, of_row, bit_operator, word_operator}
+use Rattle.bb_parse.specs.Expressions.{on_one, bit_operator_of, bit_row, on_words, of_row, bit_operator, word_operator}
 use Rattle.bb_parse.specs.Nesting.{mark_count, mark_square}
-use Rattle.bb_parse.specs.Inside.Symbols.{behind}
+use Rattle.bb_parse.specs.Inside.Symbols.{after}
 use Rattle.bb_parse.specs.Inside.Expressions.{next_operator, begins_operator}
 use Rattle.bb_parse.proofs.Marks.{rank, rank_next}
 
@@ -26,7 +26,7 @@ of_row-some row n (Some x) op h =
     let both = row_by (row x == n) x op h in
     (ap Some both.1, ap row (sym both.1) ∙ eqb-true (row x) n both.0)
 
-bit_rank : (m : Mark) (op : Op) → on_bits m ≡ Some op → rank m ≡ bit_row op + 2
+bit_rank : (m : Mark) (op : Op) → bit_operator_of m ≡ Some op → rank m ≡ bit_row op + 2
 bit_rank Amp op h = let e : bits.And ≡ op = cc in ap (λ (o : Op). bit_row o + 2) e
 bit_rank Caret op h = let e : bits.Xor ≡ op = cc in ap (λ (o : Op). bit_row o + 2) e
 bit_rank TildeCaret op h = let e : bits.Xnor ≡ op = cc in ap (λ (o : Op). bit_row o + 2) e
@@ -54,14 +54,14 @@ abbrev pub AreOfRank : {O : Type 0} → (Mark → Option O) → ℕ → Type 0
 AreOfRank {O} operator k = (m : Mark) (op : O) → operator m ≡ Some op → rank m ≡ k
 
 pub bit_ranks : (n : ℕ) → AreOfRank (bit_operator n) (n + 2)
-bit_ranks n m op h = let both = of_row-some bit_row n (on_bits m) op h in bit_rank m op both.0 ∙ ap (λ k. k + 2) both.1
+bit_ranks n m op h = let both = of_row-some bit_row n (bit_operator_of m) op h in bit_rank m op both.0 ∙ ap (λ k. k + 2) both.1
 
 pub word_ranks : (n : ℕ) → AreOfRank (word_operator n) (n + 2)
 word_ranks n m op h = let both = of_row-some level_of n (on_words m) op h in word_rank m op both.0 ∙ ap (λ k. k + 2) both.1
 
 -- where an operator is next, the list begins with a mark that is it
 pub operator_is : {O : Type 0} (operator : Mark → Option O) (ts : List Symbol) (op : O) → next_operator operator ts ≡ Some op
-    → (m : Mark) × (ts ≡ Sign m ∷ behind ts) × (operator m ≡ Some op)
+    → (m : Mark) × (ts ≡ Sign m ∷ after ts) × (operator m ≡ Some op)
 operator_is operator [] op h = absurd (cc)
 operator_is operator (Identifier n ∷ ts) op h = absurd (cc)
 operator_is operator (Reserved w ∷ ts) op h = absurd (cc)
@@ -103,11 +103,11 @@ none_begins n (Reserved w ∷ ts) h = (refl, refl)
 none_begins n (SizedNumber b ∷ ts) h = (refl, refl)
 none_begins n (PlainNumber a ∷ ts) h = (refl, refl)
 none_begins n (Sign m ∷ ts) h =
-    (none_in_row bit_row n (on_bits m) (left_false (is_some (on_bits m)) _ h), none_in_row level_of n (on_words m) (right_false (is_some (on_bits m)) (is_some (on_words m)) h))
+    (none_in_row bit_row n (bit_operator_of m) (left_false (is_some (bit_operator_of m)) _ h), none_in_row level_of n (on_words m) (right_false (is_some (bit_operator_of m)) (is_some (on_words m)) h))
 
 -- no operator opens or closes anything
 is_operator : Mark → Bool
-is_operator m = is_some (on_one m) || (is_some (on_bits m) || is_some (on_words m))
+is_operator m = is_some (on_one m) || (is_some (bit_operator_of m) || is_some (on_words m))
 
 abbrev pub KeepsCount : Mark → ℕ → Type 0
 KeepsCount m c = (mark_count m 0 c ≡ c) × (mark_square m 0 ≡ 0)
@@ -142,11 +142,11 @@ one_keeps_counts m op c h = keeps_count m c (or_true (is_some (on_one m)) _ (ap 
 pub bits_keep_counts : (n : ℕ) → KeepCounts (bit_operator n)
 unfolding is_operator
 bits_keep_counts n m op c h =
-    let both = of_row-some bit_row n (on_bits m) op h in
-    keeps_count m c (true_or (is_some (on_one m)) _ (or_true (is_some (on_bits m)) _ (ap is_some both.0)))
+    let both = of_row-some bit_row n (bit_operator_of m) op h in
+    keeps_count m c (true_or (is_some (on_one m)) _ (or_true (is_some (bit_operator_of m)) _ (ap is_some both.0)))
 
 pub words_keep_counts : (n : ℕ) → KeepCounts (word_operator n)
 unfolding is_operator
 words_keep_counts n m op c h =
     let both = of_row-some level_of n (on_words m) op h in
-    keeps_count m c (true_or (is_some (on_one m)) _ (true_or (is_some (on_bits m)) _ (ap is_some both.0)))
+    keeps_count m c (true_or (is_some (on_one m)) _ (true_or (is_some (bit_operator_of m)) _ (ap is_some both.0)))

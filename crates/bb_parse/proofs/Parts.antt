@@ -3,7 +3,7 @@ use Rattle.std.proofs.Common.{◌≡◌, List, [], ◌∷◌, Some, None, Bool, 
 use Rattle.bb_lex.specs.declared.mark.Mark.{Mark}
 use Rattle.bb_parse.specs.Symbols.{Symbol, Identifier, Reserved, SizedNumber, PlainNumber, Sign}
 use Rattle.bb_parse.specs.Inside.Symbols.{is_next}
-use Rattle.bb_parse.specs.Inside.Steps.{Read, ◌>>=◌, with_front, read_mark, read_name, read_sized, read_plain}
+use Rattle.bb_parse.specs.Inside.Steps.{Read, ◌>>=◌, with_prefix, read_mark, read_name, read_sized, read_plain}
 use Rattle.bb_parse.proofs.Marks.{next_is}
 
 -- one part, and then the rest
@@ -17,9 +17,9 @@ pub either_way : {A : Type 0} (b : Bool) (x y : Read A) (P : A × List Symbol �
 either_way true x y P h k = h refl
 either_way false x y P h k = k refl
 
-pub behind_front : {A : Type 0} (x : A) (read : Read (List A)) (P : List A × List Symbol → Type 0) → IfSome read (λ xs. P (x ∷ xs.0, xs.1)) → IfSome (with_front (x ∷ []) read) P
-behind_front x None P h = tt
-behind_front x (Some xs) P h = h
+pub after_prefix : {A : Type 0} (x : A) (read : Read (List A)) (P : List A × List Symbol → Type 0) → IfSome read (λ xs. P (x ∷ xs.0, xs.1)) → IfSome (with_prefix (x ∷ []) read) P
+after_prefix x None P h = tt
+after_prefix x (Some xs) P h = h
 
 pub mark_sound : (m : Mark) (ts : List Symbol) → IfSome (read_mark m ts) (λ x. ts ≡ Sign m ∷ x.1)
 mark_sound m ts = either_way (is_next m ts) _ _ _ (λ h. next_is m ts h) (λ h. tt)

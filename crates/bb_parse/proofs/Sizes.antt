@@ -15,9 +15,9 @@ use Rattle.bb_lex.specs.declared.token.Token.{Token}
 use Rattle.bb_lex.specs.Laws.{TokensAreFew}
 use Rattle.bb_parse.specs.Symbols.{Symbol, Sign}
 use Rattle.bb_parse.specs.Lists.{Rule, IsName, IsOptional, IsMore, IsList}
-use Rattle.bb_parse.specs.Expressions.{IsSelect, IsPrimary, select, sized, plain, round, concat, repeat, IsSigns, negated, IsNegated, IsFold, IsUnary, bit_operator, word_operator, IsOperands, chained, worded, IsChain, is_bitwise, IsLevel, IsArms, conditional, IsExpr, IsLval}
+use Rattle.bb_parse.specs.Expressions.{IsSelect, IsPrimary, select, sized, plain, round, concat, repeat, IsSigns, with_signs, IsNegated, IsFold, IsUnary, bit_operator, word_operator, IsOperands, chain_expression, worded, IsChain, is_bitwise, IsLevel, IsArms, conditional, IsExpr, IsLval}
 use Rattle.bb_parse.specs.Declarations.{IsRange, IsPortKind, IsPort, IsPlainHead, IsNextPort, IsMoreDeclared, AreDeclared, AreHeads, absent, empty, named, declared, IsHeader}
-use Rattle.bb_parse.specs.Items.{IsAssigned, IsNet, IsAssignment, AreTerminals, IsGate, IsPlace, IsNamed, AreConns, IsCall, IsClock, IsItem}
+use Rattle.bb_parse.specs.Items.{IsAssigned, IsNet, IsAssignment, AreTerminals, IsGate, IsPlace, IsNamed, AreConns, IsCall, IsClockExpression, IsItem}
 use Rattle.bb_parse.specs.Sources.{AreItems, IsSource}
 use Rattle.bb_ast.specs.Inside.Sizes.{expression_size, operands_size, words_size, arms_size, parts_size, optional_size, pair_size, conns_size, gate_size, call_size, item_size, module_size, source_size}
 use Rattle.bb_parse.specs.Laws.{SourcesAreShort, TextsAreLong}
@@ -31,7 +31,7 @@ Takes {A} size is = (ts : List Symbol) (x : A) (rest : List Symbol) → is ts x 
 -- lists
 
 module _ {A : Type 0} (size : A → ℕ) (is : Rule A) (t : Takes size is) where
-  -- a comma stands before each member
+  -- a comma precedes each member
   more_takes : (ts : List Symbol) (xs : List A) (rest : List Symbol) → IsMore is ts xs rest → sum_by (λ x. 1 + size x) xs + length rest ≤ length ts
   more_takes ts [] rest p = omega (arith, ap length p)
   more_takes ts (x ∷ xs) rest p = omega (arith, ap length p.2, t p.0 x p.1 p.3, more_takes p.1 xs rest p.4, sum_by-cons (λ (z : A). 1 + size z) x xs)
@@ -91,7 +91,7 @@ module _ (inner : Rule Expression) (t : Takes expression_size inner) where
   signs_shorten zero ts rest p = omega (arith, ap length p)
   signs_shorten (suc k) ts rest p = omega (arith, ap length p.1, signs_shorten k p.0 rest p.2)
 
-  negated_size : (k : ℕ) (e : Expression) → expression_size (negated k e) ≤ k + expression_size e
+  negated_size : (k : ℕ) (e : Expression) → expression_size (with_signs k e) ≤ k + expression_size e
   negated_size zero e = omega arith
   negated_size (suc k) e = omega arith
 
@@ -121,7 +121,7 @@ words_sum (x ∷ xs) = omega (arith, words_sum xs, sum_by-cons (operand_size {O 
 abbrev AddsUp : {O : Type 0} → (Expression → List (O × Expression) → Expression) → Type 0
 AddsUp {O} made = (e : Expression) (xs : List (O × Expression)) → expression_size (made e xs) ≡ expression_size e + sum_by operand_size xs
 
-chained_size : AddsUp chained
+chained_size : AddsUp chain_expression
 chained_size e [] = omega arith
 chained_size e (x ∷ xs) = omega (arith, operands_sum (x ∷ xs))
 
@@ -146,7 +146,7 @@ module _ (inner : Rule Expression) (t : Takes expression_size inner) where
   level_takes zero ts e rest p = unary_takes inner t ts e rest p
   level_takes (suc k) ts e rest p =
       by_either (is_bitwise k) _ _ _
-      (λ q. chain_takes (bit_operator k) (IsLevel k inner) (level_takes k) chained chained_size ts e rest q)
+      (λ q. chain_takes (bit_operator k) (IsLevel k inner) (level_takes k) chain_expression chained_size ts e rest q)
       (λ q. chain_takes (word_operator k) (IsLevel k inner) (level_takes k) worded worded_size ts e rest q)
       p
 
@@ -214,7 +214,7 @@ range_shortens = optional_shortens IsRange (λ ts range rest q. omega (arith, ap
 port_shortens : (ts : List Symbol) (port : Port) (rest : List Symbol) → IsPort ts port rest → length rest ≤ length ts
 port_shortens ts port rest p = omega (arith, ap length p.2, kind_shortens p.0 port.kind p.1 p.3, range_shortens p.1 port.range rest p.4)
 
-clock_takes : Takes expression_size IsClock
+clock_takes : Takes expression_size IsClockExpression
 clock_takes ts (Net name) rest p = omega (arith, ap length p)
 clock_takes ts (Bit name i) rest p = omega (arith, ap length p)
 clock_takes ts e rest p = elim p [ ]

@@ -9,14 +9,14 @@ use Rattle.bb_lex.specs.declared.token.Kind.{Kind}
 use Rattle.bb_lex.specs.declared.token.Kind.TheVariants as kinds
 use Rattle.bb_lex.specs.declared.token.Token.{Token}
 use Rattle.bb_lex.specs.Cut.{IsTokenOf}
-use Rattle.bb_lex.specs.Laws.{ReadBitsAreSaid}
+use Rattle.bb_lex.specs.Laws.{ReadBitsAreMeant}
 use Rattle.bb_parse.specs.declared.fault.ParseFault.{ParseFault}
 use Rattle.bb_parse.specs.declared.fault.ParseFault.TheVariants.{Statement, Unended, Deep, NoMemory}
 use Rattle.bb_parse.specs.Symbols.{Symbol, Identifier, Reserved, SizedNumber, PlainNumber, Sign, AreSymbols}
 use Rattle.bb_parse.specs.Declarations.{IsHeader}
 use Rattle.bb_parse.specs.Items.{IsItem}
 use Rattle.bb_parse.specs.Nesting.{nesting}
-use Rattle.bb_parse.specs.Sources.{ends, IsStatement, IsFirst, HaveNoEnd, line_of, IsHeaderOf, IsItemOf, IsEnd, AreItems, IsSource, Place, Outside, Inside, IsGood, AreGood, IsWrong, IsFaultFrom, IsFault}
+use Rattle.bb_parse.specs.Sources.{ends_statement, IsStatement, IsFirstStatement, HaveNoEnd, line_of, IsHeaderOf, IsItemOf, IsEnd, AreItems, IsSource, SourcePlace, Outside, Inside, IsGood, AreGood, IsStatementFault, IsFaultFrom, IsParseFault}
 use Rattle.bb_parse.specs.Inside.Symbols.{symbol_by, symbols, next_kind}
 use Rattle.bb_parse.specs.Inside.Steps.{Read}
 use Rattle.bb_parse.specs.Inside.Declarations.{header_at}
@@ -63,11 +63,11 @@ module _ {X : Type 0} (is : X → Type 0) (ts : List Symbol) (line : ℕ) where
   judged_by true e read s c = (ltb-true 200 (nesting ts) e, refl)
   judged_by false e read s c = judged_whole read s c (ltb-false 200 (nesting ts) e)
 
--- a header, with nothing behind it
+-- a header, with nothing after it
 abbrev IsWholeHeader : List Symbol → List ℕ × List PlainHead → Type 0
 IsWholeHeader ts x = IsHeader ts x []
 
--- an item at some depth, with nothing behind it
+-- an item at some depth, with nothing after it
 abbrev IsWholeItem : List Symbol → PlainBody → Type 0
 IsWholeItem ts body = (depth : ℕ) × IsItem depth ts body []
 
@@ -116,7 +116,7 @@ end_is text (t ∷ []) p h =
     (k, tt)
 end_is text (t ∷ u ∷ us) p h =
     let k : t.kind ≡ kinds.Word words.Endmodule = endmodule_kind t.kind (ap is_endmodule (sym (kind_of_symbol text t t.kind (symbols text (u ∷ us)))) ∙ h) in
-    absurd (true_false (sym (ap ends k) ∙ p.0))
+    absurd (true_false (sym (ap ends_statement k) ∙ p.0))
 
 -- the symbols of an end
 end_symbols : (text : List ℕ) (s : List Token) → IsEnd text s → symbols text s ≡ Reserved words.Endmodule ∷ []
@@ -136,7 +136,7 @@ end_shallow text s h less = omega (arith, ap nesting (end_symbols text s h))
 
 -- statements
 
-place_of : Option PlainModule → Place
+place_of : Option PlainModule → SourcePlace
 place_of None = Outside
 place_of (Some m) = Inside
 
@@ -173,25 +173,25 @@ outcome_at_end text None [] h = refl
 outcome_at_end text None (t ∷ ts) h = ([], Outside, t ∷ ts, (refl, refl), (h, inl (not_nothing t ts)))
 outcome_at_end text (Some m) tokens h = ([], Inside, tokens, (refl, refl), (h, inr refl))
 
--- a fault behind a good statement
-fault_behind : (text : List ℕ) (place next : Place) (tokens s a : List Token) (fault : ParseFault) → IsFirst tokens s a → IsGood text place s next → IsFaultFrom text next a fault
+-- a fault after a good statement
+fault_after : (text : List ℕ) (place next : SourcePlace) (tokens s a : List Token) (fault : ParseFault) → IsFirstStatement tokens s a → IsGood text place s next → IsFaultFrom text next a fault
     → IsFaultFrom text place tokens fault
-fault_behind text place next tokens s a fault first good h = (s ∷ h.0, h.1, h.2, (next, a, first, good, h.3), h.4)
+fault_after text place next tokens s a fault first good h = (s ∷ h.0, h.1, h.2, (next, a, first, good, h.3), h.4)
 
-first_shorter : (tokens s a : List Token) → IsFirst tokens s a → length a < length tokens
+first_shorter : (tokens s a : List Token) → IsFirstStatement tokens s a → length a < length tokens
 first_shorter tokens [] a p = elim p.1 [ ]
 first_shorter tokens (t ∷ ts) a p = omega (arith, ap length p.0 ∙ length-append (t ∷ ts) a)
 
-first_complete : (tokens s a : List Token) → IsFirst tokens s a → first_statement tokens ≡ Some (s, a)
+first_complete : (tokens s a : List Token) → IsFirstStatement tokens s a → first_statement tokens ≡ Some (s, a)
 first_complete tokens [] a p = elim p.1 [ ]
 first_complete tokens (t ∷ []) a p = rw (p.0, p.1) refl
 first_complete tokens (t ∷ u ∷ us) a p = rw (p.0, p.1.0, first_complete (u ∷ us ++ a) (u ∷ us) a (refl, p.1.1)) refl
 
-opened_outcome : (text : List ℕ) (tokens s a : List Token) (x : List ℕ × List PlainHead) → IsFirst tokens s a → IsHeaderOf text s x → (r : Result (List PlainModule) ParseFault)
+opened_outcome : (text : List ℕ) (tokens s a : List Token) (x : List ℕ × List PlainHead) → IsFirstStatement tokens s a → IsHeaderOf text s x → (r : Result (List PlainModule) ParseFault)
     → Outcome text (Some (opened s x)) a r → Outcome text None tokens (with_modules [] r)
 unfolding Outcome opened plus
 opened_outcome text tokens s a x first j (Ok ms) o = subst (λ (z : List PlainModule). IsSource text tokens z) (sym o.3) (s, a, o.1, first, j, refl, o.4, o.5)
-opened_outcome text tokens s a x first j (Err e) o = fault_behind text Outside Inside tokens s a e first (x, j) o
+opened_outcome text tokens s a x first j (Err e) o = fault_after text Outside Inside tokens s a e first (x, j) o
 
 -- what a statement is, by the symbols that are read from it
 IsReadHeader : List ℕ → List Token → List ℕ × List PlainHead → Type 0
@@ -200,20 +200,20 @@ IsReadHeader text s x = (nesting (symbols text s) ≤ 200) × IsWholeHeader (sym
 IsReadItem : List ℕ → List Token → PlainBody → Type 0
 IsReadItem text s x = (nesting (symbols text s) ≤ 200) × IsWholeItem (symbols text s) x
 
-header_read : ReadBitsAreSaid → (text : List ℕ) (s : List Token) (x : List ℕ × List PlainHead) → IsHeaderOf text s x → IsReadHeader text s x
+header_read : ReadBitsAreMeant → (text : List ℕ) (s : List Token) (x : List ℕ × List PlainHead) → IsHeaderOf text s x → IsReadHeader text s x
 unfolding IsReadHeader
 header_read said text s x p = subst (λ (ts : List Symbol). (nesting ts ≤ 200) × IsWholeHeader ts x) (symbols_are_one said text s p.0 p.1) (p.2, p.3)
 
-body_read : ReadBitsAreSaid → (text : List ℕ) (s : List Token) (x : PlainBody) → IsItemOf text s x → IsReadItem text s x
+body_read : ReadBitsAreMeant → (text : List ℕ) (s : List Token) (x : PlainBody) → IsItemOf text s x → IsReadItem text s x
 unfolding IsReadItem
 body_read said text s x p = subst (λ (ts : List Symbol). (nesting ts ≤ 200) × IsWholeItem ts x) (symbols_are_one said text s p.0 p.1) (p.2, (p.3, p.4))
 
-no_header : (said : ReadBitsAreSaid) (text : List ℕ) (s : List Token) → ((x : List ℕ × List PlainHead) → IsHeader (symbols text s) x [] → ⊥) → (next : Place) → IsGood text Outside s next → ⊥
+no_header : (said : ReadBitsAreMeant) (text : List ℕ) (s : List Token) → ((x : List ℕ × List PlainHead) → IsHeader (symbols text s) x [] → ⊥) → (next : SourcePlace) → IsGood text Outside s next → ⊥
 unfolding IsReadHeader
 no_header said text s h Outside g = g
 no_header said text s h Inside g = h g.0 (header_read said text s g.0 g.1).1
 
-header_outcome : (said : ReadBitsAreSaid) (text : List ℕ) (tokens s a : List Token) → IsFirst tokens s a → AreSymbols text s (symbols text s) → (go : Option PlainModule → Result (List PlainModule) ParseFault)
+header_outcome : (said : ReadBitsAreMeant) (text : List ℕ) (tokens s a : List Token) → IsFirstStatement tokens s a → AreSymbols text s (symbols text s) → (go : Option PlainModule → Result (List PlainModule) ParseFault)
     → ((next : Option PlainModule) → Outcome text next a (go next)) → (r : Result (List ℕ × List PlainHead) ParseFault) → Judged (symbols text s) (line_of s) (IsWholeHeader (symbols text s)) r
     → Outcome text None tokens (then_read (then_read r (opening s)) (λ y. with_modules y.0 (go y.1)))
 unfolding Outcome
@@ -223,25 +223,25 @@ header_outcome said text tokens s a first are go ih (Err Unended) j = elim j [ ]
 header_outcome said text tokens s a first are go ih (Err (Deep l)) j = ([], Outside, tokens, (refl, refl), (s, a, symbols text s, first, are, j.0, j.1))
 header_outcome said text tokens s a first are go ih (Err NoMemory) j = elim j [ ]
 
-closed_outcome : (text : List ℕ) (m : PlainModule) (tokens s a : List Token) → IsFirst tokens s a → IsEnd text s → (r : Result (List PlainModule) ParseFault) → Outcome text None a r
+closed_outcome : (text : List ℕ) (m : PlainModule) (tokens s a : List Token) → IsFirstStatement tokens s a → IsEnd text s → (r : Result (List PlainModule) ParseFault) → Outcome text None a r
     → Outcome text (Some m) tokens (with_modules (m ∷ []) r)
 unfolding Outcome plus
 closed_outcome text m tokens s a first e (Ok ms) o = ([], a, ms, ap (λ z. record m { items = z } ∷ ms) (sym (append-nil m.items)), (s, first, e), o)
-closed_outcome text m tokens s a first e (Err fault) o = fault_behind text Inside Outside tokens s a fault first e o
+closed_outcome text m tokens s a first e (Err fault) o = fault_after text Inside Outside tokens s a fault first e o
 
-more_outcome : (text : List ℕ) (m : PlainModule) (tokens s a : List Token) (body : PlainBody) → IsFirst tokens s a → IsItemOf text s body → (r : Result (List PlainModule) ParseFault)
+more_outcome : (text : List ℕ) (m : PlainModule) (tokens s a : List Token) (body : PlainBody) → IsFirstStatement tokens s a → IsItemOf text s body → (r : Result (List PlainModule) ParseFault)
     → Outcome text (Some (with_item m (record { line = line_of s; body = body }))) a r → Outcome text (Some m) tokens (with_modules [] r)
 unfolding Outcome plus
 more_outcome text m tokens s a body first j (Ok ms) o =
     (record { line = line_of s; body = body } ∷ o.0, o.1, o.2, o.3 ∙ ap (λ z. record m { items = z } ∷ o.2) (append_assoc m.items (record { line = line_of s; body = body } ∷ []) o.0), (s, a, first, j, refl, o.4), o.5)
-more_outcome text m tokens s a body first j (Err e) o = fault_behind text Inside Inside tokens s a e first (body, j) o
+more_outcome text m tokens s a body first j (Err e) o = fault_after text Inside Inside tokens s a e first (body, j) o
 
-no_item : (said : ReadBitsAreSaid) (text : List ℕ) (s : List Token) → is_endmodule (next_kind (symbols text s)) ≡ false → ((x : PlainBody) → IsWholeItem (symbols text s) x → ⊥) → (next : Place) → IsGood text Inside s next → ⊥
+no_item : (said : ReadBitsAreMeant) (text : List ℕ) (s : List Token) → is_endmodule (next_kind (symbols text s)) ≡ false → ((x : PlainBody) → IsWholeItem (symbols text s) x → ⊥) → (next : SourcePlace) → IsGood text Inside s next → ⊥
 unfolding IsReadItem
 no_item said text s e h Outside g = true_false (sym (is_end text s g) ∙ e)
 no_item said text s e h Inside g = h g.0 (body_read said text s g.0 g.1).1
 
-item_outcome : (said : ReadBitsAreSaid) (text : List ℕ) (m : PlainModule) (tokens s a : List Token) → IsFirst tokens s a → AreSymbols text s (symbols text s) → (go : Option PlainModule → Result (List PlainModule) ParseFault)
+item_outcome : (said : ReadBitsAreMeant) (text : List ℕ) (m : PlainModule) (tokens s a : List Token) → IsFirstStatement tokens s a → AreSymbols text s (symbols text s) → (go : Option PlainModule → Result (List PlainModule) ParseFault)
     → ((next : Option PlainModule) → Outcome text next a (go next)) → (b : Bool) → is_endmodule (next_kind (symbols text s)) ≡ b
     → (r : Result PlainBody ParseFault) → Judged (symbols text s) (line_of s) (IsWholeItem (symbols text s)) r
     → Outcome text (Some m) tokens (then_read (if b then ending m else then_read (then_read r (item_added m (line_of s))) going_on) (λ y. with_modules y.0 (go y.1)))
@@ -255,7 +255,7 @@ item_outcome said text m tokens s a first are go ih false e (Err Unended) j = el
 item_outcome said text m tokens s a first are go ih false e (Err (Deep l)) j = ([], Inside, tokens, (refl, refl), (s, a, symbols text s, first, are, j.0, j.1))
 item_outcome said text m tokens s a first are go ih false e (Err NoMemory) j = elim j [ ]
 
-outcome_first : (said : ReadBitsAreSaid) (text : List ℕ) (go : Option PlainModule → List Token → Result (List PlainModule) ParseFault) (open_module : Option PlainModule) (tokens : List Token)
+outcome_first : (said : ReadBitsAreMeant) (text : List ℕ) (go : Option PlainModule → List Token → Result (List PlainModule) ParseFault) (open_module : Option PlainModule) (tokens : List Token)
     → AllByRecursion (λ t. IsTokenOf t text) tokens
     → ((next : Option PlainModule) (a : List Token) → length a < length tokens → AllByRecursion (λ t. IsTokenOf t text) a → Outcome text next a (go next a))
     → (o : Option (List Token × List Token)) → first_statement tokens ≡ o → Outcome text open_module tokens (read_first text open_module tokens o go)
@@ -271,19 +271,19 @@ outcome_first said text go (Some m) tokens all ih (Some (s, a)) e =
     item_outcome said text m tokens s a first are (λ next. go next a) (λ next. ih next a (first_shorter tokens s a first) (rest_of_text text tokens s a e all)) (is_endmodule (next_kind (symbols text s))) refl
     (read_item_of text s) (item_judged text s)
 
-outcome_from : (said : ReadBitsAreSaid) (text : List ℕ) (n : ℕ) (open_module : Option PlainModule) (tokens : List Token) → length tokens ≤ n → AllByRecursion (λ t. IsTokenOf t text) tokens
+outcome_from : (said : ReadBitsAreMeant) (text : List ℕ) (n : ℕ) (open_module : Option PlainModule) (tokens : List Token) → length tokens ≤ n → AllByRecursion (λ t. IsTokenOf t text) tokens
     → Outcome text open_module tokens (read_from text n open_module tokens)
 outcome_from said text zero open_module [] le all = outcome_at_end text open_module [] tt
 outcome_from said text zero open_module (t ∷ ts) le all = absurd (omega arith)
 outcome_from said text (suc n) open_module tokens le all =
     outcome_first said text (read_from text n) open_module tokens all (λ next a less later. outcome_from said text n next a (omega arith) later) (first_statement tokens) refl
 
-outcome_is : (text : List ℕ) (tokens : List Token) (r : Result (List PlainModule) ParseFault) → Outcome text None tokens r → MatchResult r (IsSource text tokens) (IsFault text tokens)
+outcome_is : (text : List ℕ) (tokens : List Token) (r : Result (List PlainModule) ParseFault) → Outcome text None tokens r → MatchResult r (IsSource text tokens) (IsParseFault text tokens)
 unfolding Outcome
 outcome_is text tokens (Ok ms) o = o
 outcome_is text tokens (Err e) o = o
 
-pub source_sound : ReadBitsAreSaid → (text : List ℕ) (tokens : List Token) → AllByRecursion (λ t. IsTokenOf t text) tokens → MatchResult (read_source text tokens) (IsSource text tokens) (IsFault text tokens)
+pub source_sound : ReadBitsAreMeant → (text : List ℕ) (tokens : List Token) → AllByRecursion (λ t. IsTokenOf t text) tokens → MatchResult (read_source text tokens) (IsSource text tokens) (IsParseFault text tokens)
 unfolding read_source
 source_sound said text tokens all = outcome_is text tokens (read_from text (length tokens) None tokens) (outcome_from said text (length tokens) None tokens (omega arith) all)
 
@@ -326,7 +326,7 @@ step_end : (text : List ℕ) (m : PlainModule) (s : List Token) → IsEnd text s
 unfolding read_step
 step_end text m s p = rw (is_end text s p) refl
 
-next_read : (text : List ℕ) (n : ℕ) (open_module : Option PlainModule) (tokens s a : List Token) (closed : List PlainModule) (next : Option PlainModule) → IsFirst tokens s a
+next_read : (text : List ℕ) (n : ℕ) (open_module : Option PlainModule) (tokens s a : List Token) (closed : List PlainModule) (next : Option PlainModule) → IsFirstStatement tokens s a
     → read_step text open_module s ≡ Ok (closed, next) → read_from text (suc n) open_module tokens ≡ with_modules closed (read_from text n next a)
 next_read text n open_module tokens s a closed next first h = rw (first_complete tokens s a first, h) refl
 
@@ -344,7 +344,7 @@ items_none : (text : List ℕ) (tokens : List Token) (items : List PlainItem) (b
 items_none text tokens [] b le p = omega (arith, first_shorter tokens p.0 b p.1)
 items_none text tokens (i ∷ items) b le p = omega (arith, first_shorter tokens p.0 p.1 p.2)
 
-source_more : (said : ReadBitsAreSaid) (text : List ℕ) (n : ℕ) → Complete text n → (tokens : List Token) (ms : List PlainModule) → length tokens ≤ suc n → IsSource text tokens ms → read_from text (suc n) None tokens ≡ Ok ms
+source_more : (said : ReadBitsAreMeant) (text : List ℕ) (n : ℕ) → Complete text n → (tokens : List Token) (ms : List PlainModule) → length tokens ≤ suc n → IsSource text tokens ms → read_from text (suc n) None tokens ≡ Ok ms
 unfolding plus opened
 source_more said text n ih tokens [] le p = rw p refl
 source_more said text n ih tokens (m ∷ ms) le p =
@@ -354,7 +354,7 @@ source_more said text n ih tokens (m ∷ ms) le p =
     ∙ ih.1 (opened p.0 (m.name, m.heads)) p.1 m.items p.2 ms le' p.6 p.7
     ∙ ap (λ z. Ok (record m { line = z } ∷ ms)) (sym p.5)
 
-items_more : (said : ReadBitsAreSaid) (text : List ℕ) (n : ℕ) → Complete text n → (m : PlainModule) (tokens : List Token) (items : List PlainItem) (b : List Token) (rest : List PlainModule) → length tokens ≤ suc n
+items_more : (said : ReadBitsAreMeant) (text : List ℕ) (n : ℕ) → Complete text n → (m : PlainModule) (tokens : List Token) (items : List PlainItem) (b : List Token) (rest : List PlainModule) → length tokens ≤ suc n
     → AreItems text tokens items b → IsSource text b rest → read_from text (suc n) (Some m) tokens ≡ Ok (plus m items ∷ rest)
 unfolding plus
 items_more said text n ih m tokens [] b rest le p q =
@@ -371,11 +371,11 @@ items_more said text n ih m tokens (i ∷ items) b rest le p q =
     ∙ ap (λ z. Ok (record m { items = z } ∷ rest)) (append_assoc m.items (j ∷ []) items)
     ∙ ap (λ z. Ok (record m { items = m.items ++ record { line = z; body = i.body } ∷ items } ∷ rest)) (sym p.4)
 
-complete : (said : ReadBitsAreSaid) (text : List ℕ) (n : ℕ) → Complete text n
+complete : (said : ReadBitsAreMeant) (text : List ℕ) (n : ℕ) → Complete text n
 complete said text zero = (source_none text, λ m tokens items b rest le p q. absurd (items_none text tokens items b le p))
 complete said text (suc n) = (source_more said text n (complete said text n), items_more said text n (complete said text n))
 
-pub source_complete : (said : ReadBitsAreSaid) (text : List ℕ) (tokens : List Token) (ms : List PlainModule) → IsSource text tokens ms → read_source text tokens ≡ Ok ms
+pub source_complete : (said : ReadBitsAreMeant) (text : List ℕ) (tokens : List Token) (ms : List PlainModule) → IsSource text tokens ms → read_source text tokens ≡ Ok ms
 unfolding read_source
 source_complete said text tokens ms p = (complete said text (length tokens)).0 tokens ms (omega arith) p
 
@@ -386,8 +386,8 @@ no_first [] h = refl
 no_first (t ∷ ts) h = rw (h.0, no_first ts h.1) refl
 
 -- a statement at fault in its place
-abbrev IsAtFault : List ℕ → Place → List Token → ParseFault → Type 0
-IsAtFault text place s (Statement line) = AreSymbols text s (symbols text s) × (nesting (symbols text s) ≤ 200) × ((next : Place) → IsGood text place s next → ⊥) × (line ≡ line_of s)
+abbrev IsAtFault : List ℕ → SourcePlace → List Token → ParseFault → Type 0
+IsAtFault text place s (Statement line) = AreSymbols text s (symbols text s) × (nesting (symbols text s) ≤ 200) × ((next : SourcePlace) → IsGood text place s next → ⊥) × (line ≡ line_of s)
 IsAtFault text place s (Deep line) = (200 < nesting (symbols text s)) × (line ≡ line_of s)
 IsAtFault text place s Unended = ⊥
 IsAtFault text place s NoMemory = ⊥
@@ -421,7 +421,7 @@ step_fault text (Some m) s (Deep l) st p =
 step_fault text (Some m) s Unended st p = elim p [ ]
 step_fault text (Some m) s NoMemory st p = elim p [ ]
 
-first_fault : (text : List ℕ) (n : ℕ) (open_module : Option PlainModule) (tokens s a : List Token) (e : ParseFault) → length tokens ≤ n → IsFirst tokens s a → IsAtFault text (place_of open_module) s e
+first_fault : (text : List ℕ) (n : ℕ) (open_module : Option PlainModule) (tokens s a : List Token) (e : ParseFault) → length tokens ≤ n → IsFirstStatement tokens s a → IsAtFault text (place_of open_module) s e
     → read_from text n open_module tokens ≡ Err e
 first_fault text zero open_module tokens s a e le first p = absurd (omega (arith, first_shorter tokens s a first))
 first_fault text (suc n) open_module tokens s a e le first p = rw (first_complete tokens s a first, step_fault text open_module s e first.1 p) refl
@@ -440,7 +440,7 @@ at_end_fault None [] (inr h) = absurd (outside_inside h)
 at_end_fault None (t ∷ ts) h = refl
 at_end_fault (Some m) tokens h = refl
 
-wrong_fault : (said : ReadBitsAreSaid) (text : List ℕ) (n : ℕ) (open_module : Option PlainModule) (tokens : List Token) (e : ParseFault) → length tokens ≤ n → IsWrong text (place_of open_module) tokens e
+wrong_fault : (said : ReadBitsAreMeant) (text : List ℕ) (n : ℕ) (open_module : Option PlainModule) (tokens : List Token) (e : ParseFault) → length tokens ≤ n → IsStatementFault text (place_of open_module) tokens e
     → read_from text n open_module tokens ≡ Err e
 wrong_fault said text n open_module tokens (Statement l) le p =
     let same : p.2 ≡ symbols text p.0 = symbols_are_one said text p.0 p.2 p.4 in
@@ -452,7 +452,7 @@ wrong_fault said text n open_module tokens (Deep l) le p =
 wrong_fault said text n open_module tokens Unended le p = ended_read text n open_module tokens p.0 ∙ at_end_fault open_module tokens p.1
 wrong_fault said text n open_module tokens NoMemory le p = elim p [ ]
 
-good_step : (said : ReadBitsAreSaid) (text : List ℕ) (open_module : Option PlainModule) (s : List Token) (next : Place) → IsGood text (place_of open_module) s next
+good_step : (said : ReadBitsAreMeant) (text : List ℕ) (open_module : Option PlainModule) (s : List Token) (next : SourcePlace) → IsGood text (place_of open_module) s next
     → (closed : List PlainModule) × (after : Option PlainModule) × (read_step text open_module s ≡ Ok (closed, after)) × (place_of after ≡ next)
 unfolding place_of
 good_step said text None s Outside g = elim g [ ]
@@ -460,18 +460,18 @@ good_step said text None s Inside g = ([], Some (opened s g.0), step_header text
 good_step said text (Some m) s Outside g = (m ∷ [], None, step_end text m s g, refl)
 good_step said text (Some m) s Inside g = ([], Some (with_item m (record { line = line_of s; body = g.0 })), step_item text m s g.0 (body_read said text s g.0 g.1), refl)
 
-fault_from : (said : ReadBitsAreSaid) (text : List ℕ) (n : ℕ) (front : List (List Token)) (open_module : Option PlainModule) (tokens : List Token) (behind : Place) (a : List Token) (e : ParseFault) → length tokens ≤ n
-    → AreGood text (place_of open_module) tokens front behind a → IsWrong text behind a e → read_from text n open_module tokens ≡ Err e
-fault_from said text n [] open_module tokens behind a e le p w =
-    let w' : IsWrong text (place_of open_module) tokens e = subst (λ (z : Place × List Token). IsWrong text z.0 z.1 e) (sym (λ i. (p.0 i, p.1 i))) w in
+fault_from : (said : ReadBitsAreMeant) (text : List ℕ) (n : ℕ) (prefix : List (List Token)) (open_module : Option PlainModule) (tokens : List Token) (afterwards : SourcePlace) (a : List Token) (e : ParseFault) → length tokens ≤ n
+    → AreGood text (place_of open_module) tokens prefix afterwards a → IsStatementFault text afterwards a e → read_from text n open_module tokens ≡ Err e
+fault_from said text n [] open_module tokens afterwards a e le p w =
+    let w' : IsStatementFault text (place_of open_module) tokens e = subst (λ (z : SourcePlace × List Token). IsStatementFault text z.0 z.1 e) (sym (λ i. (p.0 i, p.1 i))) w in
     wrong_fault said text n open_module tokens e le w'
-fault_from said text zero (s ∷ ss) open_module tokens behind a e le p w = absurd (omega (arith, first_shorter tokens s p.1 p.2))
-fault_from said text (suc n) (s ∷ ss) open_module tokens behind a e le p w =
+fault_from said text zero (s ∷ ss) open_module tokens afterwards a e le p w = absurd (omega (arith, first_shorter tokens s p.1 p.2))
+fault_from said text (suc n) (s ∷ ss) open_module tokens afterwards a e le p w =
     let le' : length p.1 ≤ n = omega (arith, first_shorter tokens s p.1 p.2) in
     let step = good_step said text open_module s p.0 p.3 in
-    let q : AreGood text (place_of step.1) p.1 ss behind a = subst (λ (z : Place). AreGood text z p.1 ss behind a) (sym step.3) p.4 in
-    next_read text n open_module tokens s p.1 step.0 step.1 p.2 step.2 ∙ ap (with_modules step.0) (fault_from said text n ss step.1 p.1 behind a e le' q w)
+    let q : AreGood text (place_of step.1) p.1 ss afterwards a = subst (λ (z : SourcePlace). AreGood text z p.1 ss afterwards a) (sym step.3) p.4 in
+    next_read text n open_module tokens s p.1 step.0 step.1 p.2 step.2 ∙ ap (with_modules step.0) (fault_from said text n ss step.1 p.1 afterwards a e le' q w)
 
-pub fault_complete : (said : ReadBitsAreSaid) (text : List ℕ) (tokens : List Token) (e : ParseFault) → IsFault text tokens e → read_source text tokens ≡ Err e
+pub fault_complete : (said : ReadBitsAreMeant) (text : List ℕ) (tokens : List Token) (e : ParseFault) → IsParseFault text tokens e → read_source text tokens ≡ Err e
 unfolding read_source place_of
 fault_complete said text tokens e p = fault_from said text (length tokens) p.0 None tokens p.1 p.2 e (omega arith) p.3 p.4

@@ -5,7 +5,7 @@ use Rattle.bb_lex.specs.declared.token.Kind.{Kind}
 use Rattle.bb_lex.specs.declared.token.Kind.TheVariants as kinds
 use Rattle.bb_lex.specs.declared.token.Token.{Token}
 use Rattle.bb_lex.specs.Cut.{IsTokenOf}
-use Rattle.bb_lex.specs.Laws.{ReadBitsAreSaid}
+use Rattle.bb_lex.specs.Laws.{ReadBitsAreMeant}
 use Rattle.bb_parse.specs.Symbols.{Symbol, Identifier, Reserved, SizedNumber, PlainNumber, Sign, IsSymbol, AreSymbols}
 use Rattle.bb_parse.specs.Inside.Symbols.{symbol_by, symbol, symbols}
 
@@ -15,7 +15,7 @@ length-symbols text [] (s ∷ ss) p = elim p [ ]
 length-symbols text (t ∷ tokens) [] p = elim p [ ]
 length-symbols text (t ∷ tokens) (s ∷ ss) p = ap suc (length-symbols text tokens ss p.1)
 
-module _ (said : ReadBitsAreSaid) (text : List ℕ) where
+module _ (said : ReadBitsAreMeant) (text : List ℕ) where
   is_symbol : (t : Token) (k : Kind) → t.kind ≡ k → IsTokenOf t text → IsSymbol text t (symbol_by text t k)
   is_symbol t kinds.Name e is = (e, refl)
   is_symbol t (kinds.Word w) e is = e

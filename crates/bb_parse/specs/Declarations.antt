@@ -40,7 +40,7 @@ IsPlainHead ts head rest = (ts ≡ Identifier head.name ∷ rest) × (head.decl 
 abbrev pub IsNextPort : Port → Rule Port
 IsNextPort before ts port rest = IsPort ts port rest ⊎ ((port ≡ before) × (ts ≡ rest))
 
--- any number of a comma and a name with its declaration, where this declaration stands before them
+-- any number of a comma and a name with its declaration, where before is the last declaration so far
 abbrev pub IsMoreDeclared : Port → Rule (List PlainHead)
 IsMoreDeclared before ts [] rest = ts ≡ rest
 IsMoreDeclared before ts (head ∷ heads) rest =

@@ -2,7 +2,7 @@
 -- conditional over chains. The chains are of nine levels, by the rows of table 5-4: level 0 is a primary with the operators before it,
 -- and level n + 1 a chain of level n by the operators of row n. The rows, from the tightest on:
 --     0  + -    1  << >>    2  < <= > >=    3  == !=    4  &    5  ^ ~^ ^~    6  |    7  &&    8  ||
--- A chain is grouped to the left, a conditional to the right. A rule takes as inner what may stand in brackets and between ? and :, so
+-- A chain is grouped to the left, a conditional to the right. A rule takes as inner what may be in brackets and between ? and :, so
 -- that the depth to which these nest is a number. Parentheses leave no trace.
 use Rattle.std.specs.Prelude.{◌≡◌, ◌⊎◌, ℕ, zero, suc, ◌||◌, ◌==◌, List, [], ◌∷◌, Option, Some, None, Bool, MatchBool, if◌then◌else◌}
 use Rattle.bb_ast.specs.declared.expr.Op.{Op}
@@ -35,19 +35,19 @@ pub data IsPrimary (inner : Rule Expression) (ts : List Symbol) (e : Expression)
   repeat : (k : ℕ) (all : List Expression) (a : List Symbol) → ts ≡ Sign LeftBrace ∷ PlainNumber k ∷ Sign LeftBrace ∷ a
       → IsList inner a all (Sign RightBrace ∷ Sign RightBrace ∷ rest) → e ≡ Repeat k (listed_parts all) → IsPrimary inner ts e rest
 
--- so many signs ~
+-- a run of signs ~ and their number
 abbrev pub IsSigns : ℕ → List Symbol → List Symbol → Type 0
 IsSigns zero ts rest = ts ≡ rest
 IsSigns (suc k) ts rest = (a : List Symbol) × (ts ≡ Sign Tilde ∷ a) × IsSigns k a rest
 
--- so many signs before an expression; none leaves it as it is
-abbrev pub negated : ℕ → Expression → Expression
-negated zero e = e
-negated (suc k) e = Not (suc k) e
+-- a run of signs before an expression; an empty one leaves it as it is
+abbrev pub with_signs : ℕ → Expression → Expression
+with_signs zero e = e
+with_signs (suc k) e = Not (suc k) e
 
 -- a run of ~, which may be empty, before what is of the rule
 abbrev pub IsNegated : Rule Expression → Rule Expression
-IsNegated is ts e rest = (k : ℕ) × (a : List Symbol) × (x : Expression) × IsSigns k ts a × is a x rest × (e ≡ negated k x)
+IsNegated is ts e rest = (k : ℕ) × (a : List Symbol) × (x : Expression) × IsSigns k ts a × is a x rest × (e ≡ with_signs k x)
 
 -- the operator that a mark is before one operand, but for ~ (5.1.9 and 5.1.11)
 abbrev pub on_one : Mark → Option FoldOp
@@ -72,13 +72,13 @@ abbrev pub IsUnary : Rule Expression → Rule Expression
 IsUnary inner = IsNegated (IsFold inner)
 
 -- the operator on bits that a mark is between two operands (5.1.10)
-abbrev pub on_bits : Mark → Option Op
-on_bits Amp = Some bits.And
-on_bits Caret = Some bits.Xor
-on_bits TildeCaret = Some bits.Xnor
-on_bits CaretTilde = Some bits.Xnor
-on_bits Bar = Some bits.Or
-on_bits _ = None
+abbrev pub bit_operator_of : Mark → Option Op
+bit_operator_of Amp = Some bits.And
+bit_operator_of Caret = Some bits.Xor
+bit_operator_of TildeCaret = Some bits.Xnor
+bit_operator_of CaretTilde = Some bits.Xnor
+bit_operator_of Bar = Some bits.Or
+bit_operator_of _ = None
 
 -- its row of table 5-4
 abbrev pub bit_row : Op → ℕ
@@ -110,7 +110,7 @@ of_row row n (Some op) = if row op == n then Some op else None
 
 -- the operator of the row that a mark is
 abbrev pub bit_operator : ℕ → Mark → Option Op
-bit_operator n mark = of_row bit_row n (on_bits mark)
+bit_operator n mark = of_row bit_row n (bit_operator_of mark)
 
 abbrev pub word_operator : ℕ → Mark → Option WordOp
 word_operator n mark = of_row level_of n (on_words mark)
@@ -122,9 +122,9 @@ IsOperands operator operand ts (x ∷ xs) rest =
     (mark : Mark) × (a b : List Symbol) × (ts ≡ Sign mark ∷ a) × (operator mark ≡ Some x.0) × operand a x.1 b × IsOperands operator operand b xs rest
 
 -- a chain of one operand is that operand
-abbrev pub chained : Expression → List (Op × Expression) → Expression
-chained e [] = e
-chained e (x ∷ xs) = Chain e (operands (x ∷ xs))
+abbrev pub chain_expression : Expression → List (Op × Expression) → Expression
+chain_expression e [] = e
+chain_expression e (x ∷ xs) = Chain e (operands (x ∷ xs))
 
 abbrev pub worded : Expression → List (WordOp × Expression) → Expression
 worded e [] = e
@@ -140,13 +140,13 @@ abbrev pub is_bitwise : ℕ → Bool
 is_bitwise n = n == 4 || n == 5 || n == 6
 
 -- a chain of the row, where this is an operand of it
-abbrev pub IsRow : ℕ → Rule Expression → Rule Expression
-IsRow n operand ts e rest = MatchBool (is_bitwise n) (IsChain (bit_operator n) chained operand ts e rest) (IsChain (word_operator n) worded operand ts e rest)
+abbrev pub IsOperatorChain : ℕ → Rule Expression → Rule Expression
+IsOperatorChain n operand ts e rest = MatchBool (is_bitwise n) (IsChain (bit_operator n) chain_expression operand ts e rest) (IsChain (word_operator n) worded operand ts e rest)
 
 -- level 0 is a unary, and level n + 1 a chain of level n by row n
 abbrev pub IsLevel : ℕ → Rule Expression → Rule Expression
 IsLevel zero inner = IsUnary inner
-IsLevel (suc n) inner = IsRow n (IsLevel n inner)
+IsLevel (suc n) inner = IsOperatorChain n (IsLevel n inner)
 
 -- a chain of the last row: what a condition and a last branch may be
 abbrev pub IsLor : Rule Expression → Rule Expression
@@ -163,7 +163,7 @@ abbrev pub conditional : List (Expression × Expression) → Expression → Expr
 conditional [] last = last
 conditional (x ∷ xs) last = Cond (arms (x ∷ xs)) last
 
--- an expression in which brackets and conditionals nest to less than so many levels
+-- an expression in which brackets and conditionals nest to less than depth levels
 abbrev pub IsExpr : ℕ → Rule Expression
 IsExpr zero ts e rest = ⊥
 IsExpr (suc n) ts e rest = (xs : List (Expression × Expression)) × (last : Expression) × IsArms (IsExpr n) ts xs last rest × (e ≡ conditional xs last)

@@ -45,7 +45,7 @@ AreTerminals depth ts (x ∷ xs) rest = (a : List Symbol) × IsExpr depth ts x (
 abbrev pub IsGate : ℕ → Rule (Option (List ℕ) × List Expression)
 IsGate depth ts x rest = (a : List Symbol) × IsOptional IsName ts x.0 (Sign LeftRound ∷ a) × AreTerminals depth a x.1 (Sign RightRound ∷ rest)
 
--- a place of a list by order, which may be open
+-- a connection by order, which may be open
 abbrev pub IsPlace : ℕ → Rule (Option Expression)
 IsPlace depth = IsOptional (IsExpr depth)
 
@@ -53,7 +53,7 @@ IsPlace depth = IsOptional (IsExpr depth)
 abbrev pub IsNamed : ℕ → Rule (List ℕ × Option Expression)
 IsNamed depth ts x rest = (a : List Symbol) × (ts ≡ Sign Dot ∷ Identifier x.0 ∷ Sign LeftRound ∷ a) × IsPlace depth a x.1 (Sign RightRound ∷ rest)
 
--- the connections of an instance: a lone open place is no place
+-- the connections of an instance: a lone open connection is none
 abbrev pub AreConns : ℕ → Rule PlainConns
 AreConns depth ts (Order []) rest = ts ≡ rest
 AreConns depth ts (Order (None ∷ [])) rest = ⊥
@@ -68,10 +68,10 @@ edge_word false = words.Posedge
 edge_word true = words.Negedge
 
 -- a net or one bit of it
-abbrev pub IsClock : Rule Expression
-IsClock ts (Net name) rest = ts ≡ Identifier name ∷ rest
-IsClock ts (Bit name i) rest = ts ≡ Identifier name ∷ Sign LeftSquare ∷ PlainNumber i ∷ Sign RightSquare ∷ rest
-IsClock ts _ rest = ⊥
+abbrev pub IsClockExpression : Rule Expression
+IsClockExpression ts (Net name) rest = ts ≡ Identifier name ∷ rest
+IsClockExpression ts (Bit name i) rest = ts ≡ Identifier name ∷ Sign LeftSquare ∷ PlainNumber i ∷ Sign RightSquare ∷ rest
+IsClockExpression ts _ rest = ⊥
 
 abbrev pub IsItem : ℕ → Rule PlainBody
 IsItem depth ts (Ports port names) rest = (a : List Symbol) × IsPort ts port a × IsList IsName a names (Sign Semicolon ∷ rest)
@@ -83,5 +83,5 @@ IsItem depth ts (Assign all) rest = (a : List Symbol) × (ts ≡ Reserved words.
 IsItem depth ts (Gates gate all) rest = (a : List Symbol) × (ts ≡ Reserved (gate_word gate) ∷ a) × IsList (IsGate depth) a all (Sign Semicolon ∷ rest)
 IsItem depth ts (Calls name all) rest = (a : List Symbol) × (ts ≡ Identifier name ∷ a) × IsList (IsCall depth) a all (Sign Semicolon ∷ rest)
 IsItem depth ts (Always r) rest =
-    (a b c : List Symbol) × (ts ≡ Reserved words.Always ∷ Sign At ∷ Sign LeftRound ∷ Reserved (edge_word r.falling) ∷ a) × IsClock a r.clock (Sign RightRound ∷ b)
+    (a b c : List Symbol) × (ts ≡ Reserved words.Always ∷ Sign At ∷ Sign LeftRound ∷ Reserved (edge_word r.falling) ∷ a) × IsClockExpression a r.clock (Sign RightRound ∷ b)
     × IsLval depth b r.left (Sign LessEqual ∷ c) × IsExpr depth c r.right (Sign Semicolon ∷ rest)

@@ -7,7 +7,7 @@ use Rattle.bb_ast.specs.Inside.Formed.{IsFormed}
 use Rattle.bb_lex.specs.declared.token.Token.{Token}
 use Rattle.bb_lex.specs.Cut.{AreTokens}
 use Rattle.bb_parse.specs.declared.fault.ParseFault.{ParseFault}
-use Rattle.bb_parse.specs.Sources.{IsSource, IsFault, ReadsAs}
+use Rattle.bb_parse.specs.Sources.{IsSource, IsParseFault, ReadsAs}
 use Rattle.bb_parse.specs.Inside.Sources.{read_source}
 use Rattle.bb_ast.specs.Inside.Sizes.{source_size}
 
@@ -15,14 +15,14 @@ abbrev pub SourcesAreOne : Type 0
 SourcesAreOne = (text : List ℕ) (tokens : List Token) (ms ns : List PlainModule) → IsSource text tokens ms → IsSource text tokens ns → ms ≡ ns
 
 abbrev pub FaultsAreOne : Type 0
-FaultsAreOne = (text : List ℕ) (tokens : List Token) (e f : ParseFault) → IsFault text tokens e → IsFault text tokens f → e ≡ f
+FaultsAreOne = (text : List ℕ) (tokens : List Token) (e f : ParseFault) → IsParseFault text tokens e → IsParseFault text tokens f → e ≡ f
 
 -- the tokens of a text mean a source or have a first fault
 abbrev pub SourceOrFault : Type 0
-SourceOrFault = (text : List ℕ) (tokens : List Token) → AreTokens text tokens → ((ms : List PlainModule) × IsSource text tokens ms) ⊎ ((e : ParseFault) × IsFault text tokens e)
+SourceOrFault = (text : List ℕ) (tokens : List Token) → AreTokens text tokens → ((ms : List PlainModule) × IsSource text tokens ms) ⊎ ((e : ParseFault) × IsParseFault text tokens e)
 
 abbrev pub NotSourceAndFault : Type 0
-NotSourceAndFault = (text : List ℕ) (tokens : List Token) (ms : List PlainModule) (e : ParseFault) → IsSource text tokens ms → IsFault text tokens e → ⊥
+NotSourceAndFault = (text : List ℕ) (tokens : List Token) (ms : List PlainModule) (e : ParseFault) → IsSource text tokens ms → IsParseFault text tokens e → ⊥
 
 -- a text reads as at most one source
 abbrev pub TextsReadOnce : Type 0
@@ -47,4 +47,4 @@ SourcesAreRead = (text : List ℕ) (tokens : List Token) (modules : List PlainMo
 
 abbrev pub FaultsAreRead : Type 0
 FaultsAreRead = (text : List ℕ) (tokens : List Token) (fault : ParseFault) → AreTokens text tokens
-    → (read_source text tokens ≡ Err fault → IsFault text tokens fault) × (IsFault text tokens fault → read_source text tokens ≡ Err fault)
+    → (read_source text tokens ≡ Err fault → IsParseFault text tokens fault) × (IsParseFault text tokens fault → read_source text tokens ≡ Err fault)

@@ -1,5 +1,5 @@
--- Rules of the grammar as definite clauses: IsRule ts x rest says that ts begins with symbols that mean x by the rule, and
--- that rest is what stands behind them.
+-- Rules of the grammar as definite clauses: IsRule ts x rest says that ts begins with symbols that mean x by the rule,
+-- and that rest are the symbols after them.
 use Rattle.std.specs.Prelude.{◌≡◌, ℕ, List, [], ◌∷◌, Option, Some, None}
 use Rattle.bb_lex.specs.declared.mark.Mark.TheVariants.{Comma}
 use Rattle.bb_parse.specs.Symbols.{Symbol, Identifier, Sign}

@@ -5,7 +5,7 @@ use Rattle.bb_lex.specs.declared.mark.Mark.{Mark}
 use Rattle.bb_lex.specs.declared.mark.Mark.TheVariants.{LeftRound, RightRound, LeftSquare, RightSquare, LeftBrace, RightBrace, Colon, Query}
 use Rattle.bb_parse.specs.Symbols.{Symbol, Identifier, Reserved, SizedNumber, PlainNumber, Sign}
 
--- the counter behind a mark, where so many square brackets are open
+-- the counter after a mark, where square counts the open square brackets
 abbrev pub mark_count : Mark → ℕ → ℕ → ℕ
 mark_count LeftRound square count = count + 1
 mark_count LeftBrace square count = count + 1
@@ -15,30 +15,30 @@ mark_count RightBrace square count = count - 1
 mark_count Colon square count = if square == 0 then count - 1 else count
 mark_count mark square count = count
 
--- how many square brackets are open behind a mark
+-- the number of open square brackets after a mark
 abbrev pub mark_square : Mark → ℕ → ℕ
 mark_square LeftSquare square = square + 1
 mark_square RightSquare square = square - 1
 mark_square mark square = square
 
-abbrev pub count_behind : Symbol → ℕ → ℕ → ℕ
-count_behind (Identifier n) square count = count
-count_behind (Reserved w) square count = count
-count_behind (SizedNumber b) square count = count
-count_behind (PlainNumber n) square count = count
-count_behind (Sign m) square count = mark_count m square count
+abbrev pub count_after : Symbol → ℕ → ℕ → ℕ
+count_after (Identifier n) square count = count
+count_after (Reserved w) square count = count
+count_after (SizedNumber b) square count = count
+count_after (PlainNumber n) square count = count
+count_after (Sign m) square count = mark_count m square count
 
-abbrev pub square_behind : Symbol → ℕ → ℕ
-square_behind (Identifier n) square = square
-square_behind (Reserved w) square = square
-square_behind (SizedNumber b) square = square
-square_behind (PlainNumber n) square = square
-square_behind (Sign m) square = mark_square m square
+abbrev pub square_after : Symbol → ℕ → ℕ
+square_after (Identifier n) square = square
+square_after (Reserved w) square = square
+square_after (SizedNumber b) square = square
+square_after (PlainNumber n) square = square
+square_after (Sign m) square = mark_square m square
 
 -- the greatest value of the counter from here on
 abbrev pub greatest_from : ℕ → ℕ → List Symbol → ℕ
 greatest_from square count [] = count
-greatest_from square count (t ∷ ts) = max count (greatest_from (square_behind t square) (count_behind t square count) ts)
+greatest_from square count (t ∷ ts) = max count (greatest_from (square_after t square) (count_after t square count) ts)
 
 abbrev pub nesting : List Symbol → ℕ
 nesting ts = greatest_from 0 0 ts

@@ -1,5 +1,5 @@
--- Which source a text's tokens mean, or which is the first fault. The tokens are cut after each ; and each endmodule. Outside
--- a module a header stands in its place, inside one an item or endmodule; no statement nests deeper than 200.
+-- Which source a text's tokens mean, or which is the first fault. The tokens are cut after each ; and each endmodule.
+-- Outside a module a header is good, inside one an item or endmodule; no statement nests deeper than 200.
 use Rattle.std.specs.Prelude.{◌≡◌, ◌≢◌, ◌⊎◌, ◌<◌, ◌≤◌, ℕ, List, [], ◌∷◌, ◌++◌, Bool, true, false}
 use Rattle.std.specs.List.{AllByRecursion}
 use Rattle.bb_ast.specs.Syntax.{PlainBody, PlainItem, PlainHead, PlainModule}
@@ -17,24 +17,24 @@ use Rattle.bb_parse.specs.Items.{IsItem}
 use Rattle.bb_parse.specs.Nesting.{nesting}
 
 -- ; and endmodule end a statement
-abbrev pub ends : Kind → Bool
-ends (kinds.Word words.Endmodule) = true
-ends (kinds.Mark marks.Semicolon) = true
-ends kind = false
+abbrev pub ends_statement : Kind → Bool
+ends_statement (kinds.Word words.Endmodule) = true
+ends_statement (kinds.Mark marks.Semicolon) = true
+ends_statement kind = false
 
 -- the last token, and no other, ends it
 abbrev pub IsStatement : List Token → Type 0
 IsStatement [] = ⊥
-IsStatement (t ∷ []) = ends t.kind ≡ true
-IsStatement (t ∷ u ∷ ts) = (ends t.kind ≡ false) × IsStatement (u ∷ ts)
+IsStatement (t ∷ []) = ends_statement t.kind ≡ true
+IsStatement (t ∷ u ∷ ts) = (ends_statement t.kind ≡ false) × IsStatement (u ∷ ts)
 
--- the first statement of tokens, and what stands behind it
-abbrev pub IsFirst : List Token → List Token → List Token → Type 0
-IsFirst tokens statement rest = (tokens ≡ statement ++ rest) × IsStatement statement
+-- the first statement of tokens, and the tokens after it
+abbrev pub IsFirstStatement : List Token → List Token → List Token → Type 0
+IsFirstStatement tokens statement rest = (tokens ≡ statement ++ rest) × IsStatement statement
 
 -- no statement ends among these
 abbrev pub HaveNoEnd : List Token → Type 0
-HaveNoEnd tokens = AllByRecursion (λ t. ends t.kind ≡ false) tokens
+HaveNoEnd tokens = AllByRecursion (λ t. ends_statement t.kind ≡ false) tokens
 
 abbrev pub line_of : List Token → ℕ
 line_of [] = 0
@@ -52,50 +52,50 @@ IsItemOf text statement body = (ts : List Symbol) × AreSymbols text statement t
 abbrev pub IsEnd : List ℕ → List Token → Type 0
 IsEnd text statement = AreSymbols text statement (Reserved words.Endmodule ∷ [])
 
--- the items of a module, its endmodule, and what stands behind it
+-- the items of a module, its endmodule, and the tokens after it
 abbrev pub AreItems : List ℕ → List Token → List PlainItem → List Token → Type 0
-AreItems text tokens [] rest = (s : List Token) × IsFirst tokens s rest × IsEnd text s
+AreItems text tokens [] rest = (s : List Token) × IsFirstStatement tokens s rest × IsEnd text s
 AreItems text tokens (item ∷ items) rest =
-    (s a : List Token) × IsFirst tokens s a × IsItemOf text s item.body × (item.line ≡ line_of s) × AreItems text a items rest
+    (s a : List Token) × IsFirstStatement tokens s a × IsItemOf text s item.body × (item.line ≡ line_of s) × AreItems text a items rest
 
 -- modules up to the end
 abbrev pub IsSource : List ℕ → List Token → List PlainModule → Type 0
 IsSource text tokens [] = tokens ≡ []
 IsSource text tokens (m ∷ ms) =
-    (s a b : List Token) × IsFirst tokens s a × IsHeaderOf text s (m.name, m.heads) × (m.line ≡ line_of s) × AreItems text a m.items b × IsSource text b ms
+    (s a b : List Token) × IsFirstStatement tokens s a × IsHeaderOf text s (m.name, m.heads) × (m.line ≡ line_of s) × AreItems text a m.items b × IsSource text b ms
 
-pub data Place : Type 0 where
-  Outside : Place
-  Inside : Place
+pub data SourcePlace : Type 0 where
+  Outside : SourcePlace
+  Inside : SourcePlace
 
--- a statement that is good in its place, and the place behind it
-abbrev pub IsGood : List ℕ → Place → List Token → Place → Type 0
+-- a statement that is good at its place, and the place after it
+abbrev pub IsGood : List ℕ → SourcePlace → List Token → SourcePlace → Type 0
 IsGood text Outside s Outside = ⊥
 IsGood text Outside s Inside = (x : List ℕ × List PlainHead) × IsHeaderOf text s x
 IsGood text Inside s Inside = (body : PlainBody) × IsItemOf text s body
 IsGood text Inside s Outside = IsEnd text s
 
--- from a place on, good statements up to another place, and what stands behind them
-abbrev pub AreGood : List ℕ → Place → List Token → List (List Token) → Place → List Token → Type 0
-AreGood text place tokens [] behind rest = (place ≡ behind) × (tokens ≡ rest)
-AreGood text place tokens (s ∷ ss) behind rest = (next : Place) × (a : List Token) × IsFirst tokens s a × IsGood text place s next × AreGood text next a ss behind rest
+-- from a place on, good statements up to another place, and the tokens after them
+abbrev pub AreGood : List ℕ → SourcePlace → List Token → List (List Token) → SourcePlace → List Token → Type 0
+AreGood text place tokens [] after rest = (place ≡ after) × (tokens ≡ rest)
+AreGood text place tokens (s ∷ ss) after rest = (next : SourcePlace) × (a : List Token) × IsFirstStatement tokens s a × IsGood text place s next × AreGood text next a ss after rest
 
 -- at these tokens, in this place, something is wrong: the next statement nests too deep or else is not good, or there is
 -- none and tokens are left or a module is open
-abbrev pub IsWrong : List ℕ → Place → List Token → ParseFault → Type 0
-IsWrong text place tokens (Statement line) =
-    (s a : List Token) × (ts : List Symbol) × IsFirst tokens s a × AreSymbols text s ts × (nesting ts ≤ 200) × ((next : Place) → IsGood text place s next → ⊥) × (line ≡ line_of s)
-IsWrong text place tokens (Deep line) = (s a : List Token) × (ts : List Symbol) × IsFirst tokens s a × AreSymbols text s ts × (200 < nesting ts) × (line ≡ line_of s)
-IsWrong text place tokens Unended = HaveNoEnd tokens × ((tokens ≢ []) ⊎ (place ≡ Inside))
-IsWrong text place tokens NoMemory = ⊥
+abbrev pub IsStatementFault : List ℕ → SourcePlace → List Token → ParseFault → Type 0
+IsStatementFault text place tokens (Statement line) =
+    (s a : List Token) × (ts : List Symbol) × IsFirstStatement tokens s a × AreSymbols text s ts × (nesting ts ≤ 200) × ((next : SourcePlace) → IsGood text place s next → ⊥) × (line ≡ line_of s)
+IsStatementFault text place tokens (Deep line) = (s a : List Token) × (ts : List Symbol) × IsFirstStatement tokens s a × AreSymbols text s ts × (200 < nesting ts) × (line ≡ line_of s)
+IsStatementFault text place tokens Unended = HaveNoEnd tokens × ((tokens ≢ []) ⊎ (place ≡ Inside))
+IsStatementFault text place tokens NoMemory = ⊥
 
--- the first fault: what stands before it is good
-abbrev pub IsFaultFrom : List ℕ → Place → List Token → ParseFault → Type 0
-IsFaultFrom text place tokens fault = (front : List (List Token)) × (behind : Place) × (a : List Token) × AreGood text place tokens front behind a × IsWrong text behind a fault
+-- the first fault: all statements before it are good
+abbrev pub IsFaultFrom : List ℕ → SourcePlace → List Token → ParseFault → Type 0
+IsFaultFrom text place tokens fault = (prefix : List (List Token)) × (after : SourcePlace) × (a : List Token) × AreGood text place tokens prefix after a × IsStatementFault text after a fault
 
-abbrev pub IsFault : List ℕ → List Token → ParseFault → Type 0
-IsFault text tokens fault = IsFaultFrom text Outside tokens fault
+abbrev pub IsParseFault : List ℕ → List Token → ParseFault → Type 0
+IsParseFault text tokens fault = IsFaultFrom text Outside tokens fault
 
--- what a text reads as: what its tokens mean
+-- a text reads as the source that its tokens mean
 abbrev pub ReadsAs : List ℕ → List PlainModule → Type 0
 ReadsAs text modules = (tokens : List Token) × AreTokens text tokens × IsSource text tokens modules

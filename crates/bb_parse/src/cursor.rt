@@ -1,3 +1,7 @@
+//! A cursor over the tokens of one statement. Its model is the list of symbols that is still to be read, so a rule's
+//! contract is an equation on lists. A token is a kind and a place in the text; bytes are looked at only where a name
+//! or a number is taken, and everything else is decided by the kind.
+
 ghost use Rattle.std.specs.Prelude.{◌≡◌, ◌<◌, ◌^◌, List, length, true, false, IfOk};
 ghost use Rattle.std.specs.List.{AllByRecursion};
 ghost use Rattle.bb_lex.specs.declared.token.Kind.{Kind};
@@ -5,7 +9,7 @@ ghost use Rattle.bb_lex.specs.Cut.{IsTokenOf};
 ghost use Rattle.bb_lex.specs.Inside.Numbers.{sized_bits_of};
 ghost use Rattle.bb_parse.specs.Symbols.{Symbol};
 ghost use Rattle.bb_parse.specs.Expressions.{on_one, bit_operator, word_operator};
-ghost use Rattle.bb_parse.specs.Inside.Symbols.{symbols, is_next, behind, next_kind};
+ghost use Rattle.bb_parse.specs.Inside.Symbols.{symbols, is_next, after, next_kind};
 ghost use Rattle.bb_parse.specs.Inside.Steps.{Gives, read_mark, read_name, read_sized, read_plain};
 ghost use Rattle.bb_parse.specs.Inside.Expressions.{begins_repeat, next_operator, begins_operator};
 
@@ -13,12 +17,11 @@ use crate::operators::{bit_operator, on_bits, on_one, on_words, word_operator};
 use crate::stop::Stop;
 use bb_ast::{FoldOp, Op, WordOp};
 use bb_bits::Name;
-use bb_lex::laws::read_bits_are_said;
+use bb_lex::laws::read_bits_are_meant;
 use bb_lex::{Kind, Mark, Token, name_bytes, plain_value, sized_bits};
 use std::alloc::{AllocError, Global};
 use std::marker::Model;
 
-/// The tokens of a text that are still to be read.
 #[derive(Drop)]
 pub(crate) struct Cursor<'a> {
     tokens: &'a [Token],
@@ -40,7 +43,6 @@ impl<'a> Model for Cursor<'a> {
 }
 
 impl<'a> Cursor<'a> {
-    /// Before the first of these tokens of the text.
     pub(crate) fn new(tokens: &'a [Token], text: &'a [u8]) -> Self
         requires of_text { AllByRecursion (λ token. IsTokenOf token text.now) tokens.now }
         requires small { length tokens.now < 2 ^ 32 }
@@ -49,7 +51,7 @@ impl<'a> Cursor<'a> {
         Cursor { tokens, text }
     }
 
-    /// How many tokens are left.
+    /// A bound for the loops of the rules: each iteration takes a token or returns.
     pub(crate) fn len(&self) -> usize
         ensures len { result ≡ length self.now }
         ensures small { result < 2 ^ 32 }
@@ -57,7 +59,6 @@ impl<'a> Cursor<'a> {
         self.tokens.len()
     }
 
-    /// Whether the mark is next.
     pub(crate) fn is_at(&self, wanted: Mark) -> bool
         ensures { result ≡ is_next wanted self.now }
     {
@@ -67,19 +68,18 @@ impl<'a> Cursor<'a> {
         }
     }
 
-    /// Goes past the next token, where there is one.
+    /// At the end it stays there.
     pub(crate) fn skip(&mut self)
-        ensures { self.new ≡ behind self.old }
+        ensures { self.new ≡ after self.old }
     {
         if let Some((_, rest)) = self.tokens.split_first() {
             self.tokens = rest;
         }
     }
 
-    /// Takes the mark where it is next.
     pub(crate) fn takes(&mut self, wanted: Mark) -> bool
         ensures taken { result ≡ is_next wanted self.old }
-        ensures left { result ≡ true → self.new ≡ behind self.old }
+        ensures left { result ≡ true → self.new ≡ after self.old }
         ensures same { result ≡ false → self.new ≡ self.old }
     {
         if !self.is_at(wanted) {
@@ -89,7 +89,6 @@ impl<'a> Cursor<'a> {
         true
     }
 
-    /// The mark.
     pub(crate) fn mark(&mut self, wanted: Mark) -> Result<(), Stop>
         ensures { Gives (λ _. tt) result self.new (read_mark wanted self.old) }
     {
@@ -100,7 +99,6 @@ impl<'a> Cursor<'a> {
         }
     }
 
-    /// A name.
     pub(crate) fn name(&mut self, alloc: Global) -> Result<Name, Stop>
         ensures { Gives (λ name. name) result self.new (read_name self.old) }
     {
@@ -115,7 +113,6 @@ impl<'a> Cursor<'a> {
         Ok(name)
     }
 
-    /// The bits of a sized number.
     pub(crate) fn sized(&mut self, alloc: Global) -> Result<Vec<bool>, Stop>
         ensures { Gives (λ bits. bits.items) result self.new (read_sized self.old) }
     {
@@ -130,7 +127,6 @@ impl<'a> Cursor<'a> {
         Ok(bits)
     }
 
-    /// The value of a plain number.
     pub(crate) fn plain(&mut self) -> Result<u32, Stop>
         ensures { Gives (λ value. value) result self.new (read_plain self.old) }
     {
@@ -145,14 +141,14 @@ impl<'a> Cursor<'a> {
         Ok(value)
     }
 
-    /// What the next token is.
     pub(crate) fn kind(&self) -> Option<Kind>
         ensures { result ≡ next_kind self.now }
     {
         self.tokens.first().map(|token| token.kind)
     }
 
-    /// Whether a plain number and `{` come next.
+    /// Two tokens of lookahead, the most that the grammar needs: after `{`, a plain number begins a replication only if
+    /// another `{` follows.
     pub(crate) fn begins_repeat(&self) -> bool
         ensures { result ≡ begins_repeat self.now }
     {
@@ -163,7 +159,7 @@ impl<'a> Cursor<'a> {
         }
     }
 
-    /// Which operator before one operand comes next, if any.
+    /// `~` is none of these: it is read as a run, by `signs`.
     pub(crate) fn operator_on_one(&self) -> Option<FoldOp>
         ensures { result ≡ next_operator on_one self.now }
     {
@@ -173,7 +169,6 @@ impl<'a> Cursor<'a> {
         }
     }
 
-    /// Which operator on bits of the row comes next, if any.
     pub(crate) fn bit_operator(&self, row: u32) -> Option<Op>
         ensures { result ≡ next_operator (bit_operator row) self.now }
     {
@@ -183,7 +178,6 @@ impl<'a> Cursor<'a> {
         }
     }
 
-    /// Which operator on words of the row comes next, if any.
     pub(crate) fn word_operator(&self, row: u32) -> Option<WordOp>
         ensures { result ≡ next_operator (word_operator row) self.now }
     {
@@ -193,7 +187,6 @@ impl<'a> Cursor<'a> {
         }
     }
 
-    /// Whether an operator between two operands comes next.
     #[tactic(auto, unfolding(crate::specs::Inside::Expressions::begins_operator))]
     pub(crate) fn begins_operator(&self) -> bool
         ensures { result ≡ begins_operator self.now }
@@ -205,13 +198,12 @@ impl<'a> Cursor<'a> {
     }
 }
 
-/// The bits that a sized number says.
 fn bits_of(alloc: Global, token: &Token, text: &[u8]) -> Result<Vec<bool>, AllocError>
     requires of_text { IsTokenOf token.now text.now }
     requires sized { token.now.kind ≡ Kind.Sized }
     ensures { IfOk result (λ bits. bits.items ≡ sized_bits_of token.now text.now) }
 {
-    read_bits_are_said();
+    read_bits_are_meant();
     let bits = sized_bits(alloc, token, text)?;
     Ok(bits)
 }

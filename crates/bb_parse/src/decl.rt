@@ -1,3 +1,6 @@
+//! Declarations of ports, registers and supply nets (IEEE 1364-2005, A.2). A port's declaration is read without its
+//! names, since a header may give it to several names one by one and an item to all of its list.
+
 ghost use Rattle.std.specs.Prelude.{◌≡◌, ℕ, List};
 ghost use Rattle.bb_ast.specs.Inside.Views.{body_view};
 ghost use Rattle.bb_parse.specs.Inside.Steps.{Gives};
@@ -10,7 +13,6 @@ use bb_ast::{Body, Dir, Port, PortKind, Range};
 use bb_lex::{Keyword, Kind, Mark};
 use std::alloc::Global;
 
-/// The direction that a word is.
 pub(crate) fn direction(kind: Option<Kind>) -> Option<Dir>
     ensures { result ≡ direction_of kind }
 {
@@ -21,7 +23,6 @@ pub(crate) fn direction(kind: Option<Kind>) -> Option<Dir>
     }
 }
 
-/// The kind of a port that a word is.
 fn port_kind(kind: Option<Kind>) -> Option<PortKind>
     ensures { result ≡ port_kind_of kind }
 {
@@ -44,7 +45,6 @@ fn range(cursor: &mut Cursor<'_>) -> Result<Range, Stop>
     Ok(Range { left, right })
 }
 
-/// A range, or nothing where no `[` comes next.
 #[tactic(auto, unfolding(crate::specs::Inside::Declarations::read_optional_range))]
 pub(crate) fn optional_range(cursor: &mut Cursor<'_>) -> Result<Option<Range>, Stop>
     ensures { Gives (λ range. range) result cursor.new (read_optional_range cursor.old) }
@@ -56,7 +56,8 @@ pub(crate) fn optional_range(cursor: &mut Cursor<'_>) -> Result<Option<Range>, S
     Ok(Some(range))
 }
 
-/// A port's declaration, without names.
+/// The kind, `wire` or `reg`, is kept as written or as none: that a port has no kind of its own matters where a later
+/// declaration gives one.
 #[tactic(auto, unfolding(crate::specs::Inside::Declarations::read_port))]
 pub(crate) fn port(cursor: &mut Cursor<'_>) -> Result<Port, Stop>
     ensures { Gives (λ port. port) result cursor.new (read_port cursor.old) }
@@ -73,7 +74,6 @@ pub(crate) fn port(cursor: &mut Cursor<'_>) -> Result<Port, Stop>
     Ok(Port { dir, kind, range })
 }
 
-/// Ports with their declaration.
 #[tactic(auto, unfolding(crate::specs::Inside::Declarations::read_ports))]
 pub(crate) fn ports(alloc: Global, cursor: &mut Cursor<'_>) -> Result<Body, Stop>
     ensures { Gives body_view result cursor.new (read_ports cursor.old) }
@@ -84,7 +84,6 @@ pub(crate) fn ports(alloc: Global, cursor: &mut Cursor<'_>) -> Result<Body, Stop
     Ok(Body::Ports(port, names))
 }
 
-/// Registers, behind `reg`.
 #[tactic(auto, unfolding(crate::specs::Inside::Declarations::read_regs))]
 pub(crate) fn regs(alloc: Global, cursor: &mut Cursor<'_>) -> Result<Body, Stop>
     ensures { Gives body_view result cursor.new (read_regs cursor.old) }
@@ -95,7 +94,6 @@ pub(crate) fn regs(alloc: Global, cursor: &mut Cursor<'_>) -> Result<Body, Stop>
     Ok(Body::Regs(range, names))
 }
 
-/// Constant nets, behind `supply0` or `supply1`.
 #[tactic(auto, unfolding(crate::specs::Inside::Declarations::read_supply))]
 pub(crate) fn supply(alloc: Global, cursor: &mut Cursor<'_>, high: bool) -> Result<Body, Stop>
     ensures { Gives body_view result cursor.new (read_supply high cursor.old) }

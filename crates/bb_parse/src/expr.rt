@@ -1,3 +1,11 @@
+//! Expressions (IEEE 1364-2005, A.8.3 and table 5-4) by recursive descent. Apart from the nine levels of precedence,
+//! the recursion goes down through brackets and the middle of conditionals alone, with a depth that falls, so the stack
+//! is bounded by the limit on nesting. Chains of operators and of conditionals are lists and not trees of pairs, so a
+//! sum or a case table of thousands of terms needs no depth.
+//!
+//! Parentheses leave no node. So `buf((y), a)` has an output that may be assigned, and `{(3), a}` has a plain number as
+//! a part, as `{3, a}` has.
+
 ghost use Rattle.std.specs.Prelude.{◌<◌, ◌≤◌, map, length};
 ghost use Rattle.bb_ast.specs.Inside.Views.{expression, operand_view, arm_view};
 ghost use Rattle.bb_parse.specs.Expressions.{bit_operator, word_operator};
@@ -15,7 +23,6 @@ use bb_ast::{Expr, Op, WordOp};
 use bb_lex::{Kind, Mark};
 use std::alloc::Global;
 
-/// An expression in which brackets and conditionals nest to less than `depth` levels.
 #[cycle(expr)]
 #[tactic(auto, unfolding(crate::specs::Inside::Expressions::read_expr))]
 pub(crate) fn expr(alloc: Global, cursor: &mut Cursor<'_>, depth: u32) -> Result<Expr, Stop>
@@ -27,8 +34,8 @@ pub(crate) fn expr(alloc: Global, cursor: &mut Cursor<'_>, depth: u32) -> Result
     conditional(alloc, cursor, depth - 1)
 }
 
-/// Conditions with their values, and the last branch. What stands between `?` and `:`, and in brackets below, nests to
-/// less than `inner` levels.
+/// Conditionals group to the right (5.1.13), but the last branch is read by this loop and not by recursion. What is
+/// between `?` and `:`, and in brackets below, nests to less than `inner` levels.
 #[cycle(expr)]
 fn conditional(alloc: Global, cursor: &mut Cursor<'_>, inner: u32) -> Result<Expr, Stop>
     ensures { Gives expression result cursor.new (read_conditional (read_expr inner) cursor.old) }
@@ -45,7 +52,6 @@ fn conditional(alloc: Global, cursor: &mut Cursor<'_>, inner: u32) -> Result<Exp
     Err(Stop::Amiss)
 }
 
-/// A condition, which was read, with its value, behind `?`, and `:`.
 #[cycle(expr)]
 #[tactic(auto, unfolding(crate::specs::Inside::Expressions::read_arm))]
 fn arm(
@@ -61,7 +67,8 @@ fn arm(
     Ok((condition, chosen))
 }
 
-/// A chain of the level; level 0 is a primary with the operators before it.
+/// Precedence climbing: level 0 is a unary expression, and level n + 1 is a chain of operands of level n by operators
+/// of row n. What was read up to a row is the first operand of the next row.
 #[cycle(expr)]
 fn level(alloc: Global, cursor: &mut Cursor<'_>, inner: u32, height: u32) -> Result<Expr, Stop>
     requires { height ≤ 9 }
@@ -69,6 +76,7 @@ fn level(alloc: Global, cursor: &mut Cursor<'_>, inner: u32, height: u32) -> Res
 {
     let mut value = unary(alloc, cursor, inner)?;
     for row in 0..height {
+        // No row goes on, so a lone operand does not walk through all nine.
         if !cursor.begins_operator() {
             return Ok(value);
         }
@@ -77,7 +85,6 @@ fn level(alloc: Global, cursor: &mut Cursor<'_>, inner: u32, height: u32) -> Res
     Ok(value)
 }
 
-/// The chain of a first operand, which was read, and the operators of the row that come next with their operands.
 #[cycle(expr)]
 #[tactic(auto, unfolding(crate::specs::Inside::Expressions::read_row))]
 fn chain(
@@ -98,7 +105,6 @@ fn chain(
     words_of(alloc, first, rest)
 }
 
-/// Operators on bits of the row that come next, each with the operand behind it.
 #[cycle(expr)]
 fn bits(
     alloc: Global,
@@ -122,7 +128,6 @@ fn bits(
     Ok(rest)
 }
 
-/// Operators on words of the row that come next, each with the operand behind it.
 #[cycle(expr)]
 fn words(
     alloc: Global,
@@ -146,7 +151,6 @@ fn words(
     Ok(rest)
 }
 
-/// A run of signs `~`, which may be empty, before an operator with its operand or a primary.
 #[cycle(expr)]
 #[tactic(auto, unfolding(crate::specs::Inside::Expressions::read_negated))]
 fn unary(alloc: Global, cursor: &mut Cursor<'_>, inner: u32) -> Result<Expr, Stop>
@@ -157,7 +161,6 @@ fn unary(alloc: Global, cursor: &mut Cursor<'_>, inner: u32) -> Result<Expr, Sto
     negation_of(alloc, signs, operand)
 }
 
-/// An operator with its operand, or a primary.
 #[cycle(expr)]
 #[tactic(auto, unfolding(crate::specs::Inside::Expressions::read_fold))]
 fn fold(alloc: Global, cursor: &mut Cursor<'_>, inner: u32) -> Result<Expr, Stop>
@@ -171,7 +174,7 @@ fn fold(alloc: Global, cursor: &mut Cursor<'_>, inner: u32) -> Result<Expr, Stop
     fold_of(alloc, op, operand)
 }
 
-/// A run of signs `~`, which may be empty, before a primary.
+/// After a reduction only `~` may come: the language has at most one reduction before a primary.
 #[cycle(expr)]
 #[tactic(auto, unfolding(crate::specs::Inside::Expressions::read_negated))]
 fn negated(alloc: Global, cursor: &mut Cursor<'_>, inner: u32) -> Result<Expr, Stop>
@@ -199,7 +202,6 @@ fn primary(alloc: Global, cursor: &mut Cursor<'_>, inner: u32) -> Result<Expr, S
     }
 }
 
-/// What stands behind a mark that begins a primary.
 #[cycle(expr)]
 #[tactic(auto, unfolding(crate::specs::Inside::Expressions::read_round))]
 fn bracket(alloc: Global, cursor: &mut Cursor<'_>, inner: u32, mark: Mark) -> Result<Expr, Stop>
@@ -216,7 +218,6 @@ fn bracket(alloc: Global, cursor: &mut Cursor<'_>, inner: u32, mark: Mark) -> Re
     }
 }
 
-/// What stands behind `{`: a count and parts in braces, or parts, and `}`.
 #[cycle(expr)]
 #[tactic(auto, unfolding(crate::specs::Inside::Expressions::read_braces))]
 fn braces(alloc: Global, cursor: &mut Cursor<'_>, inner: u32) -> Result<Expr, Stop>
@@ -235,7 +236,6 @@ fn braces(alloc: Global, cursor: &mut Cursor<'_>, inner: u32) -> Result<Expr, St
     Ok(Expr::Concat(parts))
 }
 
-/// One or more expressions, with commas between.
 #[cycle(expr)]
 pub(crate) fn exprs(alloc: Global, cursor: &mut Cursor<'_>, depth: u32) -> Result<Vec<Expr>, Stop>
     ensures { Gives (λ parts. map expression parts.items) result cursor.new (read_list (read_expr depth) cursor.old) }

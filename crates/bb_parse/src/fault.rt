@@ -1,16 +1,20 @@
+//! The faults of syntax. They carry a line and no text: a report prints the line, and the reader of the report has the
+//! file.
+
 use std::alloc::{AllocError, AllocFailed};
 use thiserror::Error;
 
-/// Why tokens are not a source: the first fault.
+/// The first fault in text order. Of one statement, `Deep` comes before `Statement`.
 #[derive(Debug, Drop, Error)]
 pub enum ParseFault {
-    /// The statement whose first token stands on the line is not of the language in its place.
+    /// The statement whose first token is on the line is not in the language, or not at this place: a header inside a
+    /// module, an item outside one.
     #[error("line {line}: not a statement of the language in its place")]
     Statement { line: u32 },
-    /// The text ends within a statement or a module.
+    /// Tokens are left that no `;` or `endmodule` ends, or a module is open at the end.
     #[error("the text ends within a statement or a module")]
     Unended,
-    /// The statement whose first token stands on the line nests deeper than 200 levels.
+    /// The statement whose first token is on the line nests deeper than 200 levels, whether or not it would parse.
     #[error("line {line}: nests deeper than 200 levels")]
     Deep { line: u32 },
     #[error("out of memory")]

@@ -1,3 +1,6 @@
+//! Gate instances (IEEE 1364-2005, A.3.1 and 7.2, 7.3). Terminals are kept in place up to four, so most gates of a
+//! netlist take no allocation for them.
+
 ghost use Rattle.std.specs.Prelude.{◌≡◌, ℕ, List, [], ◌∷◌, map, IfOk, IfErr};
 ghost use Rattle.bb_ast.specs.Inside.Views.{expression, gate_view, body_view};
 ghost use Rattle.bb_parse.specs.declared.stop.Stop.{Stop};
@@ -15,7 +18,7 @@ use bb_lex::{Keyword, Kind, Mark};
 use smallvec::SmallVec;
 use std::alloc::Global;
 
-/// A name, or nothing where none comes next.
+/// A gate may have no name, while an instance of a module needs one.
 fn optional_name(alloc: Global, cursor: &mut Cursor<'_>) -> Result<Option<Name>, Stop>
     ensures { Gives (λ name. name) result cursor.new (read_optional_name cursor.old) }
 {
@@ -28,7 +31,6 @@ fn optional_name(alloc: Global, cursor: &mut Cursor<'_>) -> Result<Option<Name>,
     }
 }
 
-/// Two expressions as a list.
 fn both(alloc: Global, first: Expr, second: Expr) -> Result<SmallVec<Expr, 4>, Stop>
     ensures ok { IfOk result (λ terms. terms.items ≡ first ∷ second ∷ []) }
     ensures err { IfErr result (λ stop. stop ≡ Stop.NoMemory) }
@@ -39,7 +41,6 @@ fn both(alloc: Global, first: Expr, second: Expr) -> Result<SmallVec<Expr, 4>, S
     Ok(terms)
 }
 
-/// The first two terminals of a gate, with a comma between.
 #[tactic(auto, unfolding(crate::specs::Inside::Items::read_two_terms))]
 fn two_terms(alloc: Global, cursor: &mut Cursor<'_>, depth: u32) -> Result<SmallVec<Expr, 4>, Stop>
     ensures { Gives (λ terms. map expression terms.items) result cursor.new (read_two_terms depth cursor.old) }
@@ -51,7 +52,7 @@ fn two_terms(alloc: Global, cursor: &mut Cursor<'_>, depth: u32) -> Result<Small
     Ok(terms)
 }
 
-/// The terminals of a gate: two expressions or more, with commas between.
+/// At least two: an output and an input. That each gate has an input is known from here on by the syntax alone.
 #[tactic(auto, using(crate::proofs::Loops::terms_looping))]
 fn terms(alloc: Global, cursor: &mut Cursor<'_>, depth: u32) -> Result<SmallVec<Expr, 4>, Stop>
     ensures { Gives (λ terms. map expression terms.items) result cursor.new (read_terms depth cursor.old) }
@@ -67,7 +68,6 @@ fn terms(alloc: Global, cursor: &mut Cursor<'_>, depth: u32) -> Result<SmallVec<
     Ok(terms)
 }
 
-/// A gate's name, if it has one, and its terminals.
 #[tactic(auto, unfolding(crate::specs::Inside::Items::read_gate))]
 fn gate(alloc: Global, cursor: &mut Cursor<'_>, depth: u32) -> Result<GateCall, Stop>
     ensures { Gives gate_view result cursor.new (read_gate depth cursor.old) }
@@ -79,7 +79,6 @@ fn gate(alloc: Global, cursor: &mut Cursor<'_>, depth: u32) -> Result<GateCall, 
     Ok(GateCall { name, terms })
 }
 
-/// One or more gates, with commas between.
 fn gate_list(alloc: Global, cursor: &mut Cursor<'_>, depth: u32) -> Result<Vec<GateCall>, Stop>
     ensures { Gives (λ all. map gate_view all.items) result cursor.new (read_list (read_gate depth) cursor.old) }
 {
@@ -95,7 +94,6 @@ fn gate_list(alloc: Global, cursor: &mut Cursor<'_>, depth: u32) -> Result<Vec<G
     Ok(all)
 }
 
-/// Gates of one function, behind its word.
 #[tactic(auto, unfolding(crate::specs::Inside::Items::read_gates))]
 fn gates(alloc: Global, cursor: &mut Cursor<'_>, depth: u32, gate: Gate) -> Result<Body, Stop>
     ensures { Gives body_view result cursor.new (read_gates gate depth cursor.old) }
@@ -105,7 +103,6 @@ fn gates(alloc: Global, cursor: &mut Cursor<'_>, depth: u32, gate: Gate) -> Resu
     Ok(Body::Gates(gate, all))
 }
 
-/// The gate that a word is.
 fn gate_named(word: Keyword) -> Option<Gate>
     ensures { result ≡ gate_of word }
 {
@@ -122,7 +119,6 @@ fn gate_named(word: Keyword) -> Option<Gate>
     }
 }
 
-/// Gates, behind a word, which may be no gate's.
 pub(crate) fn worded_gates(
     alloc: Global,
     cursor: &mut Cursor<'_>,

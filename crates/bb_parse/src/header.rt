@@ -1,3 +1,7 @@
+//! Headers of modules (IEEE 1364-2005, A.1.2 and A.1.3, 12.3.3 and 12.3.4), with both lists of ports. A header that
+//! only names its ports leaves their directions to declarations in the body: `decl` is none there. Which list it is
+//! depends on the first token after `(`, so no header mixes the two.
+
 ghost use Rattle.std.specs.Prelude.{◌≡◌, ℕ, List, map};
 ghost use Rattle.bb_ast.specs.declared.module.Head.{Head};
 ghost use Rattle.bb_ast.specs.Inside.Views.{head_view};
@@ -14,7 +18,6 @@ use bb_bits::Name;
 use bb_lex::{Keyword, Kind, Mark};
 use std::alloc::Global;
 
-/// A name of a header without declarations.
 #[tactic(auto, unfolding(crate::specs::Inside::Declarations::read_head))]
 fn head(alloc: Global, cursor: &mut Cursor<'_>) -> Result<Head, Stop>
     ensures { Gives head_view result cursor.new (read_head cursor.old) }
@@ -23,7 +26,6 @@ fn head(alloc: Global, cursor: &mut Cursor<'_>) -> Result<Head, Stop>
     Ok(Head { name, decl: None })
 }
 
-/// The names of a header without declarations.
 fn plain_heads(alloc: Global, cursor: &mut Cursor<'_>) -> Result<Vec<Head>, Stop>
     ensures { Gives (λ heads. map head_view heads.items) result cursor.new (read_list read_head cursor.old) }
 {
@@ -39,7 +41,7 @@ fn plain_heads(alloc: Global, cursor: &mut Cursor<'_>) -> Result<Vec<Head>, Stop
     Ok(heads)
 }
 
-/// A declaration, or else the one before it.
+/// A name without a direction of its own repeats the declaration before it, range included.
 #[tactic(auto, unfolding(crate::specs::Inside::Declarations::read_next_port))]
 fn next_port(cursor: &mut Cursor<'_>, before: Port) -> Result<Port, Stop>
     ensures { Gives (λ port. port) result cursor.new (read_next_port before cursor.old) }
@@ -51,7 +53,6 @@ fn next_port(cursor: &mut Cursor<'_>, before: Port) -> Result<Port, Stop>
     }
 }
 
-/// A name with its declaration, which may be the one before it.
 #[tactic(auto, unfolding(crate::specs::Inside::Declarations::read_ansi))]
 fn ansi(alloc: Global, cursor: &mut Cursor<'_>, before: Port) -> Result<(Port, Name), Stop>
     ensures { Gives (λ x. (x.0, x.1)) result cursor.new (read_ansi before cursor.old) }
@@ -61,7 +62,6 @@ fn ansi(alloc: Global, cursor: &mut Cursor<'_>, before: Port) -> Result<(Port, N
     Ok((port, name))
 }
 
-/// The names of a header with their declarations.
 #[tactic(auto, unfolding(crate::specs::Inside::Declarations::read_ansi_heads))]
 fn ansi_heads(alloc: Global, cursor: &mut Cursor<'_>) -> Result<Vec<Head>, Stop>
     ensures { Gives (λ heads. map head_view heads.items) result cursor.new (read_ansi_heads cursor.old) }
@@ -87,7 +87,6 @@ fn ansi_heads(alloc: Global, cursor: &mut Cursor<'_>) -> Result<Vec<Head>, Stop>
     Ok(heads)
 }
 
-/// The names of a header, behind `(`, and `)`.
 #[tactic(auto, unfolding(crate::specs::Inside::Declarations::read_heads))]
 fn heads(alloc: Global, cursor: &mut Cursor<'_>) -> Result<Vec<Head>, Stop>
     ensures { Gives (λ heads. map head_view heads.items) result cursor.new (read_heads cursor.old) }
@@ -104,7 +103,6 @@ fn heads(alloc: Global, cursor: &mut Cursor<'_>) -> Result<Vec<Head>, Stop>
     Ok(heads)
 }
 
-/// A module's name and the names of its header, behind `module`.
 #[tactic(auto, unfolding(crate::specs::Inside::Declarations::read_header))]
 fn header(alloc: Global, cursor: &mut Cursor<'_>) -> Result<(Name, Vec<Head>), Stop>
     ensures { Gives (λ x. (x.0, map head_view x.1.items)) result cursor.new (read_header cursor.old) }
@@ -119,7 +117,6 @@ fn header(alloc: Global, cursor: &mut Cursor<'_>) -> Result<(Name, Vec<Head>), S
     Ok((name, heads))
 }
 
-/// A module's name and the names of its header, with `module`.
 pub(crate) fn module_header(
     alloc: Global,
     cursor: &mut Cursor<'_>,

@@ -1,3 +1,6 @@
+//! Instances of modules (IEEE 1364-2005, A.4.1, 12.3.5 and 12.3.6), connected by order or by name, never by both in one
+//! instance.
+
 ghost use Rattle.std.specs.Prelude.{◌≡◌, ℕ, List, map};
 ghost use Rattle.bb_ast.specs.Inside.Views.{optional_view, named_view, conns_view, call_view, body_view};
 ghost use Rattle.bb_parse.specs.Inside.Steps.{Gives, read_list};
@@ -12,7 +15,7 @@ use bb_bits::Name;
 use bb_lex::Mark;
 use std::alloc::Global;
 
-/// A place of a list: an expression, or nothing before a comma or `)`.
+/// An open connection: nothing before a comma or `)`.
 #[tactic(auto, unfolding(crate::specs::Inside::Items::read_place))]
 fn place(alloc: Global, cursor: &mut Cursor<'_>, depth: u32) -> Result<Option<Expr>, Stop>
     ensures { Gives optional_view result cursor.new (read_place depth cursor.old) }
@@ -24,7 +27,6 @@ fn place(alloc: Global, cursor: &mut Cursor<'_>, depth: u32) -> Result<Option<Ex
     Ok(Some(inside))
 }
 
-/// One or more places, with commas between.
 fn places(alloc: Global, cursor: &mut Cursor<'_>, depth: u32) -> Result<Vec<Option<Expr>>, Stop>
     ensures { Gives (λ all. map optional_view all.items) result cursor.new (read_list (read_place depth) cursor.old) }
 {
@@ -40,7 +42,6 @@ fn places(alloc: Global, cursor: &mut Cursor<'_>, depth: u32) -> Result<Vec<Opti
     Ok(all)
 }
 
-/// A connection by the name of a port.
 #[tactic(auto, unfolding(crate::specs::Inside::Items::read_named))]
 fn named(alloc: Global, cursor: &mut Cursor<'_>, depth: u32) -> Result<(Name, Option<Expr>), Stop>
     ensures { Gives named_view result cursor.new (read_named depth cursor.old) }
@@ -53,7 +54,6 @@ fn named(alloc: Global, cursor: &mut Cursor<'_>, depth: u32) -> Result<(Name, Op
     Ok((name, inside))
 }
 
-/// One or more of these, with commas between.
 fn named_list(
     alloc: Global,
     cursor: &mut Cursor<'_>,
@@ -73,7 +73,7 @@ fn named_list(
     Ok(all)
 }
 
-/// The connections of an instance, behind `(`.
+/// `u()` has no connections, and not one that is open: an instance of a module without ports needs none.
 #[tactic(auto, unfolding(crate::specs::Inside::Items::read_conns))]
 fn conns(alloc: Global, cursor: &mut Cursor<'_>, depth: u32) -> Result<Conns, Stop>
     ensures { Gives conns_view result cursor.new (read_conns depth cursor.old) }
@@ -89,7 +89,6 @@ fn conns(alloc: Global, cursor: &mut Cursor<'_>, depth: u32) -> Result<Conns, St
     Ok(Conns::Order(all))
 }
 
-/// An instance: its name and its connections.
 #[tactic(auto, unfolding(crate::specs::Inside::Items::read_call))]
 fn call(alloc: Global, cursor: &mut Cursor<'_>, depth: u32) -> Result<Call, Stop>
     ensures { Gives call_view result cursor.new (read_call depth cursor.old) }
@@ -101,7 +100,6 @@ fn call(alloc: Global, cursor: &mut Cursor<'_>, depth: u32) -> Result<Call, Stop
     Ok(Call { name, conns })
 }
 
-/// One or more instances, with commas between.
 fn call_list(alloc: Global, cursor: &mut Cursor<'_>, depth: u32) -> Result<Vec<Call>, Stop>
     ensures { Gives (λ all. map call_view all.items) result cursor.new (read_list (read_call depth) cursor.old) }
 {
@@ -117,7 +115,6 @@ fn call_list(alloc: Global, cursor: &mut Cursor<'_>, depth: u32) -> Result<Vec<C
     Ok(all)
 }
 
-/// A module's name and instances of it.
 #[tactic(auto, unfolding(crate::specs::Inside::Items::read_calls))]
 pub(crate) fn calls(alloc: Global, cursor: &mut Cursor<'_>, depth: u32) -> Result<Body, Stop>
     ensures { Gives body_view result cursor.new (read_calls depth cursor.old) }

@@ -1,3 +1,6 @@
+//! Items of a module (IEEE 1364-2005, A.1.4). The first token decides which item is read. Each statement ends at its
+//! `;`, so a fault in one never moves where the next begins.
+
 ghost use Rattle.std.specs.Prelude.{◌≡◌, ℕ, List, map};
 ghost use Rattle.bb_ast.specs.Inside.Views.{expression, arm_view, named_view, body_view};
 ghost use Rattle.bb_parse.specs.Inside.Steps.{Gives, read_list};
@@ -17,7 +20,8 @@ use bb_bits::Name;
 use bb_lex::{Keyword, Kind, Mark};
 use std::alloc::Global;
 
-/// A net's name, with the expression that is assigned to it or none.
+/// One declaration may mix nets with and without an assignment, which the standard does not allow; nothing becomes
+/// ambiguous by it.
 #[tactic(auto, unfolding(crate::specs::Inside::Items::read_net))]
 fn net(alloc: Global, cursor: &mut Cursor<'_>, depth: u32) -> Result<(Name, Option<Expr>), Stop>
     ensures { Gives named_view result cursor.new (read_net depth cursor.old) }
@@ -30,7 +34,6 @@ fn net(alloc: Global, cursor: &mut Cursor<'_>, depth: u32) -> Result<(Name, Opti
     Ok((name, Some(value)))
 }
 
-/// One or more of these, with commas between.
 fn net_list(
     alloc: Global,
     cursor: &mut Cursor<'_>,
@@ -50,7 +53,6 @@ fn net_list(
     Ok(nets)
 }
 
-/// Nets, behind `wire`.
 #[tactic(auto, unfolding(crate::specs::Inside::Items::read_nets))]
 fn nets(alloc: Global, cursor: &mut Cursor<'_>, depth: u32) -> Result<Body, Stop>
     ensures { Gives body_view result cursor.new (read_nets depth cursor.old) }
@@ -61,7 +63,6 @@ fn nets(alloc: Global, cursor: &mut Cursor<'_>, depth: u32) -> Result<Body, Stop
     Ok(Body::Nets(range, nets))
 }
 
-/// A left side, the mark and a right side.
 #[tactic(auto, unfolding(crate::specs::Inside::Items::read_sides))]
 fn sides(
     alloc: Global,
@@ -77,7 +78,6 @@ fn sides(
     Ok((left, right))
 }
 
-/// One or more assignments, with commas between.
 fn assignments(
     alloc: Global,
     cursor: &mut Cursor<'_>,
@@ -97,7 +97,6 @@ fn assignments(
     Ok(all)
 }
 
-/// Assignments, behind `assign`.
 #[tactic(auto, unfolding(crate::specs::Inside::Items::read_assign))]
 fn assign(alloc: Global, cursor: &mut Cursor<'_>, depth: u32) -> Result<Body, Stop>
     ensures { Gives body_view result cursor.new (read_assign depth cursor.old) }
@@ -107,7 +106,7 @@ fn assign(alloc: Global, cursor: &mut Cursor<'_>, depth: u32) -> Result<Body, St
     Ok(Body::Assign(all))
 }
 
-/// Whether the edge that a word is falls.
+/// `true` for `negedge`.
 fn edge(kind: Option<Kind>) -> Option<bool>
     ensures { result ≡ edge_of kind }
 {
@@ -118,7 +117,7 @@ fn edge(kind: Option<Kind>) -> Option<bool>
     }
 }
 
-/// A clock: a net or one bit of it.
+/// A net or one of its bits, and no expression: registers of two designs are compared by the bit that clocks them.
 #[tactic(auto, unfolding(crate::specs::Inside::Items::read_clock))]
 fn clock(alloc: Global, cursor: &mut Cursor<'_>) -> Result<Expr, Stop>
     ensures { Gives expression result cursor.new (read_clock cursor.old) }
@@ -132,7 +131,6 @@ fn clock(alloc: Global, cursor: &mut Cursor<'_>) -> Result<Expr, Stop>
     Ok(Expr::Bit(name, index))
 }
 
-/// The edge and the clock, behind `always`: `@ ( posedge clock )`.
 #[tactic(auto, unfolding(crate::specs::Inside::Items::read_event))]
 fn event(alloc: Global, cursor: &mut Cursor<'_>) -> Result<(bool, Expr), Stop>
     ensures { Gives (λ x. (x.0, expression x.1)) result cursor.new (read_event cursor.old) }
@@ -148,7 +146,8 @@ fn event(alloc: Global, cursor: &mut Cursor<'_>) -> Result<(bool, Expr), Stop>
     Ok((falling, clock))
 }
 
-/// What a register takes, behind its clock.
+/// `<=` is one mark for the comparison and for this assignment; the left side is no expression, so it ends before the
+/// mark.
 #[tactic(auto, unfolding(crate::specs::Inside::Items::read_clocked))]
 fn clocked(alloc: Global, cursor: &mut Cursor<'_>, depth: u32) -> Result<(Expr, Expr), Stop>
     ensures { Gives arm_view result cursor.new (read_clocked depth cursor.old) }
@@ -158,7 +157,6 @@ fn clocked(alloc: Global, cursor: &mut Cursor<'_>, depth: u32) -> Result<(Expr, 
     Ok(taken)
 }
 
-/// A register, behind `always`.
 #[tactic(auto, unfolding(crate::specs::Inside::Items::read_always))]
 fn always(alloc: Global, cursor: &mut Cursor<'_>, depth: u32) -> Result<Body, Stop>
     ensures { Gives body_view result cursor.new (read_always depth cursor.old) }
@@ -173,7 +171,7 @@ fn always(alloc: Global, cursor: &mut Cursor<'_>, depth: u32) -> Result<Body, St
     }))
 }
 
-/// An item that begins with a reserved word, which is next.
+/// The word is still next. A direction stays there, since `port` reads it; any other word is passed.
 fn worded_item(
     alloc: Global,
     cursor: &mut Cursor<'_>,
@@ -197,7 +195,6 @@ fn worded_item(
     }
 }
 
-/// An item of a module.
 #[tactic(auto, unfolding(crate::specs::Inside::Items::read_body))]
 pub(crate) fn body(alloc: Global, cursor: &mut Cursor<'_>, depth: u32) -> Result<Body, Stop>
     ensures { Gives body_view result cursor.new (read_body depth cursor.old) }

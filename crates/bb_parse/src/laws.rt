@@ -1,80 +1,83 @@
-//! Laws of sources: they follow from the definitions and from the laws of tokens, and no code runs.
+//! Laws of sources. They follow from the definitions and from the laws of tokens; the functions run no code, and a
+//! crate above takes a law by calling its function.
 
 ghost use Rattle.bb_parse.specs.Laws.{SourcesAreOne, FaultsAreOne, SourceOrFault, NotSourceAndFault, TextsReadOnce, SourcesAreShort, TextsAreLong, SourcesAreFormed, SourcesAreRead, FaultsAreRead};
 
 use bb_lex::laws;
 
-/// Tokens mean at most one source.
+/// The grammar is unambiguous: tokens mean at most one source.
 pub fn sources_are_one()
     ensures { SourcesAreOne }
 {
-    laws::read_bits_are_said();
+    laws::read_bits_are_meant();
 }
 
-/// Tokens have at most one first fault.
+/// So a refusal names one fault and one line, for every parser.
 pub fn faults_are_one()
     ensures { FaultsAreOne }
 {
-    laws::read_bits_are_said();
+    laws::read_bits_are_meant();
 }
 
-/// The tokens of a text mean a source or have a first fault.
+/// Only of the tokens of a text: a token means its symbol by a relation on the text's bytes, and an arbitrary list of
+/// tokens may mean none.
 pub fn source_or_fault()
     ensures { SourceOrFault }
 {
-    laws::read_bits_are_said();
-    laws::tokens_stand_in_text();
+    laws::read_bits_are_meant();
+    laws::tokens_are_in_text();
 }
 
-/// No list of tokens means a source and has a fault.
+/// So a refusal excludes that the text has a meaning.
 pub fn not_source_and_fault()
     ensures { NotSourceAndFault }
 {
-    laws::read_bits_are_said();
+    laws::read_bits_are_meant();
 }
 
-/// A text reads as at most one source.
+/// Lets definitions above speak of the source of a text, with no word on how it is parsed.
 pub fn texts_read_once()
     ensures { TextsReadOnce }
 {
-    laws::read_bits_are_said();
+    laws::read_bits_are_meant();
     laws::tokens_are_one();
 }
 
-/// A source is no larger than its list of tokens.
+/// Sizes of sources bound counters of 32 bits in the crates above.
 pub fn sources_are_short()
     ensures { SourcesAreShort }
 {}
 
-/// A source is no larger than its text has bytes.
+/// So a bound on the bytes of a text bounds every count over its syntax.
 pub fn texts_are_long()
     ensures { TextsAreLong }
 {
     laws::tokens_are_few();
 }
 
-/// Each module that a text reads as is well formed.
+/// What later stages need of a text's syntax, so that they need not know that it was read.
 pub fn sources_are_formed()
     ensures { SourcesAreFormed }
 {
     laws::names_are_printable();
     laws::sized_bits_fit();
     laws::plain_values_fit();
-    laws::tokens_stand_in_text();
+    laws::tokens_are_in_text();
 }
 
-/// What is computed from the tokens of a text is their source exactly where they have one.
+/// The function on lists that the code computes agrees with the relation; so a text that the program prints can be
+/// shown to read.
 pub fn sources_are_read()
     ensures { SourcesAreRead }
 {
-    laws::read_bits_are_said();
-    laws::tokens_stand_in_text();
+    laws::read_bits_are_meant();
+    laws::tokens_are_in_text();
 }
 
-/// What is computed from the tokens of a text is their first fault exactly where they have one.
+/// As `sources_are_read`, for texts with a fault.
 pub fn faults_are_read()
     ensures { FaultsAreRead }
 {
-    laws::read_bits_are_said();
-    laws::tokens_stand_in_text();
+    laws::read_bits_are_meant();
+    laws::tokens_are_in_text();
 }

@@ -1,4 +1,6 @@
-//! The grammar of the language: a list of tokens as the source that it means, or the first statement at fault.
+//! The grammar of the language, a profile of IEEE 1364-2005, Annex A: recursive descent from a list of tokens to the
+//! source that it means, or to its first fault. Each function computes one rule of `specs/Inside`, and laws tie these
+//! rules to the grammar in `specs/`, which is written as definite clauses and mentions no order of reading.
 #![tactic(auto)]
 
 mod cursor;

@@ -1,3 +1,6 @@
+//! Left sides of assignments (IEEE 1364-2005, A.8.5). They have a rule of their own, and are not expressions that are
+//! checked afterwards, so that `a <= b` in a clocked assignment is never read as a comparison.
+
 ghost use Rattle.std.specs.Prelude.{◌≡◌, ℕ, List, map};
 ghost use Rattle.bb_ast.specs.Inside.Views.{expression};
 ghost use Rattle.bb_parse.specs.Inside.Steps.{Gives, read_list};
@@ -11,7 +14,6 @@ use bb_ast::Expr;
 use bb_lex::Mark;
 use std::alloc::Global;
 
-/// What may be assigned, in which braces nest to less than `depth` levels.
 #[cycle(lval)]
 #[tactic(auto, unfolding(crate::specs::Inside::Expressions::read_lval, crate::specs::Inside::Expressions::read_lvals))]
 pub(crate) fn lval(alloc: Global, cursor: &mut Cursor<'_>, depth: u32) -> Result<Expr, Stop>
@@ -28,7 +30,6 @@ pub(crate) fn lval(alloc: Global, cursor: &mut Cursor<'_>, depth: u32) -> Result
     Ok(Expr::Concat(parts))
 }
 
-/// One or more of what may be assigned, with commas between.
 #[cycle(lval)]
 fn lvals(alloc: Global, cursor: &mut Cursor<'_>, depth: u32) -> Result<Vec<Expr>, Stop>
     ensures { Gives (λ parts. map expression parts.items) result cursor.new (read_list (read_lval depth) cursor.old) }

@@ -1,3 +1,6 @@
+//! Lists of names with commas between (IEEE 1364-2005, A.2.3). Each iteration takes a comma, so the number of tokens
+//! bounds the loop; every rule for a list in this crate ends for this reason.
+
 ghost use Rattle.std.specs.Prelude.{◌≡◌, ℕ, List};
 ghost use Rattle.bb_parse.specs.Inside.Steps.{Gives, read_name, read_list};
 
@@ -8,7 +11,6 @@ use bb_bits::Name;
 use bb_lex::Mark;
 use std::alloc::Global;
 
-/// One or more names, with commas between.
 pub(crate) fn names(alloc: Global, cursor: &mut Cursor<'_>) -> Result<Vec<Name>, Stop>
     ensures { Gives (λ names. names.items) result cursor.new (read_list read_name cursor.old) }
 {

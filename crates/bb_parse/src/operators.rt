@@ -1,15 +1,17 @@
-//! Which operators marks are, their rows of precedence, and runs of `~`.
+//! The operators of each row of precedence (IEEE 1364-2005, table 5-4), by the number of the row: 0 binds tightest. One
+//! rule by number replaces nine, so `level` in `expr.rt` is one loop. Operators on bits and on words have types of
+//! their own, since they make different nodes.
 
 ghost use Rattle.std.specs.Prelude.{◌≡◌, length};
 ghost use Rattle.bb_ast.specs.Levels.{level_of};
-ghost use Rattle.bb_parse.specs.Expressions.{on_one, on_bits, bit_row, on_words, bit_operator, word_operator, is_bitwise};
+ghost use Rattle.bb_parse.specs.Expressions.{on_one, bit_operator_of, bit_row, on_words, bit_operator, word_operator, is_bitwise};
 ghost use Rattle.bb_parse.specs.Inside.Expressions.{read_signs};
 
 use crate::cursor::Cursor;
 use bb_ast::{FoldOp, Op, WordOp};
 use bb_lex::Mark;
 
-/// The operator that a mark is before one operand, but for `~`.
+/// Without `~`, which comes in runs (`signs`).
 pub(crate) fn on_one(mark: Mark) -> Option<FoldOp>
     ensures { result ≡ on_one mark }
 {
@@ -25,9 +27,8 @@ pub(crate) fn on_one(mark: Mark) -> Option<FoldOp>
     }
 }
 
-/// The operator on bits that a mark is between two operands.
 pub(crate) fn on_bits(mark: Mark) -> Option<Op>
-    ensures { result ≡ on_bits mark }
+    ensures { result ≡ bit_operator_of mark }
 {
     match mark {
         Mark::Amp => Some(Op::And),
@@ -48,7 +49,6 @@ fn bit_row(op: Op) -> u32
     }
 }
 
-/// The operator on words that a mark is between two operands.
 pub(crate) fn on_words(mark: Mark) -> Option<WordOp>
     ensures { result ≡ on_words mark }
 {
@@ -82,7 +82,6 @@ fn word_row(op: WordOp) -> u32
     }
 }
 
-/// The operator on bits that a mark is in a row.
 pub(crate) fn bit_operator(row: u32, mark: Mark) -> Option<Op>
     ensures { result ≡ bit_operator row mark }
 {
@@ -90,7 +89,6 @@ pub(crate) fn bit_operator(row: u32, mark: Mark) -> Option<Op>
     if bit_row(op) == row { Some(op) } else { None }
 }
 
-/// The operator on words that a mark is in a row.
 pub(crate) fn word_operator(row: u32, mark: Mark) -> Option<WordOp>
     ensures { result ≡ word_operator row mark }
 {
@@ -98,14 +96,12 @@ pub(crate) fn word_operator(row: u32, mark: Mark) -> Option<WordOp>
     if word_row(op) == row { Some(op) } else { None }
 }
 
-/// Whether the operators of a row are on bits, and not on words.
 pub(crate) fn is_bitwise(row: u32) -> bool
     ensures { result ≡ is_bitwise row }
 {
     row == 4 || row == 5 || row == 6
 }
 
-/// How many signs `~` come next; these are taken.
 #[tactic(auto, using(crate::proofs::Loops::signs_looping))]
 pub(crate) fn signs(cursor: &mut Cursor<'_>) -> u32
     ensures { read_signs (length cursor.old) cursor.old ≡ (result, cursor.new) }

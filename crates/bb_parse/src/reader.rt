@@ -1,3 +1,7 @@
+//! Sources statement by statement. The tokens are cut after each `;` and each `endmodule`, and each statement is judged
+//! alone, with only whether a module is open. So the first fault is the first statement that is not good after a list
+//! of good ones, and no recovery is needed to find it.
+
 ghost use Rattle.std.specs.Prelude.{◌≡◌, ◌<◌, ◌^◌, ℕ, List, map, length, option_map, option_to_list, ◌++◌, OnOk, IfOk, IfErr, MatchResult, ◌⊎◌};
 ghost use Rattle.std.specs.List.{AllByRecursion};
 ghost use Rattle.bb_ast.specs.declared.module.Module.{Module};
@@ -5,18 +9,17 @@ ghost use Rattle.bb_ast.specs.Syntax.{PlainModule};
 ghost use Rattle.bb_ast.specs.Inside.Views.{module_view, source_view};
 ghost use Rattle.bb_lex.specs.Cut.{IsTokenOf, AreTokens};
 ghost use Rattle.bb_parse.specs.declared.fault.ParseFault.{ParseFault};
-ghost use Rattle.bb_parse.specs.Sources.{line_of, IsSource, IsFault};
+ghost use Rattle.bb_parse.specs.Sources.{line_of, IsSource, IsParseFault};
 ghost use Rattle.bb_parse.specs.Inside.Symbols.{symbols, next_kind};
 ghost use Rattle.bb_parse.specs.Inside.Sources.{Answers, with_modules, at_end, is_endmodule, then_read, item_added, step_view, read_item_of, read_step, read_source};
 
 use crate::fault::ParseFault;
 use crate::statement::{first, header_of, item_of, line};
 use bb_ast::{Item, Module, Source};
-use bb_lex::laws::{read_bits_are_said, tokens_end_past_their_places, tokens_stand_in_text};
+use bb_lex::laws::{read_bits_are_meant, tokens_are_in_text, tokens_end_past_their_places};
 use bb_lex::{Keyword, Kind, Token};
 use std::alloc::Global;
 
-/// Whether a statement is `endmodule`.
 fn is_endmodule_statement(statement: &[Token]) -> bool
     ensures { (text : List ℕ) → result ≡ is_endmodule (next_kind (symbols text statement.now)) }
 {
@@ -26,7 +29,8 @@ fn is_endmodule_statement(statement: &[Token]) -> bool
     }
 }
 
-/// A statement in its place: the module that it ends, if any, and the open module behind it, if any.
+/// The module that the statement closes, if any, and the module that is open after it. A module's line is that of its
+/// header's first token.
 #[tactic(auto, unfolding(crate::specs::Inside::Sources::read_step))]
 fn step(
     alloc: Global,
@@ -61,7 +65,6 @@ fn step(
     }
 }
 
-/// A module with one more item, the statement.
 fn with_item(
     mut target: Module,
     alloc: Global,
@@ -80,7 +83,6 @@ fn with_item(
     Ok(target)
 }
 
-/// Keeps the module, if there is one, behind these.
 fn keep(modules: &mut Vec<Module>, closed: Option<Module>) -> Result<(), ParseFault>
     ensures ok { OnOk result (map module_view modules.new.items ≡ map module_view modules.old.items ++ option_to_list (option_map module_view closed)) }
     ensures err { IfErr result (λ e. e ≡ ParseFault.NoMemory) }
@@ -91,7 +93,6 @@ fn keep(modules: &mut Vec<Module>, closed: Option<Module>) -> Result<(), ParseFa
     Ok(())
 }
 
-/// The source of these modules, where no module is open and nothing is left.
 fn finished(
     modules: Vec<Module>,
     current: Option<Module>,
@@ -105,7 +106,8 @@ fn finished(
     Ok(Source { modules })
 }
 
-/// How many tokens there are. Each ends behind its place in the list, so they are fewer than 2 to the power of 32.
+/// Each token ends past its place in the list, and an end has 32 bits, so there are fewer than 2^32 tokens. The minimum
+/// makes this bound hold by the type of an end; it is always the length.
 fn count(tokens: &[Token], text: &[u8]) -> usize
     requires { AreTokens text.now tokens.now }
     ensures count { result ≡ length tokens.now }
@@ -125,7 +127,6 @@ fn count(tokens: &[Token], text: &[u8]) -> usize
     }
 }
 
-/// The source that the tokens mean.
 #[tactic(auto, using(crate::proofs::SourceLoop::source_looping), unfolding(crate::specs::Inside::Sources::read_source))]
 fn read(alloc: Global, tokens: &[Token], text: &[u8], count: usize) -> Result<Source, ParseFault>
     requires of_text { AllByRecursion (λ token. IsTokenOf token text.now) tokens.now }
@@ -148,26 +149,27 @@ fn read(alloc: Global, tokens: &[Token], text: &[u8], count: usize) -> Result<So
     finished(modules, current, rest)
 }
 
-/// The source that the tokens of a text mean, or the first fault.
+/// The tokens are cut into statements after each `;` and each `endmodule`. The fault is that of the first statement
+/// that nests deeper than 200 levels or is not in the language at its place, with the line of its first token; if there
+/// is none, the text ends within a statement or a module.
 ///
-/// The tokens are cut into statements after each `;` and each `endmodule`. The fault is that of the first statement that
-/// nests deeper than 200 levels or is not of the language in its place, with the line of its first token; or else that
-/// the text ends within a statement or a module.
+/// The four clauses are those of `bb_lex::tokens` under the same labels: a result is right, a fault is one, and each
+/// comes wherever it is due.
 pub fn source(alloc: Global, tokens: &[Token], text: &[u8]) -> Result<Source, ParseFault>
     requires { AreTokens text.now tokens.now }
 
-    // What is answered is the source, or the first fault.
+    // A result is the source, or the first fault.
     ensures ok { IfOk result (λ source. IsSource text.now tokens.now (source_view source)) }
-    ensures fault { IfErr result (λ fault. (fault ≡ ParseFault.NoMemory) ⊎ IsFault text.now tokens.now fault) }
+    ensures fault { IfErr result (λ fault. (fault ≡ ParseFault.NoMemory) ⊎ IsParseFault text.now tokens.now fault) }
 
-    // The source is answered where there is one, and else the fault, unless memory runs out.
+    // There is a result wherever there is a source, and a fault wherever there is one, unless memory runs out.
     ensures only_ok { (modules : List PlainModule) → IsSource text.now tokens.now modules
         → MatchResult result (λ source. source_view source ≡ modules) (λ fault. fault ≡ ParseFault.NoMemory) }
-    ensures only_fault { (first : ParseFault) → IsFault text.now tokens.now first
+    ensures only_fault { (first : ParseFault) → IsParseFault text.now tokens.now first
         → MatchResult result (λ source. ⊥) (λ fault. (fault ≡ first) ⊎ (fault ≡ ParseFault.NoMemory)) }
 {
-    tokens_stand_in_text();
-    read_bits_are_said();
+    tokens_are_in_text();
+    read_bits_are_meant();
     let count = count(tokens, text);
     read(alloc, tokens, text, count)
 }

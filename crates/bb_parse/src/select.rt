@@ -1,4 +1,5 @@
-//! A net, one bit of it, or some of its bits.
+//! A net, one of its bits, or a part of it (IEEE 1364-2005, A.8.4 and A.8.5), with constant indices only: an index that
+//! is an expression would be a multiplexer and could be out of range.
 
 ghost use Rattle.bb_ast.specs.Inside.Views.{expression};
 ghost use Rattle.bb_parse.specs.Inside.Steps.{Gives};
@@ -11,7 +12,6 @@ use bb_bits::Name;
 use bb_lex::Mark;
 use std::alloc::Global;
 
-/// A net, or some of its bits.
 #[tactic(auto, unfolding(crate::specs::Inside::Expressions::read_select))]
 pub(crate) fn select(alloc: Global, cursor: &mut Cursor<'_>) -> Result<Expr, Stop>
     ensures { Gives expression result cursor.new (read_select cursor.old) }
@@ -24,7 +24,6 @@ pub(crate) fn select(alloc: Global, cursor: &mut Cursor<'_>) -> Result<Expr, Sto
     }
 }
 
-/// The bits of a net that stand behind `[`.
 #[tactic(auto, unfolding(crate::specs::Inside::Expressions::read_index))]
 fn index(cursor: &mut Cursor<'_>, name: Name) -> Result<Expr, Stop>
     ensures { Gives expression result cursor.new (read_index name cursor.old) }

@@ -1,10 +1,14 @@
+//! One statement: where it ends, how deep it nests, and what it is. Nesting is counted over the tokens before anything
+//! is parsed. So `Deep` does not depend on how the parser recurses, the recursion has levels enough for each statement
+//! that passes, and its own limit is never met.
+
 ghost use Rattle.std.specs.Prelude.{◌≡◌, ◌<◌, ◌≤◌, ◌+◌, ◌^◌, ℕ, List, map, max, length, option_map};
 ghost use Rattle.std.specs.List.{AllByRecursion};
 ghost use Rattle.bb_ast.specs.declared.module.Head.{Head};
 ghost use Rattle.bb_ast.specs.Inside.Views.{head_view, body_view};
 ghost use Rattle.bb_lex.specs.Cut.{IsTokenOf};
 ghost use Rattle.bb_parse.specs.Nesting.{nesting};
-ghost use Rattle.bb_parse.specs.Sources.{ends, line_of};
+ghost use Rattle.bb_parse.specs.Sources.{ends_statement, line_of};
 ghost use Rattle.bb_parse.specs.Inside.Sources.{judged, Answers, count_at, square_at, first_statement, read_header_of, read_item_of};
 
 use crate::cursor::Cursor;
@@ -17,15 +21,14 @@ use bb_bits::Name;
 use bb_lex::{Keyword, Kind, Mark, Token};
 use std::alloc::Global;
 
-/// The deepest nesting of a statement.
+/// Bounds the stack of the parser, and of every recursion over an expression in the crates above.
 const NESTING: u32 = 200;
 
-/// The levels on which an expression may stand: one more than nesting.
+/// 200, and the level on which nothing nests.
 const LEVELS: u32 = 201;
 
-/// Whether a token of the kind ends a statement.
 fn is_end(kind: Kind) -> bool
-    ensures { result ≡ ends kind }
+    ensures { result ≡ ends_statement kind }
 {
     matches!(
         kind,
@@ -33,7 +36,6 @@ fn is_end(kind: Kind) -> bool
     )
 }
 
-/// The first statement and what stands behind it, where one ends.
 #[tactic(auto, using(crate::proofs::Statements::first_looping))]
 pub(crate) fn first<'a>(tokens: &'a [Token]) -> Option<(&'a [Token], &'a [Token])>
     ensures { option_map (λ x. (x.0.now, x.1.now)) result ≡ first_statement tokens.entry.now }
@@ -46,7 +48,6 @@ pub(crate) fn first<'a>(tokens: &'a [Token]) -> Option<(&'a [Token], &'a [Token]
     None
 }
 
-/// The line of the first token.
 pub(crate) fn line(statement: &[Token]) -> u32
     ensures { result ≡ line_of statement.now }
 {
@@ -56,8 +57,9 @@ pub(crate) fn line(statement: &[Token]) -> u32
     }
 }
 
-/// The counter of nesting behind what comes next, where so many square brackets are open.
-fn count_behind(kind: Option<Kind>, square: u32, count: u32) -> u32
+/// `:` closes a `?` only outside square brackets: `[7:0]` has one too. A closing bracket too many leaves the counter at
+/// 0, since the grammar refuses it anyway. No overflow: there are fewer than 2^32 tokens.
+fn count_after(kind: Option<Kind>, square: u32, count: u32) -> u32
     requires { count < 4294967295 }
     ensures value { result ≡ count_at kind square count }
     ensures within { result ≤ count + 1 }
@@ -70,8 +72,7 @@ fn count_behind(kind: Option<Kind>, square: u32, count: u32) -> u32
     }
 }
 
-/// How many square brackets are open behind what comes next.
-fn square_behind(kind: Option<Kind>, square: u32) -> u32
+fn square_after(kind: Option<Kind>, square: u32) -> u32
     requires { square < 4294967295 }
     ensures value { result ≡ square_at kind square }
     ensures within { result ≤ square + 1 }
@@ -83,14 +84,12 @@ fn square_behind(kind: Option<Kind>, square: u32) -> u32
     }
 }
 
-/// The greater of two numbers.
 fn greater(a: u32, b: u32) -> u32
     ensures { result ≡ max a b }
 {
     if a < b { b } else { a }
 }
 
-/// How deep the tokens nest; they are passed over.
 #[tactic(auto, using(crate::proofs::Statements::nesting_looping))]
 fn depth(cursor: &mut Cursor<'_>) -> u32
     ensures { result ≡ nesting cursor.old }
@@ -100,16 +99,15 @@ fn depth(cursor: &mut Cursor<'_>) -> u32
     let mut greatest = 0;
     for turn in 0..cursor.len() {
         let kind = cursor.kind();
-        let behind = count_behind(kind, square, count);
-        square = square_behind(kind, square);
-        count = behind;
+        let after = count_after(kind, square, count);
+        square = square_after(kind, square);
+        count = after;
         greatest = greater(greatest, count);
         cursor.skip();
     }
     greatest
 }
 
-/// What was read of a statement, where nothing of it is left.
 fn all_read<T: Drop>(read: Result<T, Stop>, left: usize, line: u32) -> Result<T, ParseFault>
     ensures { result ≡ judged read left line }
 {
@@ -125,7 +123,6 @@ fn all_read<T: Drop>(read: Result<T, Stop>, left: usize, line: u32) -> Result<T,
     }
 }
 
-/// The header of a module.
 #[tactic(auto, using(crate::proofs::Statements::judging), unfolding(crate::specs::Inside::Sources::read_header_of))]
 pub(crate) fn header_of(
     alloc: Global,
@@ -145,7 +142,6 @@ pub(crate) fn header_of(
     all_read(read, cursor.len(), line)
 }
 
-/// An item of a module.
 #[tactic(auto, using(crate::proofs::Statements::judging), unfolding(crate::specs::Inside::Sources::read_item_of))]
 pub(crate) fn item_of(alloc: Global, statement: &[Token], text: &[u8]) -> Result<Body, ParseFault>
     requires of_text { AllByRecursion (λ token. IsTokenOf token text.now) statement.now }

@@ -1,6 +1,9 @@
+//! Why a rule stops. A rule needs no more than this: the parser never backtracks past the token that decides, so the
+//! line and the kind of a fault are the same for the whole statement and are added in `statement.rt`.
+
 use std::alloc::{AllocError, AllocFailed};
 
-/// Why the reading of a rule stops: nothing of the rule stands here, or there is no memory.
+/// `Amiss`: the next tokens begin nothing that the rule allows.
 #[derive(Debug, Drop)]
 pub(crate) enum Stop {
     Amiss,

@@ -33,9 +33,9 @@ heavier : (b : Bool) (r q : List Bool) → length r ≡ length q → number_of r
 heavier true r q e l = let k = ap (λ n. 2 ^ n) e in omega (arith, k, l)
 heavier false r q e l = l
 
-later_behind : (b : Bool) (j : ℕ) (p q : List Bool) → length q ≡ length p → IsLater j p q → IsLater (suc j) (b ∷ p) (b ∷ q)
-later_behind b j p q long later [] h e = absurd (omega (arith, h))
-later_behind b j p q long later (x ∷ r) h e =
+later_after : (b : Bool) (j : ℕ) (p q : List Bool) → length q ≡ length p → IsLater j p q → IsLater (suc j) (b ∷ p) (b ∷ q)
+later_after b j p q long later [] h e = absurd (omega (arith, h))
+later_after b j p q long later (x ∷ r) h e =
     let short : length r ≡ length p = omega (arith, h) in
     subst (λ y. number_of (y ∷ r) < number_of (b ∷ q)) (sym (ap (λ bits. get_or bits 0 false) e))
     (heavier b r q (omega (arith, short, long)) (later r short (ap (drop 1) e)))
@@ -49,9 +49,9 @@ module _ (below : NumbersAreBelow) where
       let k = ap (λ n. 2 ^ n) same in
       subst (λ y. number_of (y ∷ r) < number_of (true ∷ q)) (sym (ap (λ bits. get_or bits 0 false) e)) (omega (arith, l, k))
 
-  behind : (b : Bool) (j : ℕ) (p q : List Bool) → length q ≡ length p → (take j q ≡ take j p) ⊎ IsLater j p q → (take (suc j) (b ∷ q) ≡ take (suc j) (b ∷ p)) ⊎ IsLater (suc j) (b ∷ p) (b ∷ q)
-  behind b j p q long (inl e) = inl (ap (λ bits. b ∷ bits) e)
-  behind b j p q long (inr later) = inr (later_behind b j p q long later)
+  after : (b : Bool) (j : ℕ) (p q : List Bool) → length q ≡ length p → (take j q ≡ take j p) ⊎ IsLater j p q → (take (suc j) (b ∷ q) ≡ take (suc j) (b ∷ p)) ⊎ IsLater (suc j) (b ∷ p) (b ∷ q)
+  after b j p q long (inl e) = inl (ap (λ bits. b ∷ bits) e)
+  after b j p q long (inr later) = inr (later_after b j p q long later)
 
   -- where p is 0 from k on, a point with its first k bits has its first j bits too or comes later
   pub begins_or_later : (j k : ℕ) (p q : List Bool) → length q ≡ length p → take k q ≡ take k p → ((i : ℕ) → k ≤ i → get_or p i false ≡ false) → (take j q ≡ take j p) ⊎ IsLater j p q
@@ -63,12 +63,12 @@ module _ (below : NumbersAreBelow) where
   begins_or_later (suc j) zero (false ∷ p) (true ∷ q) long e zeros = inr (one_is_later j p q (omega (arith, long)))
   begins_or_later (suc j) zero (false ∷ p) (false ∷ q) long e zeros =
       let short : length q ≡ length p = omega (arith, long) in
-      behind false j p q short (begins_or_later j zero p q short refl (λ i l. zeros (suc i) (omega arith)))
+      after false j p q short (begins_or_later j zero p q short refl (λ i l. zeros (suc i) (omega arith)))
   begins_or_later (suc j) (suc k) (x ∷ p) (y ∷ q) long e zeros =
       let short : length q ≡ length p = omega (arith, long) in
       let same : y ≡ x = ap (λ bits. get_or bits 0 false) e in
       subst (λ b. (take (suc j) (b ∷ q) ≡ take (suc j) (x ∷ p)) ⊎ IsLater (suc j) (x ∷ p) (b ∷ q)) (sym same)
-      (behind x j p q short (begins_or_later j k p q short (ap (drop 1) e) (λ i l. zeros (suc i) (omega (arith, l)))))
+      (after x j p q short (begins_or_later j k p q short (ap (drop 1) e) (λ i l. zeros (suc i) (omega (arith, l)))))
 
   -- fewer bits that are given, where the others are 0
   pub least_by_fewer : (t : Truth) (want : Bool) (k j : ℕ) (given p : List Bool) → k ≤ j → ((i : ℕ) → k ≤ i → get_or given i false ≡ false) → IsLeastPoint t want j given p → IsLeastPoint t want k given p
@@ -140,12 +140,12 @@ no_bit zero i = refl
 no_bit (suc n) zero = refl
 no_bit (suc n) (suc i) = no_bit n i
 
--- zeros behind some first bits
-pub zeros_behind : (k n i : ℕ) (p : List Bool) → k ≤ length p → k ≤ i → get_or (take k p ++ replicate n false) i false ≡ false
-zeros_behind zero n i p h l = no_bit n i
-zeros_behind (suc k) n i [] h l = absurd (omega (arith, h))
-zeros_behind (suc k) n zero (b ∷ p) h l = absurd (omega (arith, l))
-zeros_behind (suc k) n (suc i) (b ∷ p) h l = zeros_behind k n i p (omega (arith, h)) (omega (arith, l))
+-- zeros after some first bits
+pub zeros_after : (k n i : ℕ) (p : List Bool) → k ≤ length p → k ≤ i → get_or (take k p ++ replicate n false) i false ≡ false
+zeros_after zero n i p h l = no_bit n i
+zeros_after (suc k) n i [] h l = absurd (omega (arith, h))
+zeros_after (suc k) n zero (b ∷ p) h l = absurd (omega (arith, l))
+zeros_after (suc k) n (suc i) (b ∷ p) h l = zeros_after k n i p (omega (arith, h)) (omega (arith, l))
 
 pub cleared : (k : ℕ) (p zeros : List Bool) → k ≤ length p → zeros ≡ replicate (length p - k) false → put_mid k (length p - k) p zeros ≡ take k p ++ replicate (length p - k) false
 cleared k p zeros h e =

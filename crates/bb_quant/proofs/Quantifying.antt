@@ -1,7 +1,7 @@
 -- a variable quantified in a diagram, by its cofactors
 use Rattle.std.proofs.Common.{◌≡◌, ◌<◌, ℕ, suc, ◌+◌, ◌-◌, ◌*◌, Bool, true, false, ◌==◌, eqb, refl, sym, ap, ap₂, ◌∙◌, subst, inl, inr, arith}
 use Rattle.std.proofs.lemmas.Bool.{cases_lt, eq-eqb, cond-true}
-use Rattle.bb_bits.specs.Truth.{Truth, Bit, Halves, IsTruthTable, lifted, joined, quantified}
+use Rattle.bb_bits.specs.Truth.{Truth, Bit, Halves, IsTruthTable, lifted, joined_tables, quantified}
 use Rattle.bb_uniq.specs.declared.store.Ref.{Ref}
 use Rattle.bb_uniq.specs.declared.store.View.TheVariants as seen
 use Rattle.bb_uniq.specs.Inside.Nodes.{NodeStore, IsRef, IsStore, view_of}
@@ -58,10 +58,10 @@ module _ (given : Given) where
       subst (λ r. AreCofactors s v (s.vars - v - 1) f r hi.0) first (subst (λ r. AreCofactors s v (s.vars - v - 1) f (lo_seen v f (view_of s f)) r) second x)
 
   -- the variable of a node: its children are joined
-  pub joined_here : (s : NodeStore) (all : Bool) (v m f lo hi : ℕ) → AreCofactors s v m f lo hi → joined (quantifier all) (truth_of s lo) (truth_of s hi) ≡ quantified (quantifier all) v (truth_of s f)
+  pub joined_here : (s : NodeStore) (all : Bool) (v m f lo hi : ℕ) → AreCofactors s v m f lo hi → joined_tables (quantifier all) (truth_of s lo) (truth_of s hi) ≡ quantified (quantifier all) v (truth_of s f)
   joined_here s all v m f lo hi x =
       let op = quantifier all in
-      ap₂ (joined op) x.lo_table x.hi_table
+      ap₂ (joined_tables op) x.lo_table x.hi_table
       ∙ (given.tables.combined_lifted (suc v) (λ a b c. op a b) x.first x.second x.first
       ∙ (sym (given.quantifiers.here op v x.first x.second) ∙ sym (ap (quantified op v) x.whole)))
 
@@ -71,7 +71,7 @@ module _ (given : Given) where
       let i : ℕ = v - u - 1 in
       let m : ℕ = s.vars - u - 1 in
       let at : v ≡ u + suc i = omega (arith, earlier) in
-      let behind : v ≡ suc u + i = omega (arith, earlier) in
+      let after : v ≡ suc u + i = omega (arith, earlier) in
       record {
         level = omega (arith, inside);
         first = quantified op i x.first;
@@ -79,8 +79,8 @@ module _ (given : Given) where
         first_size = given.tables.quantified_size m i op x.first x.first_size;
         second_size = given.tables.quantified_size m i op x.second x.second_size;
         whole = ap (quantified op v) x.whole ∙ (ap (λ k. quantified op k (lifted u (Halves x.first x.second))) at ∙ given.quantifiers.later op u (suc i) (Halves x.first x.second));
-        first_is = ap (quantified op v) x.lo_table ∙ (ap (λ k. quantified op k (lifted (suc u) x.first)) behind ∙ given.quantifiers.later op (suc u) i x.first);
-        second_is = ap (quantified op v) x.hi_table ∙ (ap (λ k. quantified op k (lifted (suc u) x.second)) behind ∙ given.quantifiers.later op (suc u) i x.second);
+        first_is = ap (quantified op v) x.lo_table ∙ (ap (λ k. quantified op k (lifted (suc u) x.first)) after ∙ given.quantifiers.later op (suc u) i x.first);
+        second_is = ap (quantified op v) x.hi_table ∙ (ap (λ k. quantified op k (lifted (suc u) x.second)) after ∙ given.quantifiers.later op (suc u) i x.second);
       }
 
 -- a node of a variable u before v, and its children

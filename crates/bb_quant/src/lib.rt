@@ -1,4 +1,5 @@
-//! Quantified variables of decision diagrams, and the least point at which a diagram has a bit.
+//! Quantifiers and least points of BDDs, by the public calls of `bb_dd` only: what they need of its cache are `recall`
+//! and `keep`.
 #![tactic(auto)]
 
 mod points;

@@ -1,4 +1,5 @@
-//! The least point at which a diagram has a bit: one walk from node to child, since a node takes both values.
+//! The least point at which a diagram has a bit. One walk down suffices: in a reduced diagram an inner node takes both
+//! values, so the 0 branch is taken unless it is the other leaf, and nothing is searched.
 
 ghost use Rattle.std.specs.Prelude.{◌≡◌, ◌≢◌, ◌≤◌, true, false, if◌then◌else◌, ℕ, List, Bool, length, take, slice_index_or};
 ghost use Rattle.bb_bits.specs.Truth.{truth_at};
@@ -11,8 +12,8 @@ use bb_bits::{number_is_below, truth};
 use bb_dd::{Diagrams, Ref, View};
 use bb_uniq::laws;
 
-/// Among the points that have the first `fixed` bits of `point`, the least one at which `f` is `want` is written to `point`;
-/// 0 comes before 1, and the first variable is the most significant. Where there is none, the answer is false, and `point` stays.
+/// Writes the least point that keeps the first `fixed` bits and at which `f` is `want`: 0 before 1, the first variable
+/// most significant. False where there is none, and then `point` stays.
 pub fn least(d: &Diagrams, f: Ref, want: bool, fixed: usize, point: &mut [bool]) -> bool
     requires f { IsRef d.now.store f.0 }
     requires point { length point.old ≡ d.now.store.vars }
@@ -28,13 +29,13 @@ pub fn least(d: &Diagrams, f: Ref, want: bool, fixed: usize, point: &mut [bool])
     if below == leaf(!want) {
         return false;
     }
-    clear_behind(point, fixed);
+    clear_after(point, fixed);
     descend(d, below, want, point);
     true
 }
 
-/// Sets the bits behind the first `fixed` ones to 0.
-fn clear_behind(point: &mut [bool], fixed: usize)
+/// Variables that the walk passes over then are 0, the least.
+fn clear_after(point: &mut [bool], fixed: usize)
     requires { fixed ≤ length point.old }
     ensures len { length point.new ≡ length point.old }
     ensures first { take fixed point.new ≡ take fixed point.old }
@@ -43,14 +44,13 @@ fn clear_behind(point: &mut [bool], fixed: usize)
     point[fixed..].fill(false);
 }
 
-/// The leaf of a bit.
 fn leaf(bit: bool) -> Ref
     ensures { result.0 ≡ (if bit then 1 else 0) }
 {
     if bit { Ref(1) } else { Ref(0) }
 }
 
-/// What is left of a diagram where its first `fixed` variables have the values of a point.
+/// Follows the fixed bits; what remains begins at a later variable.
 fn under(d: &Diagrams, f: Ref, fixed: usize, point: &[bool]) -> Ref
     requires f { IsRef d.now.store f.0 }
     requires point { length point.now ≡ d.now.store.vars }
@@ -72,7 +72,7 @@ fn under(d: &Diagrams, f: Ref, fixed: usize, point: &[bool]) -> Ref
     }
 }
 
-/// The least point at which a diagram has a bit that it takes, where all bits of the point from its variable on are 0.
+/// `f` is not the leaf of the other bit. All bits of `point` from the variable of `f` on are 0.
 fn descend(d: &Diagrams, f: Ref, want: bool, point: &mut [bool])
     requires f { IsRef d.now.store f.0 }
     requires point { length point.old ≡ d.now.store.vars }

@@ -1,7 +1,9 @@
-//! A variable quantified in a diagram, by recursion over the cofactors.
+//! One variable quantified: the join of both cofactors, lifted through the nodes above. "For all" and "exists" share
+//! the recursion and differ in the join. Only results of the recursion enter the store, never a substituted copy of
+//! `f`.
 
 ghost use Rattle.std.specs.Prelude.{◌≡◌, ◌<◌, ◌≤◌, ◌&&◌, ◌||◌, length, IfOk, IsErrOf};
-ghost use Rattle.bb_bits.specs.Truth.{joined, quantified};
+ghost use Rattle.bb_bits.specs.Truth.{joined_tables, quantified};
 ghost use Rattle.bb_uniq.specs.Inside.Nodes.{IsRef, view_of};
 ghost use Rattle.bb_uniq.specs.Inside.Meaning.{truth_of, Adds, Keeps, IsTooMany};
 ghost use Rattle.bb_uniq.specs.declared.store.View.TheVariants as seen;
@@ -11,11 +13,12 @@ use bb_bits::truth;
 use bb_dd::{DdFault, Diagrams, Ref, View};
 use bb_uniq::laws;
 
-/// The diagram that is 1 where `f` is 1 for both values of the variable `v`. With it, exactly its beads are added.
+/// 1 where `f` is 1 for both values of `v`. Exactly the beads of the result are added.
 ///
 /// # Errors
 ///
-/// `Full` exactly where the beads held and those of the result are more than the limit. All earlier diagrams stay as they are.
+/// `Full` exactly where the beads held and those of the result are more than the limit. All earlier diagrams stay as
+/// they are.
 pub fn forall(d: &mut Diagrams, f: Ref, v: u32) -> Result<Ref, DdFault>
     requires f { IsRef d.old.store f.0 }
     requires v { v < d.old.store.vars }
@@ -27,7 +30,7 @@ pub fn forall(d: &mut Diagrams, f: Ref, v: u32) -> Result<Ref, DdFault>
     quantify(d, true, f, v)
 }
 
-/// The diagram that is 1 where `f` is 1 for one value of the variable `v` or both. With it, exactly its beads are added.
+/// 1 where `f` is 1 for some value of `v`. Exactly the beads of the result are added.
 ///
 /// # Errors
 ///
@@ -43,19 +46,19 @@ pub fn exists(d: &mut Diagrams, f: Ref, v: u32) -> Result<Ref, DdFault>
     quantify(d, false, f, v)
 }
 
-/// The join of two diagrams: by "and" for "for all", by "or" for "exists".
 fn join(d: &mut Diagrams, all: bool, f: Ref, g: Ref) -> Result<Ref, DdFault>
     requires f { IsRef d.old.store f.0 }
     requires g { IsRef d.old.store g.0 }
-    ensures ok { IfOk result (λ r. Adds d.old.store d.new.store (joined (quantifier all) (truth_of d.old.store f.0) (truth_of d.old.store g.0)) r.0) }
-    ensures full { IsErrOf result DdFault.Full → IsTooMany d.old.store (joined (quantifier all) (truth_of d.old.store f.0) (truth_of d.old.store g.0)) }
+    ensures ok { IfOk result (λ r. Adds d.old.store d.new.store (joined_tables (quantifier all) (truth_of d.old.store f.0) (truth_of d.old.store g.0)) r.0) }
+    ensures full { IsErrOf result DdFault.Full → IsTooMany d.old.store (joined_tables (quantifier all) (truth_of d.old.store f.0) (truth_of d.old.store g.0)) }
     ensures kept { Keeps d.old.store d.new.store }
     ensures capacity { d.new.capacity ≡ d.old.capacity }
 {
     if all { d.and(f, g) } else { d.or(f, g) }
 }
 
-/// A variable quantified in a diagram. A diagram of later variables stays as it is; a result that is cached is taken.
+/// A diagram that begins after `v` does not depend on it. Results are cached under the quantifier, so a subgraph shared
+/// by several paths is walked once.
 #[cycle(quantify)]
 fn quantify(d: &mut Diagrams, all: bool, f: Ref, v: u32) -> Result<Ref, DdFault>
     requires f { IsRef d.old.store f.0 }
@@ -81,13 +84,12 @@ fn quantify(d: &mut Diagrams, all: bool, f: Ref, v: u32) -> Result<Ref, DdFault>
         return Ok(r);
     }
     let r = quantify_node(d, all, f, v, var, lo, hi)?;
-    // A result that finds no memory in the cache is made again when it is asked for again.
+    // Without memory the result is not cached and may be computed again.
     let _ = d.keep(all, f, v, r);
     Ok(r)
 }
 
-/// A variable quantified in a node of that variable or an earlier one: the join of its children, or the node that joins what
-/// quantifying gives of them.
+/// At `v` itself the children are joined; above it the node is made anew over the quantified children.
 #[cycle(quantify)]
 fn quantify_node(
     d: &mut Diagrams,

@@ -3,8 +3,8 @@ use Rattle.std.proofs.Common.{ℕ, ◌<◌, ◌∙◌, ap, sym, length, get_or, 
 use Rattle.std.proofs.lemmas.List.{take-append-drop}
 use Rattle.std.proofs.lemmas.List.Elements.{All-nil, All-cons}
 use Rattle.std.proofs.lemmas.List.Folds.{list_any-append, list_any_at}
-use Rattle.bb_lists.proofs.Bits.{or_right, or_left}
-use Rattle.bb_lists.proofs.Members.{either}
+use Rattle.bb_lemmas.proofs.Bits.{or_right, or_left}
+use Rattle.bb_lemmas.proofs.Members.{either}
 use Rattle.bb_cnf.specs.declared.clauses.Lit.{Lit}
 use Rattle.bb_cnf.specs.Clauses.{Literals, literals_of, same_literal}
 use Rattle.bb_rup.specs.Propagation.{complement, IsFalseClause, IsUnitClause, HasTwo, IsOpen}
@@ -98,10 +98,10 @@ pub look : (f : Literals) (clauses : List (List Lit)) → Look f clauses
 look f [] = inr (inr (All-nil (IsOpen f)))
 look f (c ∷ cs) = look_cons f c cs (kind f c) (look f cs)
 
--- Two literals of a clause that are not false, the first among those of a front, the other behind it.
+-- Two literals of a clause that are not false, the first among those of a front, the other after it.
 module _ (f : Literals) (clause : List Lit) (k : ℕ) (d : Lit) where
-  in_front : (l : Lit) → literals_of (take k clause) l ≡ true → literals_of clause l ≡ true
-  in_front l own =
+  in_prefix : (l : Lit) → literals_of (take k clause) l ≡ true → literals_of clause l ≡ true
+  in_prefix l own =
       ap (λ xs. literals_of xs l) (sym (take-append-drop k clause)) ∙ list_any-append (λ m. same_literal m l) (take k clause) (drop k clause)
       ∙ or_left (literals_of (take k clause) l) (literals_of (drop k clause) l) own
 
@@ -111,7 +111,7 @@ module _ (f : Literals) (clause : List Lit) (k : ℕ) (d : Lit) where
     first = l;
     second = get_or clause k d;
     differ = not_same l (get_or clause k d) other;
-    first_own = in_front l unit.own;
+    first_own = in_prefix l unit.own;
     second_own = list_any_at (λ m. same_literal m (get_or clause k d)) clause k d within (same_literal-itself (get_or clause k d));
     first_free = unit.free;
     second_free = free;

@@ -7,7 +7,7 @@ use Rattle.std.specs.Str.Parse.{digits_value}
 use Rattle.std.proofs.Math.Nat.{one-le-pow, pow-le-pow_right}
 use Rattle.std.proofs.lemmas.Bool.{cond-true, cond-false}
 use Rattle.std.proofs.lemmas.Bool.Decides.{nat_tests}
-use Rattle.bb_rup.specs.Numerals.{is_numeral, number_of}
+use Rattle.bb_rup.specs.Numerals.{is_numeral, numeral_value}
 
 -- a digit's value
 pub digit_is : (b : ℕ) → is_ascii_digit b ≡ true → (digit_value b ≡ b - 48) × (48 ≤ b) × (b ≤ 57)
@@ -37,12 +37,12 @@ fits-small value b rest digits few h =
     (omega (arith, h, ap (λ p. (value + 1) * p) (pow-suc 10 (length rest))))
 
 -- the number that is read
-pub number-read : (digits : List ℕ) (value : ℕ) → list_all is_ascii_digit digits ≡ true → 1 ≤ length digits → length digits ≤ 10 → value ≡ digits_value 10 digits → Some value ≡ number_of digits
+pub number-read : (digits : List ℕ) (value : ℕ) → list_all is_ascii_digit digits ≡ true → 1 ≤ length digits → length digits ≤ 10 → value ≡ digits_value 10 digits → Some value ≡ numeral_value digits
 number-read digits value all some few is =
     let numeral : is_numeral digits ≡ true = grind (arith, nat_tests) in
     ap Some is ∙ sym (cond-true (is_numeral digits) (Some (digits_value 10 digits)) None numeral)
 
-pub number-none : (digits : List ℕ) → is_numeral digits ≡ false → None ≡ number_of digits
+pub number-none : (digits : List ℕ) → is_numeral digits ≡ false → None ≡ numeral_value digits
 number-none digits fails = sym (cond-false (is_numeral digits) (Some (digits_value 10 digits)) None fails)
 
 pub ruleset digits = (digit_is, fits-digit, fits-small, number-read, number-none)

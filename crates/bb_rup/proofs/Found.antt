@@ -1,6 +1,6 @@
 -- Propagations: one more literal is found, and what holds of each literal that is false.
 use Rattle.std.proofs.Common.{◌≡◌, true, false, List, [], ◌∷◌, ◌++◌, All, Any, Contains, refl, sym, ◌∙◌, subst, ◌⊎◌, inl, inr, append-nil}
-use Rattle.bb_lists.proofs.Members.{either}
+use Rattle.bb_lemmas.proofs.Members.{either}
 use Rattle.bb_cnf.specs.declared.clauses.Lit.{Lit}
 use Rattle.bb_cnf.specs.Clauses.{literals_of}
 use Rattle.bb_rup.specs.Propagation.{complement, false_after, IsFalseClause, IsUnitClause, IsPropagation, Follows}
@@ -10,62 +10,62 @@ use Rattle.bb_rup.proofs.Falses.{false_cases, false_first, false_wider, unit_wid
 
 -- some clause finds the literal
 abbrev pub IsFound : List (List Lit) → List Lit → List Lit → Lit → Type 0
-IsFound clauses c front l = Any (λ clause. IsUnitClause (false_after c front) clause l) clauses
+IsFound clauses c prefix l = Any (λ clause. IsUnitClause (false_after c prefix) clause l) clauses
 
 pub found_none : (clauses : List (List Lit)) (c : List Lit) → IsPropagation clauses c []
-found_none clauses c front l back e = absurd (no_split front l back e)
+found_none clauses c prefix l back e = absurd (no_split prefix l back e)
 
 pub found_more : (clauses : List (List Lit)) (c list : List Lit) (l : Lit) → IsPropagation clauses c list → IsFound clauses c list l
     → IsPropagation clauses c (list ++ l ∷ [])
-found_more clauses c list l before now front m back e = by (split_push list l front m back e)
+found_more clauses c list l before now prefix m back e = by (split_push list l prefix m back e)
   where
-    by : ((list ≡ front) × (l ≡ m)) ⊎ ((rest : List Lit) × (list ≡ front ++ m ∷ rest)) → IsFound clauses c front m
+    by : ((list ≡ prefix) × (l ≡ m)) ⊎ ((rest : List Lit) × (list ≡ prefix ++ m ∷ rest)) → IsFound clauses c prefix m
     by (inl p) = subst (λ f. IsFound clauses c f m) p.0 (subst (λ k. IsFound clauses c list k) p.1 now)
-    by (inr p) = before front m p.0 p.1
+    by (inr p) = before prefix m p.0 p.1
 
 -- more clauses find as much
 pub found_by_more : (clauses more : List (List Lit)) (c list : List Lit) → All (Contains more) clauses → IsPropagation clauses c list
     → IsPropagation more c list
-found_by_more clauses more c list within found front l back e =
-    any_in (λ clause. IsUnitClause (false_after c front) clause l) clauses more within (found front l back e)
+found_by_more clauses more c list within found prefix l back e =
+    any_in (λ clause. IsUnitClause (false_after c prefix) clause l) clauses more within (found prefix l back e)
 
-next_known : (Q : Lit → Type 0) (c front : List Lit) (l : Lit) → ((m : Lit) → false_after c front m ≡ true → Q m) → Q (complement l)
-    → (m : Lit) → false_after c (front ++ l ∷ []) m ≡ true → Q m
-next_known Q c front l known now m is = by (false_cases c front l m is)
+next_known : (Q : Lit → Type 0) (c prefix : List Lit) (l : Lit) → ((m : Lit) → false_after c prefix m ≡ true → Q m) → Q (complement l)
+    → (m : Lit) → false_after c (prefix ++ l ∷ []) m ≡ true → Q m
+next_known Q c prefix l known now m is = by (false_cases c prefix l m is)
   where
-    by : (false_after c front m ≡ true) ⊎ (complement l ≡ m) → Q m
+    by : (false_after c prefix m ≡ true) ⊎ (complement l ≡ m) → Q m
     by (inl old) = known m old
     by (inr new) = subst Q new now
 
 -- what holds of the literals of C, and of the complement of each literal that is found, holds of all that are false
 module _ (Q : Lit → Type 0) (clauses : List (List Lit)) (c list : List Lit) (found : IsPropagation clauses c list)
-    (step : (front : List Lit) (l : Lit) → ((m : Lit) → false_after c front m ≡ true → Q m) → IsFound clauses c front l → Q (complement l)) where
-  walk : (front back : List Lit) → list ≡ front ++ back → ((m : Lit) → false_after c front m ≡ true → Q m) → (m : Lit) → false_after c list m ≡ true → Q m
-  walk front [] e known = λ m is. known m (subst (λ f. false_after c f m ≡ true) (e ∙ append-nil front) is)
-  walk front (l ∷ back) e known =
-      walk (front ++ l ∷ []) back (next_split list front l back e) (next_known Q c front l known (step front l known (found front l back e)))
+    (step : (prefix : List Lit) (l : Lit) → ((m : Lit) → false_after c prefix m ≡ true → Q m) → IsFound clauses c prefix l → Q (complement l)) where
+  walk : (prefix back : List Lit) → list ≡ prefix ++ back → ((m : Lit) → false_after c prefix m ≡ true → Q m) → (m : Lit) → false_after c list m ≡ true → Q m
+  walk prefix [] e known = λ m is. known m (subst (λ f. false_after c f m ≡ true) (e ∙ append-nil prefix) is)
+  walk prefix (l ∷ back) e known =
+      walk (prefix ++ l ∷ []) back (next_split list prefix l back e) (next_known Q c prefix l known (step prefix l known (found prefix l back e)))
 
   pub each_false : ((l : Lit) → literals_of c l ≡ true → Q l) → (m : Lit) → false_after c list m ≡ true → Q m
   each_false own = walk [] list refl (λ m is. own m (false_first c m is))
 
 -- what was found for a clause is found for one of more literals, or that follows
 module _ (clauses : List (List Lit)) (c d list : List Lit) (part : IsPart c d) (found : IsPropagation clauses c list) where
-  on : (front back : List Lit) → list ≡ front ++ back → IsPropagation clauses d front → IsPropagation clauses d list ⊎ Follows clauses d
-  on front [] e done = inl (subst (IsPropagation clauses d) (sym (e ∙ append-nil front)) done)
-  on front (l ∷ back) e done = by (either (false_after d front l)) (on (front ++ l ∷ []) back (next_split list front l back e))
+  on : (prefix back : List Lit) → list ≡ prefix ++ back → IsPropagation clauses d prefix → IsPropagation clauses d list ⊎ Follows clauses d
+  on prefix [] e done = inl (subst (IsPropagation clauses d) (sym (e ∙ append-nil prefix)) done)
+  on prefix (l ∷ back) e done = by (either (false_after d prefix l)) (on (prefix ++ l ∷ []) back (next_split list prefix l back e))
     where
-      old : IsFound clauses c front l
-      old = found front l back e
+      old : IsFound clauses c prefix l
+      old = found prefix l back e
 
-      by : (false_after d front l ≡ true) ⊎ (false_after d front l ≡ false)
-          → (IsPropagation clauses d (front ++ l ∷ []) → IsPropagation clauses d list ⊎ Follows clauses d) → IsPropagation clauses d list ⊎ Follows clauses d
+      by : (false_after d prefix l ≡ true) ⊎ (false_after d prefix l ≡ false)
+          → (IsPropagation clauses d (prefix ++ l ∷ []) → IsPropagation clauses d list ⊎ Follows clauses d) → IsPropagation clauses d list ⊎ Follows clauses d
       by (inl is) rest = inr (record {
-        list = front;
+        list = prefix;
         propagation = done;
-        ends = any_weaker (λ k. IsUnitClause (false_after c front) k l) (IsFalseClause (false_after d front)) clauses (λ k unit. unit_false c d front k l part unit is) old;
+        ends = any_weaker (λ k. IsUnitClause (false_after c prefix) k l) (IsFalseClause (false_after d prefix)) clauses (λ k unit. unit_false c d prefix k l part unit is) old;
       })
-      by (inr free) rest = rest (found_more clauses d front l done
-          (any_weaker (λ k. IsUnitClause (false_after c front) k l) (λ k. IsUnitClause (false_after d front) k l) clauses (λ k unit. unit_wider c d front k l part unit free) old))
+      by (inr free) rest = rest (found_more clauses d prefix l done
+          (any_weaker (λ k. IsUnitClause (false_after c prefix) k l) (λ k. IsUnitClause (false_after d prefix) k l) clauses (λ k unit. unit_wider c d prefix k l part unit free) old))
 
   pub found_for_more : IsPropagation clauses d list ⊎ Follows clauses d
   found_for_more = on [] list refl (found_none clauses d)

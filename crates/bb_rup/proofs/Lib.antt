@@ -5,7 +5,7 @@ pub mod Digits
 pub mod Falses
 pub mod FormulaTable
 pub mod Found
-pub mod Fronts
+pub mod Prefixes
 pub mod Literals
 pub mod Places
 pub mod Propagations

@@ -3,9 +3,9 @@ use Rattle.std.proofs.Common.{cond, ◌≡◌, ◌<◌, ◌+◌, ◌*◌, ℕ, B
 use Rattle.std.proofs.lemmas.List.{get_or-set_same, get_or-set_other}
 use Rattle.std.proofs.lemmas.List.Sums.{sum_by-set}
 use Rattle.std.proofs.lemmas.List.Folds.{Any-from_list_any}
-use Rattle.bb_lists.proofs.Tests.{number_equal, number_self}
-use Rattle.bb_lists.proofs.Maps.{or-false}
-use Rattle.bb_lists.proofs.Members.{either}
+use Rattle.bb_lemmas.proofs.Tests.{number_equal, number_self}
+use Rattle.bb_lemmas.proofs.Maps.{or-false}
+use Rattle.bb_lemmas.proofs.Members.{either}
 use Rattle.bb_cnf.specs.declared.clauses.Lit.{Lit}
 use Rattle.bb_cnf.specs.Clauses.{literals_of, same_literal}
 use Rattle.bb_rup.specs.Propagation.{complement}

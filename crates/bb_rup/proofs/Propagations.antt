@@ -2,8 +2,8 @@
 use Rattle.std.proofs.Common.{◌≡◌, ℕ, Bool, true, false, not, if◌then◌else◌, List, [], ◌∷◌, Contains, refl, sym, ◌∙◌, ap, subst, ◌⊎◌, inl, inr}
 use Rattle.std.specs.List.{list_any}
 use Rattle.std.proofs.lemmas.List.Folds.{Any-from_list_any, list_any_at}
-use Rattle.bb_lists.proofs.Bits.{or_cases, neither as or_both_false}
-use Rattle.bb_lists.proofs.Members.{either}
+use Rattle.bb_lemmas.proofs.Bits.{or_cases, neither as or_both_false}
+use Rattle.bb_lemmas.proofs.Members.{either}
 use Rattle.bb_cnf.specs.declared.clauses.Lit.{Lit}
 use Rattle.bb_cnf.specs.Clauses.{Literals, literals_of, same_literal}
 use Rattle.bb_cnf.specs.Truth.{literal_bit, IsTrueClause, Satisfies}
@@ -35,9 +35,9 @@ module _ (f g : Literals) (clause : List Lit) (l : Lit) (within : (m : Lit) → 
 pub not_both : (clauses : List (List Lit)) (c : List Lit) → Follows clauses c → Stays clauses c → ⊥
 not_both clauses c f s = open_not_false s.falses f.ends.1 (λ l own. all l (f.ends.4 l own)) (pick (IsFalseClause (false_after c f.list)) (IsOpen s.falses) clauses f.ends s.each)
   where
-    step : (front : List Lit) (l : Lit) → ((m : Lit) → false_after c front m ≡ true → s.falses m ≡ true) → IsFound clauses c front l → s.falses (complement l) ≡ true
-    step front l known found =
-        nothing_new s.falses (false_after c front) found.1 l known found.4 (pick (λ clause. IsUnitClause (false_after c front) clause l) (IsOpen s.falses) clauses found s.each)
+    step : (prefix : List Lit) (l : Lit) → ((m : Lit) → false_after c prefix m ≡ true → s.falses m ≡ true) → IsFound clauses c prefix l → s.falses (complement l) ≡ true
+    step prefix l known found =
+        nothing_new s.falses (false_after c prefix) found.1 l known found.4 (pick (λ clause. IsUnitClause (false_after c prefix) clause l) (IsOpen s.falses) clauses found s.each)
 
     all : (l : Lit) → false_after c f.list l ≡ true → s.falses l ≡ true
     all = each_false (λ l. s.falses l ≡ true) clauses c f.list f.propagation step s.own
@@ -67,13 +67,13 @@ none_true v (x ∷ xs) off m own = by (or_both_false (literal_bit v x) (list_any
 
 -- where the literals of C are not true, neither is any that is false by propagation
 module _ (v : ℕ → Bool) (clauses : List (List Lit)) (c : List Lit) (solves : Satisfies v clauses) where
-  true_step : (front : List Lit) (l : Lit) → ((m : Lit) → false_after c front m ≡ true → literal_bit v m ≡ false) → IsFound clauses c front l → literal_bit v (complement l) ≡ false
-  true_step front l known found = by (or_cases (same_literal l t.1) (false_after c front t.1) (found.4.others t.1 (member found.1 t.1 (t.0, t.2, t.3))))
+  true_step : (prefix : List Lit) (l : Lit) → ((m : Lit) → false_after c prefix m ≡ true → literal_bit v m ≡ false) → IsFound clauses c prefix l → literal_bit v (complement l) ≡ false
+  true_step prefix l known found = by (or_cases (same_literal l t.1) (false_after c prefix t.1) (found.4.others t.1 (member found.1 t.1 (t.0, t.2, t.3))))
     where
       t : IsTrueClause v found.1
-      t = pick (λ clause. IsUnitClause (false_after c front) clause l) (IsTrueClause v) clauses found solves
+      t = pick (λ clause. IsUnitClause (false_after c prefix) clause l) (IsTrueClause v) clauses found solves
 
-      by : (same_literal l t.1 ≡ true) ⊎ (false_after c front t.1 ≡ true) → literal_bit v (complement l) ≡ false
+      by : (same_literal l t.1 ≡ true) ⊎ (false_after c prefix t.1 ≡ true) → literal_bit v (complement l) ≡ false
       by (inl same) = complement_false v l (ap (literal_bit v) (same_literal-is l t.1 same) ∙ t.4)
       by (inr off) = clash (literal_bit v t.1) t.4 (known t.1 off)
 

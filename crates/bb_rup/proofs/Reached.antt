@@ -2,12 +2,12 @@
 use Rattle.std.proofs.Common.{◌≡◌, ◌<◌, ℕ, Bool, true, false, ◌||◌, ◌&&◌, not, ◌==◌, List, [], ◌∷◌, ◌++◌, All, Any, Contains, Some, take, slice_get, set, refl, sym, ◌∙◌, ap, subst, arith, ◌⊎◌, inl, inr, append-nil, append_assoc}
 use Rattle.std.proofs.lemmas.Option.{slice_get_within, get_or_from_slice_get}
 use mathlib.Core.Bool.{beq}
-use Rattle.bb_lists.proofs.Places.{some_same}
+use Rattle.bb_lemmas.proofs.Places.{some_same}
 use Rattle.bb_cnf.specs.declared.clauses.Lit.{Lit}
 use Rattle.bb_cnf.specs.Clauses.{Literals, literals_of, same_literal}
 use Rattle.bb_rup.specs.Propagation.{complement, false_after, IsFalseClause, IsUnitClause, IsOpen, IsPropagation, Follows}
 use Rattle.bb_rup.specs.Inside.Trails.{mark_place, marked_by, unmarked, IsTrail, Makes, IsReached, HasMarks, HaveMarks, Propagates}
-use Rattle.bb_rup.specs.Inside.Standings.{IsImplied}
+use Rattle.bb_rup.specs.Inside.Statuses.{IsImplied}
 use Rattle.bb_rup.specs.declared.trail.Trail.{Trail}
 use Rattle.bb_rup.proofs.Splits.{any_weaker}
 use Rattle.bb_rup.proofs.Falses.{false_push}
@@ -124,25 +124,25 @@ module _ (clauses : List (List Lit)) (old new : Trail) (l : Lit) (implied : IsIm
 
 -- a clause at its place, and what it says
 pub any_at : (P : List Lit → Type 0) (clauses : List (List Lit)) (k : ℕ) (clause : List Lit) → slice_get clauses k ≡ Some clause → P clause → Any P clauses
-any_at P clauses k clause stands p = (k, clause, slice_get_within clauses k clause stands, get_or_from_slice_get clauses k clause clause stands, p)
+any_at P clauses k clause occurs p = (k, clause, slice_get_within clauses k clause occurs, get_or_from_slice_get clauses k clause clause occurs, p)
 
 -- its literals and their complements have places
 pub complement_in_range : (n : ℕ) (clauses : List (List Lit)) (k : ℕ) (clause : List Lit) (l : Lit) → HaveMarks n clauses → slice_get clauses k ≡ Some clause
     → literals_of clause l ≡ true → mark_place (complement l) < n
-complement_in_range n clauses k clause l all stands own =
-    let here : All (HasMarks n) clause = subst (All (HasMarks n)) (get_or_from_slice_get clauses k clause clause stands) (all k clause (slice_get_within clauses k clause stands)) in
+complement_in_range n clauses k clause l all occurs own =
+    let here : All (HasMarks n) clause = subst (All (HasMarks n)) (get_or_from_slice_get clauses k clause clause occurs) (all k clause (slice_get_within clauses k clause occurs)) in
     other_place n l (place_of_member n clause l here own)
 
 -- a unit clause whose literal is true is open
 pub open_unit : (clauses : List (List Lit)) (f : Literals) (k : ℕ) (here clause : List Lit) (l : Lit) → slice_get clauses k ≡ Some here → IsUnitClause f here l
     → f (complement l) ≡ true → slice_get clauses k ≡ Some clause → IsOpen f clause
-open_unit clauses f k here clause l stands unit known also =
-    subst (IsOpen f) (some_same here clause (sym stands ∙ also)) (inl (record { literal = l; own = unit.own; free = unit.free; negation = known }))
+open_unit clauses f k here clause l occurs unit known also =
+    subst (IsOpen f) (some_same here clause (sym occurs ∙ also)) (inl (record { literal = l; own = unit.own; free = unit.free; negation = known }))
 
 take_none : {A : Type 0} (xs : List A) → take 0 xs ≡ []
 take_none [] = refl
 take_none (x ∷ xs) = refl
 
 -- the given clauses alone
-pub none_behind : (given adds : List (List Lit)) → given ++ take 0 adds ≡ given
-none_behind given adds = ap (λ k. given ++ k) (take_none adds) ∙ append-nil given
+pub none_after : (given adds : List (List Lit)) → given ++ take 0 adds ≡ given
+none_after given adds = ap (λ k. given ++ k) (take_none adds) ∙ append-nil given

@@ -26,7 +26,7 @@ compare (z ∷ f) x b (h ∷ g) y d e = by (compare f x b g y d (ap rest_of e))
     by (inr (inl p)) = inr (inl (p.0, ap₂ (λ w ws. w ∷ ws) (sym same) p.1))
     by (inr (inr p)) = inr (inr (p.0, ap₂ (λ w ws. w ∷ ws) same p.1))
 
--- where one more stands at the end, a split is there or before it
+-- where one more is at the end, a split is there or before it
 pub split_push : {A : Type 0} (xs : List A) (z : A) (f : List A) (x : A) (b : List A) → xs ++ z ∷ [] ≡ f ++ x ∷ b
     → ((xs ≡ f) × (z ≡ x)) ⊎ ((m : List A) × (xs ≡ f ++ x ∷ m))
 split_push xs z f x b e = by (compare xs z [] f x b e)
@@ -49,8 +49,8 @@ no_split f x b e =
     omega (arith, two, ap length e)
 
 -- the element after a front goes to it
-pub next_split : {A : Type 0} (all front : List A) (x : A) (back : List A) → all ≡ front ++ x ∷ back → all ≡ (front ++ x ∷ []) ++ back
-next_split all front x back e = e ∙ sym (append_assoc front (x ∷ []) back)
+pub next_split : {A : Type 0} (all prefix : List A) (x : A) (back : List A) → all ≡ prefix ++ x ∷ back → all ≡ (prefix ++ x ∷ []) ++ back
+next_split all prefix x back e = e ∙ sym (append_assoc prefix (x ∷ []) back)
 
 pub any_here : {A : Type 0} (P : A → Type 0) (x : A) (xs : List A) → P x → Any P (x ∷ xs)
 any_here P x xs p = (0, x, omega arith, refl, p)

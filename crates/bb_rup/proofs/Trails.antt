@@ -1,9 +1,9 @@
 -- The trail grows and shrinks.
 use Rattle.std.proofs.Common.{◌≡◌, ◌<◌, Bool, true, false, not, ◌&&◌, ◌||◌, List, [], ◌∷◌, ◌++◌, length, set, refl, sym, ◌∙◌, ap, subst, ◌⊎◌, inl, inr, append_assoc, append-nil}
 use Rattle.std.proofs.lemmas.List.{length-set}
-use Rattle.bb_lists.proofs.Bits.{or_right, or_assoc}
-use Rattle.bb_lists.proofs.Maps.{or-false}
-use Rattle.bb_lists.proofs.Members.{either}
+use Rattle.bb_lemmas.proofs.Bits.{or_right, or_assoc}
+use Rattle.bb_lemmas.proofs.Maps.{or-false}
+use Rattle.bb_lemmas.proofs.Members.{either}
 use Rattle.bb_cnf.specs.declared.clauses.Lit.{Lit}
 use Rattle.bb_cnf.specs.Clauses.{Literals, literals_of, same_literal}
 use Rattle.bb_rup.specs.Inside.Trails.{mark_place, marked, marked_by, AreOnce, IsTrail, Makes}
@@ -13,14 +13,14 @@ use Rattle.bb_rup.proofs.Splits.{split_push}
 use Rattle.bb_rup.proofs.Places.{marked-set}
 
 once_push : (lits : List Lit) (l : Lit) → AreOnce lits → literals_of lits l ≡ false → AreOnce (lits ++ l ∷ [])
-once_push lits l once new front m back e = by (split_push lits l front m back e)
+once_push lits l once new prefix m back e = by (split_push lits l prefix m back e)
   where
-    by : ((lits ≡ front) × (l ≡ m)) ⊎ ((rest : List Lit) × (lits ≡ front ++ m ∷ rest)) → literals_of front m ≡ false
+    by : ((lits ≡ prefix) × (l ≡ m)) ⊎ ((rest : List Lit) × (lits ≡ prefix ++ m ∷ rest)) → literals_of prefix m ≡ false
     by (inl p) = subst (λ f. literals_of f m ≡ false) p.0 (subst (λ k. literals_of lits k ≡ false) p.1 new)
-    by (inr p) = once front m p.0 p.1
+    by (inr p) = once prefix m p.0 p.1
 
-pub once_front : (rest : List Lit) (last : Lit) → AreOnce (rest ++ last ∷ []) → AreOnce rest
-once_front rest last once front l back e = once front l (back ++ last ∷ []) (ap (λ k. k ++ last ∷ []) e ∙ append_assoc front (l ∷ back) (last ∷ []))
+pub once_prefix : (rest : List Lit) (last : Lit) → AreOnce (rest ++ last ∷ []) → AreOnce rest
+once_prefix rest last once prefix l back e = once prefix l (back ++ last ∷ []) (ap (λ k. k ++ last ∷ []) e ∙ append_assoc prefix (l ∷ back) (last ∷ []))
 
 -- one more literal is false
 module _ (old new : Trail) (l : Lit) (is : IsTrail old) (within : mark_place l < length old.marks.items) (free : marked_by old l ≡ false)
@@ -75,7 +75,7 @@ pub trail_pop : (old new : Trail) (rest : List Lit) (last : Lit) → IsTrail old
 trail_pop old new rest last is lits left marks = record {
   same = λ m. marks m ∙ ap (λ b. b && not (same_literal last m)) (is.same m ∙ ap (λ k. literals_of k m) lits ∙ literals_of-push rest last m)
       ∙ drop_last (literals_of rest m) (same_literal last m) (λ same. subst (λ k. literals_of rest k ≡ false) (same_literal-is last m same) new_last) ∙ ap (λ k. literals_of k m) (sym left);
-  once = subst AreOnce (sym left) (once_front rest last (subst AreOnce lits is.once));
+  once = subst AreOnce (sym left) (once_prefix rest last (subst AreOnce lits is.once));
 }
   where
     new_last : literals_of rest last ≡ false

@@ -1,5 +1,5 @@
 -- What is ahead at a place, by its first byte: white space and comments have no words, and another byte begins one.
--- A text is cut into lines first and these into words; so a step at the front of the text is one at the front of its
+-- A text is cut into lines first and these into words; so a step at the beginning of the text is one at the beginning of its
 -- first line, and leaves the other lines.
 use Rattle.std.proofs.Common.{◌≡◌, ℕ, ◌+◌, ◌<◌, ◌==◌, Bool, true, false, not, cond, List, [], ◌∷◌, ◌++◌, length, filter, slice_index, refl, sym, ap, ◌∙◌, ⊎_elim, arith, ne_eqb, eqb-true}
 use Rattle.std.specs.List.{slice_split, onto_first}
@@ -7,9 +7,9 @@ use Rattle.std.specs.Char.{is_ascii_whitespace}
 use Rattle.std.proofs.lemmas.Bool.{cases_Bool, cond-true, cond-false}
 use Rattle.std.proofs.lemmas.Bool.Decides.{nat_tests}
 use Rattle.std.proofs.lemmas.List.Splits.{slice_split-cons_yes, slice_split-cons_no, length-slice_split}
-use Rattle.bb_rup.specs.TextWords.{Word, is_comment, words_in, on_line, words_from, words_of}
+use Rattle.bb_rup.specs.TextWords.{TextWord, is_comment, words_in, on_line, words_from, words_of}
 use Rattle.bb_rup.specs.Inside.Ahead.{is_newline, from_first, before_first, line_ahead, lines_ahead, words_ahead}
-use Rattle.bb_rup.proofs.Fronts.{length-from, take-before, drop-before, from-less}
+use Rattle.bb_rup.proofs.Prefixes.{length-from, take-before, drop-before, from-less}
 
 -- the first part, and the others
 abbrev pub first_part : {X : Type 0} → List (List X) → List X
@@ -21,7 +21,7 @@ other_parts [] = []
 other_parts (part ∷ parts) = parts
 
 -- a word of a line
-abbrev pub word_on : ℕ → List ℕ → Word
+abbrev pub word_on : ℕ → List ℕ → TextWord
 word_on n bytes = record { line = n; bytes = bytes }
 
 abbrev is_not_empty : List ℕ → Bool
@@ -89,9 +89,9 @@ others-onto : {X : Type 0} (x : X) (parts : List (List X)) → other_parts (onto
 others-onto x [] = refl
 others-onto x (part ∷ parts) = refl
 
-behind_line : (n : ℕ) (rest : List ℕ) → words_ahead false n (from_first is_newline rest) ≡ words_from (n + 1) (other_parts (slice_split is_newline rest))
-behind_line n [] = refl
-behind_line n (b ∷ rest) =
+after_line : (n : ℕ) (rest : List ℕ) → words_ahead false n (from_first is_newline rest) ≡ words_from (n + 1) (other_parts (slice_split is_newline rest))
+after_line n [] = refl
+after_line n (b ∷ rest) =
     ⊎_elim
     (λ holds.
     ap (words_ahead false n) (cond-true (is_newline b) (b ∷ rest) (from_first is_newline rest) holds)
@@ -99,7 +99,7 @@ behind_line n (b ∷ rest) =
     ∙ ap (λ parts. words_from (n + 1) (other_parts parts)) (sym (slice_split-cons_yes is_newline b rest holds)))
     (λ fails.
     ap (words_ahead false n) (cond-false (is_newline b) (b ∷ rest) (from_first is_newline rest) fails)
-    ∙ behind_line n rest
+    ∙ after_line n rest
     ∙ ap (words_from (n + 1)) (sym (ap other_parts (slice_split-cons_no is_newline b rest fails) ∙ others-onto b (slice_split is_newline rest))))
     (cases_Bool (is_newline b))
 
@@ -108,7 +108,7 @@ comment_line n [] = refl
 comment_line n (line ∷ lines) = refl
 
 comment_ahead : (n : ℕ) (rest : List ℕ) → words_ahead false n (99 ∷ rest) ≡ words_ahead false n (from_first is_newline rest)
-comment_ahead n rest = comment_line n (slice_split is_newline rest) ∙ sym (behind_line n rest)
+comment_ahead n rest = comment_line n (slice_split is_newline rest) ∙ sym (after_line n rest)
 
 pub ahead-comment : (n b : ℕ) (rest : List ℕ) → (b == 99) ≡ true → words_ahead false n (b ∷ rest) ≡ words_ahead false n (from_first is_newline rest)
 ahead-comment n b rest h = ap (λ c. words_ahead false n (c ∷ rest)) (eqb-true b 99 h) ∙ comment_ahead n rest

@@ -5,9 +5,9 @@ use Rattle.std.proofs.lemmas.Bool.{cases_Bool, cond-true, cond-false, and_right,
 use Rattle.std.proofs.lemmas.List.{length-map}
 use Rattle.std.proofs.lemmas.List.Elements.{All-head, All-tail}
 use Rattle.bb_cnf.specs.declared.clauses.Lit.{Lit}
-use Rattle.bb_cnf.specs.Clauses.{IsWithin}
+use Rattle.bb_cnf.specs.Clauses.{HasVariablesWithin}
 use Rattle.bb_rup.specs.declared.fault.RupFault.TheVariants.{Literal}
-use Rattle.bb_rup.specs.TextWords.{Word, words_of}
+use Rattle.bb_rup.specs.TextWords.{TextWord, words_of}
 use Rattle.bb_rup.specs.Dimacs.{and_then, is_end, is_mark, within, literal_in, clauses_of, Sizes}
 use Rattle.bb_rup.specs.Inside.Ahead.{words_ahead, literals_to_end, prepended}
 use Rattle.bb_rup.specs.Inside.TableOfFaults.{BeginsWithHeader}
@@ -15,12 +15,12 @@ use Rattle.bb_rup.specs.Laws.Written.{Entry, comment_line, literal_text, entry_t
 use Rattle.bb_rup.proofs.WordSteps.{word_on, ahead-start, ahead-end}
 use Rattle.bb_rup.proofs.ClauseSteps.{kept, onward, clauses_of-clause, clauses_of-deletion}
 use Rattle.bb_rup.proofs.FormulaTable.{formula_table}
-use Rattle.bb_rup.proofs.WrittenWords.{IsWord, MayStand, word_blank, word_newline, comments_ahead, IsShort, number-decimal, decimal_word, literal_word, IsLiteralWord, literal_written}
+use Rattle.bb_rup.proofs.WrittenWords.{IsWord, MayOccur, word_blank, word_newline, comments_ahead, IsShort, number-decimal, decimal_word, literal_word, IsLiteralWord, literal_written}
 
 abbrev InRange : ℕ → Lit → Type 0
 InRange vars l = (1 ≤ l.var) × (l.var ≤ vars)
 
--- the literals of a clause, its end, and what is behind
+-- the literals of a clause, its end, and what is after
 abbrev literals_then : List Lit → List ℕ → List ℕ
 literals_then lits rest = flat_map literal_text lits ++ (codes "0\n" ++ rest)
 
@@ -54,7 +54,7 @@ literals_read begun n vars [] done rest few range =
 literals_read begun n vars (l ∷ lits) done rest few range =
     let here = All-head (InRange vars) l lits range in
     let is = short_vars vars l few here in
-    let word : Word = word_on n (literal_word l) in
+    let word : TextWord = word_on n (literal_word l) in
     let words = words_ahead true n (literals_then lits rest) in
     let next = λ (m : Lit). literals_to_end vars (done ++ m ∷ []) words in
     ap (literals_to_end vars done) (literal_ahead begun n vars l lits rest is)
@@ -63,8 +63,8 @@ literals_read begun n vars (l ∷ lits) done rest few range =
     ∙ literals_read true n vars lits (done ++ l ∷ []) rest few (All-tail (InRange vars) l lits range)
     ∙ ap (λ ls. Ok (ls, words_ahead false (n + 1) rest)) (append_assoc done (l ∷ []) lits)
 
--- a clause and what is behind it
-from_words : (deletions : Bool) (vars : ℕ) (words : List Word) (word : Word) (more : List Word) → words ≡ word ∷ more → is_mark word ≡ false
+-- a clause and what is after it
+from_words : (deletions : Bool) (vars : ℕ) (words : List TextWord) (word : TextWord) (more : List TextWord) → words ≡ word ∷ more → is_mark word ≡ false
     → clauses_of deletions vars words ≡ and_then (literals_to_end vars [] words) (onward deletions vars true)
 from_words deletions vars words word more e fails =
     ap (clauses_of deletions vars) e
@@ -87,7 +87,7 @@ body_read deletions false n vars lits rest allowed few range =
     clause_begins deletions n vars lits rest few range
     ∙ ap (λ r. and_then r (onward deletions vars true)) (literals_read false n vars lits [] rest few range)
 body_read deletions true n vars lits rest allowed few range =
-    let mark : Word = word_on n (codes "d") in
+    let mark : TextWord = word_on n (codes "d") in
     let words = words_ahead true n (literals_then lits rest) in
     ap (clauses_of deletions vars) (word_blank false n (codes "d") (literals_then lits rest) (record { some = omega arith; solid = (refl, tt) }) (λ h. refl))
     ∙ clauses_of-deletion deletions vars mark words (and_from deletions (is_mark mark) (allowed refl) refl) refl
@@ -117,7 +117,7 @@ added_first entry entries =
     (cases_Bool entry.deletion)
 
 entries_read : (deletions : Bool) (n vars : ℕ) (entries : List Entry) (last : List (List ℕ)) → HaveLines entries → AreLines last
-    → AllByRecursion (λ entry. entry.deletion ≡ true → deletions ≡ true) entries → vars ≤ 8000000 → IsWithin vars (all_clauses entries)
+    → AllByRecursion (λ entry. entry.deletion ≡ true → deletions ≡ true) entries → vars ≤ 8000000 → HasVariablesWithin vars (all_clauses entries)
     → clauses_of deletions vars (words_ahead false n (proof_text entries last)) ≡ Ok (added_clauses entries)
 entries_read deletions n vars [] last lines last_lines allowed few range =
     ap (λ text. clauses_of deletions vars (words_ahead false n text)) (sym (append-nil (flat_map comment_line last)))
@@ -152,8 +152,8 @@ six_parts a b c d e f g =
     ∙ append_assoc (a ++ b) c (d ++ (e ++ (f ++ g)))
     ∙ append_assoc a b (c ++ (d ++ (e ++ (f ++ g))))
 
--- behind another word
-may_follow : (word : List ℕ) → MayStand true word
+-- after another word
+may_follow : (word : List ℕ) → MayOccur true word
 may_follow word h = absurd (true≢false h)
 
 header_words : (n vars clauses : ℕ) (rest : List ℕ) → IsShort vars → IsShort clauses
@@ -163,9 +163,9 @@ header_words : (n vars clauses : ℕ) (rest : List ℕ) → IsShort vars → IsS
 header_words n vars clauses rest few_vars few_clauses =
     let fourth = decimal clauses ++ 10 ∷ rest in
     let third = decimal vars ++ 32 ∷ fourth in
-    let p : Word = word_on n (codes "p") in
-    let cnf : Word = word_on n (codes "cnf") in
-    let v : Word = word_on n (decimal vars) in
+    let p : TextWord = word_on n (codes "p") in
+    let cnf : TextWord = word_on n (codes "cnf") in
+    let v : TextWord = word_on n (decimal vars) in
     word_blank false n (codes "p") (codes "cnf " ++ third) (record { some = omega arith; solid = (refl, tt) }) (λ h. refl)
     ∙ ap (λ words. p ∷ words) (word_blank true n (codes "cnf") third (record { some = omega arith; solid = (refl, (refl, (refl, tt))) }) (may_follow (codes "cnf")))
     ∙ ap (λ words. p ∷ cnf ∷ words) (word_blank true n (decimal vars) fourth (decimal_word vars few_vars) (may_follow (decimal vars)))

@@ -1,4 +1,4 @@
--- The words of a text that is written: each stands before a blank or a line feed, and comments have none.
+-- The words of a text that is written: each precedes a blank or a line feed, and comments have none.
 use Rattle.std.proofs.Common.{◌≡◌, ℕ, ◌+◌, ◌<◌, ◌≤◌, ◌==◌, Bool, true, false, not, cond, Some, None, option_map, option_and_then, List, [], ◌∷◌, ◌++◌, length, codes, decimal, bytes_eq, slice_index, nat_le, append_assoc, refl, sym, ap, ◌∙◌, arith, flat_map, le-leb, ne_eqb}
 use Rattle.std.specs.List.{list_all, AllByRecursion}
 use Rattle.std.specs.Char.{digit_value, is_ascii_digit, is_ascii_whitespace}
@@ -10,7 +10,7 @@ use Rattle.std.proofs.lemmas.Slice.Eq.{bytes_eq-Decides}
 use Rattle.std.proofs.lemmas.Str.Parse.{digit_from_value}
 use Rattle.bb_cnf.specs.declared.clauses.Lit.{Lit}
 use Rattle.bb_cnf.specs.Clauses.{positive, negated}
-use Rattle.bb_rup.specs.Numerals.{number_of, variable_of, literal_of}
+use Rattle.bb_rup.specs.Numerals.{numeral_value, variable_of, literal_of}
 use Rattle.bb_rup.specs.Inside.Ahead.{is_newline, from_first, before_first, words_ahead}
 use Rattle.bb_rup.specs.Laws.Written.{comment_line, AreLines}
 use Rattle.bb_rup.proofs.WordSteps.{word_on, ahead-word, ahead-white, ahead-newline, ahead-comment}
@@ -35,10 +35,10 @@ pub record IsWord (word : List ℕ) : Type 0 where
   pub solid : IsSolid word
 
 -- the word begins no comment here
-abbrev pub MayStand : Bool → List ℕ → Type 0
-MayStand begun word = begun ≡ false → (slice_index word 0 == 99) ≡ false
+abbrev pub MayOccur : Bool → List ℕ → Type 0
+MayOccur begun word = begun ≡ false → (slice_index word 0 == 99) ≡ false
 
-word_before : (begun : Bool) (n : ℕ) (word : List ℕ) (b : ℕ) (rest : List ℕ) → IsWord word → MayStand begun word → is_ascii_whitespace b ≡ true
+word_before : (begun : Bool) (n : ℕ) (word : List ℕ) (b : ℕ) (rest : List ℕ) → IsWord word → MayOccur begun word → is_ascii_whitespace b ≡ true
     → words_ahead begun n (word ++ b ∷ rest) ≡ word_on n word ∷ words_ahead true n (b ∷ rest)
 word_before begun n [] b rest is may white = absurd (omega (arith, is.some))
 word_before begun n (c ∷ word) b rest is may white =
@@ -46,10 +46,10 @@ word_before begun n (c ∷ word) b rest is may white =
     ∙ ap (λ w. word_on n w ∷ words_ahead true n (from_first is_ascii_whitespace (c ∷ word ++ b ∷ rest))) (before-solid (c ∷ word) b rest is.solid white)
     ∙ ap (λ t. word_on n (c ∷ word) ∷ words_ahead true n t) (from-solid (c ∷ word) b rest is.solid white)
 
-pub word_blank : (begun : Bool) (n : ℕ) (word rest : List ℕ) → IsWord word → MayStand begun word → words_ahead begun n (word ++ 32 ∷ rest) ≡ word_on n word ∷ words_ahead true n rest
+pub word_blank : (begun : Bool) (n : ℕ) (word rest : List ℕ) → IsWord word → MayOccur begun word → words_ahead begun n (word ++ 32 ∷ rest) ≡ word_on n word ∷ words_ahead true n rest
 word_blank begun n word rest is may = word_before begun n word 32 rest is may refl ∙ ap (λ words. word_on n word ∷ words) (ahead-white true n 32 rest refl refl)
 
-pub word_newline : (begun : Bool) (n : ℕ) (word rest : List ℕ) → IsWord word → MayStand begun word → words_ahead begun n (word ++ 10 ∷ rest) ≡ word_on n word ∷ words_ahead false (n + 1) rest
+pub word_newline : (begun : Bool) (n : ℕ) (word rest : List ℕ) → IsWord word → MayOccur begun word → words_ahead begun n (word ++ 10 ∷ rest) ≡ word_on n word ∷ words_ahead false (n + 1) rest
 word_newline begun n word rest is may = word_before begun n word 10 rest is may refl ∙ ap (λ words. word_on n word ∷ words) (ahead-newline true n 10 rest refl)
 
 -- comments
@@ -100,7 +100,7 @@ digit_first (b ∷ word) some h = let here = digit_byte b h.0 in (here.2, here.3
 abbrev pub IsShort : ℕ → Type 0
 IsShort n = n < 10000000000
 
-pub number-decimal : (n : ℕ) → IsShort n → number_of (decimal n) ≡ Some n
+pub number-decimal : (n : ℕ) → IsShort n → numeral_value (decimal n) ≡ Some n
 number-decimal n short =
     let is = decimal_is_IsNumeral n (omega (arith, short)) in
     sym (number-read (decimal n) n (all_digits (decimal n) is.0.1).0 (omega (arith, is.0.0)) (length-decimal-le 10 n (omega arith) (omega (arith, short)) (omega (arith, short))) (sym is.1))

@@ -1,6 +1,6 @@
--- What the code says to itself: no clause of the top call rests on it.
+-- What code and proofs share: no clause of the top call rests on it.
 pub mod Ahead
-pub mod Standings
+pub mod Statuses
 pub mod Steps
 pub mod TableOfFaults
 pub mod Trails

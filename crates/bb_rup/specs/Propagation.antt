@@ -24,10 +24,10 @@ pub record IsUnitClause (falses : Literals) (clause : List Lit) (l : Lit) : Type
   pub free : falses l ≡ false
   pub others : (m : Lit) → literals_of clause m ≡ true → (same_literal l m || falses m) ≡ true
 
--- each literal of the list is found by some clause after those that stand before it
+-- each literal of the list is implied by some clause after those before it on the list
 abbrev pub IsPropagation : List (List Lit) → List Lit → List Lit → Type 0
-IsPropagation clauses c list = (front : List Lit) (l : Lit) (back : List Lit) → list ≡ front ++ l ∷ back
-    → Any (λ clause. IsUnitClause (false_after c front) clause l) clauses
+IsPropagation clauses c list = (prefix : List Lit) (l : Lit) (back : List Lit) → list ≡ prefix ++ l ∷ back
+    → Any (λ clause. IsUnitClause (false_after c prefix) clause l) clauses
 
 -- C follows from the clauses: some such list ends in a clause that is false
 pub record Follows (clauses : List (List Lit)) (c : List Lit) : Type 0 where

@@ -6,7 +6,7 @@ use Rattle.std.specs.List.{slice_split}
 use Rattle.std.specs.Char.{is_ascii_whitespace}
 
 -- a word, and the number of its line, counted from 1
-pub record Word : Type 0 where
+pub record TextWord : Type 0 where
   pub line : ℕ
   pub bytes : List ℕ
 
@@ -19,14 +19,14 @@ abbrev pub is_comment : List ℕ → Bool
 is_comment line = slice_index (filter (λ b. not (is_ascii_whitespace b)) line) 0 == 99
 
 -- words on the line of this number
-abbrev pub on_line : ℕ → List (List ℕ) → List Word
+abbrev pub on_line : ℕ → List (List ℕ) → List TextWord
 on_line n words = map (λ bytes. record { line = n; bytes = bytes }) words
 
 -- the words of lines, of which the first has the number n
-abbrev pub words_from : ℕ → List (List ℕ) → List Word
+abbrev pub words_from : ℕ → List (List ℕ) → List TextWord
 words_from n [] = []
 words_from n (line ∷ lines) = (if is_comment line then [] else on_line n (words_in line)) ++ words_from (n + 1) lines
 
--- the words of a text, in order: its lines stand between line feeds
-abbrev pub words_of : List ℕ → List Word
+-- the words of a text, in order; line feeds separate its lines
+abbrev pub words_of : List ℕ → List TextWord
 words_of text = words_from 1 (slice_split (λ b. b == 10) text)

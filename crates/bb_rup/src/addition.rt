@@ -1,4 +1,7 @@
-//! One addition: does it follow, and what does it make true for good?
+//! One addition: its literals are taken as false, and propagation has to find a false clause. The trail keeps a prefix
+//! of literals that are false with no addition at all. They need not be found again: what follows by propagation for no
+//! clause follows for every clause, up to the first literal that the clause has itself, and there the clause that
+//! implies it is false, so the addition follows.
 
 ghost use Rattle.std.specs.Prelude.{◌≡◌, ◌+◌, ◌<◌, ◌≤◌, ◌++◌, [], true, false, length, take, slice_get, Some, All, IfOk, OnOk};
 ghost use Rattle.bb_cnf.specs.Clauses.{lists_of};
@@ -14,7 +17,8 @@ use bb_cnf::Lit;
 use bb_watch::{Clauses, clause_at};
 use smallvec::SmallVec;
 
-/// The addition does not follow; or it does, and so does each that comes behind it; or it does, and the next one comes.
+/// `Stays`: the addition does not follow. `Ends`: it follows, and the clauses now propagate to a false clause, so every
+/// later addition follows too. `Goes`: it follows, and the next one is due.
 #[derive(Clone, Copy, Debug)]
 pub(crate) enum Step {
     Stays,
@@ -22,7 +26,6 @@ pub(crate) enum Step {
     Goes,
 }
 
-/// The given clauses, and so many additions behind them.
 pub(crate) fn clauses_before<'a>(
     given: &'a [SmallVec<Lit, 4>],
     adds: &'a [SmallVec<Lit, 4>],
@@ -34,7 +37,7 @@ pub(crate) fn clauses_before<'a>(
     Clauses::new(given, &adds[..number])
 }
 
-/// Does the clause follow? The trail has what needs no addition, before and afterwards.
+/// Leaves the trail as it was before: only `keep` makes its prefix longer.
 pub(crate) fn follows(
     trail: &mut Trail,
     search: &mut Search,
@@ -59,7 +62,8 @@ pub(crate) fn follows(
     Ok(yes)
 }
 
-// The last of the clauses came behind the others. Is some clause false by what is true for good?
+// Extends the prefix of the trail after `last` was added. This propagates by the watches alone and without the final
+// walk over all clauses: no answer rests on the prefix being complete, since `follows` goes on from it to the end.
 fn keep(
     trail: &mut Trail,
     search: &mut Search,
@@ -78,7 +82,7 @@ fn keep(
     Ok(yes)
 }
 
-/// Checks the addition of this number, counted from 0, and keeps it where it follows.
+/// `number` counts from 0. An addition that follows is a premise of all later ones.
 pub(crate) fn check_addition(
     trail: &mut Trail,
     search: &mut Search,
@@ -90,7 +94,7 @@ pub(crate) fn check_addition(
     requires trail { IsTrail trail.old }
     requires reached { IsReached (lists_of given.now ++ take number (lists_of adds.now)) [] (marked_by trail.old) }
     requires room { HaveMarks (length trail.old.marks.items) (lists_of given.now) }
-    requires room_behind { HaveMarks (length trail.old.marks.items) (lists_of adds.now) }
+    requires room_after { HaveMarks (length trail.old.marks.items) (lists_of adds.now) }
     ensures comes { IfOk result (Comes (lists_of given.now) (lists_of adds.now) number (marked_by trail.new)) }
     ensures trail { OnOk result (IsTrail trail.new) }
     ensures same { OnOk result (length trail.new.marks.items ≡ length trail.old.marks.items) }

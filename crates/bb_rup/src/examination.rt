@@ -1,22 +1,22 @@
-//! What a clause says where the marked literals are false.
+//! The status of one clause under the false literals. Clauses are sets, so a literal that comes twice counts once, and
+//! a clause of two equal literals is a unit clause. The walk ends at the second different literal that is not false.
 
 ghost use Rattle.bb_rup.specs.Inside.Trails.{marked};
-ghost use Rattle.bb_rup.specs.Inside.Standings.{Stands};
+ghost use Rattle.bb_rup.specs.Inside.Statuses.{HasStatus};
 
 use crate::marks::{is_false, is_same};
 use bb_cnf::Lit;
 
-/// All its literals are false; all but this one are; or two different ones are not.
+/// `Unit` has the one literal that is not false; `Two`: at least two different ones are not.
 #[derive(Clone, Copy, Debug)]
-pub(crate) enum Standing {
+pub(crate) enum ClauseStatus {
     False,
     Unit(Lit),
     Two,
 }
 
-/// What the clause says.
-pub(crate) fn examine(clause: &[Lit], marks: &[bool]) -> Standing
-    ensures { Stands (marked marks.now) clause.now result }
+pub(crate) fn examine(clause: &[Lit], marks: &[bool]) -> ClauseStatus
+    ensures { HasStatus (marked marks.now) clause.now result }
 {
     let mut free: Option<Lit> = None;
     for lit in clause {
@@ -24,7 +24,7 @@ pub(crate) fn examine(clause: &[Lit], marks: &[bool]) -> Standing
             match free {
                 Some(other) => {
                     if !is_same(other, *lit) {
-                        return Standing::Two;
+                        return ClauseStatus::Two;
                     }
                 }
                 None => free = Some(*lit),
@@ -32,7 +32,7 @@ pub(crate) fn examine(clause: &[Lit], marks: &[bool]) -> Standing
         }
     }
     match free {
-        Some(lit) => Standing::Unit(lit),
-        None => Standing::False,
+        Some(lit) => ClauseStatus::Unit(lit),
+        None => ClauseStatus::False,
     }
 }

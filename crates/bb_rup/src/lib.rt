@@ -1,5 +1,8 @@
-//! Refutations in the DIMACS format, checked by unit propagation. Whoever made a refutation is not trusted: where the
-//! checker says yes, no assignment makes all clauses of the formula true.
+//! Checks clause additions by reverse unit propagation (RUP: Goldberg and Novikov, 2003), for formulas and proofs in
+//! the DIMACS format. Where a proof comes from does not matter: after the answer `Yes` no assignment satisfies the
+//! formula. RUP needs no hints, so the learned clauses of a solver will do as they are. Its price is propagation over
+//! all clauses, where `bb_cnf` follows a chain. Steps that only preserve satisfiability (RAT) are no part of it: they
+//! depend on deletions, which are passed over here.
 #![tactic(auto)]
 
 mod addition;

@@ -1,5 +1,5 @@
 //! A mark for each literal: is it false? Falsehood is kept for each literal and not for each variable, since a clause
-//! that has a literal and its complement makes both false.
+//! with a literal and its complement makes both false. So such a clause does not follow merely because it is true.
 
 ghost use Rattle.std.specs.Prelude.{◌≡◌, ◌<◌, ◌||◌, ◌&&◌, not, true, false, length, set};
 ghost use Rattle.bb_cnf.specs.Clauses.{same_literal};
@@ -9,7 +9,6 @@ ghost use Rattle.bb_rup.specs.Inside.Trails.{mark_place, marked};
 
 use bb_cnf::Lit;
 
-/// The literal's complement.
 pub(crate) fn negation(lit: Lit) -> Lit
     ensures { result ≡ complement lit }
 {
@@ -19,14 +18,13 @@ pub(crate) fn negation(lit: Lit) -> Lit
     }
 }
 
-/// Are they one literal?
 pub(crate) fn is_same(a: Lit, b: Lit) -> bool
     ensures { result ≡ same_literal a b }
 {
     a.var == b.var && a.neg == b.neg
 }
 
-/// The literal's place among the marks.
+/// The two literals of a variable are neighbours, the negated one second.
 pub(crate) fn place(lit: Lit) -> usize
     ensures { result ≡ mark_place lit }
 {
@@ -34,7 +32,7 @@ pub(crate) fn place(lit: Lit) -> usize
     2 * lit.var as usize + sign
 }
 
-/// Is the literal marked?
+/// A literal beyond the marks is not false.
 pub(crate) fn is_false(marks: &[bool], lit: Lit) -> bool
     ensures { result ≡ marked marks.now lit }
 {
@@ -42,7 +40,6 @@ pub(crate) fn is_false(marks: &[bool], lit: Lit) -> bool
     place < marks.len() && marks[place]
 }
 
-/// Takes the literal's mark away.
 pub(crate) fn unmark(marks: &mut [bool], lit: Lit)
     ensures marks { (m : Literal) → marked marks.new m ≡ (marked marks.old m && not (same_literal lit m)) }
     ensures room { length marks.new ≡ length marks.old }

@@ -1,20 +1,21 @@
-// Numbers and literals of the format.
+//! Numbers and literals of the DIMACS format. A number has at most 10 digits, leading zeros included, so 64 bits hold
+//! it and nothing overflows before it is compared with its bound.
+
 ghost use Rattle.std.specs.Prelude.{◌≡◌, ◌==◌, slice_index, drop, if◌then◌else◌};
 ghost use Rattle.bb_rup.specs.Inside.Ahead.{seen};
-ghost use Rattle.bb_rup.specs.Numerals.{number_of, variable_of};
+ghost use Rattle.bb_rup.specs.Numerals.{numeral_value, variable_of};
 ghost use Rattle.bb_rup.specs.Dimacs.{literal_in, size_of};
 
 use crate::fault::RupFault;
 use crate::words::Word;
 use bb_cnf::Lit;
 
-// A header's numbers are at most this.
+// The bound of both numbers of a header.
 const SIZE_LIMIT: u64 = 8_000_000;
 
-// The number of 1 to 10 digits.
 #[tactic(auto, using(crate::proofs::Digits::digits))]
 fn number(digits: &[u8]) -> Option<u64>
-    ensures { result ≡ number_of digits.now }
+    ensures { result ≡ numeral_value digits.now }
 {
     if digits.is_empty() || digits.len() > 10 {
         return None;
@@ -31,7 +32,7 @@ fn number(digits: &[u8]) -> Option<u64>
     Some(value)
 }
 
-// The number, where it is not 0.
+// None for 0, which ends a clause and is no variable.
 fn variable(digits: &[u8]) -> Option<u64>
     ensures { result ≡ variable_of digits.now }
 {
@@ -39,7 +40,7 @@ fn variable(digits: &[u8]) -> Option<u64>
     if 1 <= value { Some(value) } else { None }
 }
 
-/// The number, where a header may have it.
+/// At most 8,000,000, which bounds the memory for marks whatever a header claims.
 pub fn size(digits: &[u8]) -> Option<u32>
     ensures { result ≡ size_of digits.now }
 {
@@ -51,7 +52,6 @@ pub fn size(digits: &[u8]) -> Option<u32>
     }
 }
 
-// Whether `-` stands first, and what stands behind it.
 fn sign(bytes: &[u8]) -> (bool, &[u8])
     ensures neg { result.0 ≡ (slice_index bytes.now 0 == 45) }
     ensures digits { result.1.now ≡ (if slice_index bytes.now 0 == 45 then drop 1 bytes.now else bytes.now) }
@@ -62,7 +62,7 @@ fn sign(bytes: &[u8]) -> (bool, &[u8])
     }
 }
 
-/// The literal of a word, of a variable from 1 to `vars`.
+/// `Token` where the word has not the form of a literal, `Literal` where its variable is greater than `vars`.
 pub fn literal(word: Word<'_>, vars: u32) -> Result<Lit, RupFault>
     ensures { result ≡ literal_in vars (seen word.entry) }
 {

@@ -1,10 +1,13 @@
-//! Propagation: by the watches as long as they find something, and by a walk over all clauses where an answer rests on
-//! it that nothing is left.
+//! Unit propagation in two layers. Two watched literals find most implied literals, but nothing is proved about
+//! watches: where they find nothing more, one walk over all clauses finds a false clause or a literal to go on with, or
+//! shows that nothing is left. A checker with proved watches would need an invariant for each list and each move. The
+//! walk is cheap instead: a run ends with the first addition that does not follow, so it is made once a run unless the
+//! watches missed something.
 
 ghost use Rattle.std.specs.Prelude.{◌≡◌, ◌<◌, true, false, All, Any, IfOk, OnOk, length};
 ghost use Rattle.bb_rup.specs.Propagation.{IsFalseClause, IsOpen};
 ghost use Rattle.bb_rup.specs.Inside.Trails.{marked_by, IsTrail, HaveMarks, Propagates, unmarked};
-ghost use Rattle.bb_rup.specs.Inside.Standings.{IsImplied};
+ghost use Rattle.bb_rup.specs.Inside.Statuses.{IsImplied};
 
 use crate::NoMemory;
 use crate::marks::negation;
@@ -15,7 +18,6 @@ use crate::watching::watched;
 use bb_cnf::Lit;
 use bb_watch::Clauses;
 
-// The literal is true, and so its complement is false.
 fn imply(trail: &mut Trail, clauses: &Clauses<'_>, lit: Lit) -> Result<(), NoMemory>
     requires trail { IsTrail trail.old }
     requires implied { IsImplied clauses.now trail.old.marks.items lit }
@@ -26,7 +28,7 @@ fn imply(trail: &mut Trail, clauses: &Clauses<'_>, lit: Lit) -> Result<(), NoMem
     Ok(())
 }
 
-/// Goes on by the watches. Is some clause false by then?
+/// True where some clause is false. False says nothing: the watches may have missed a clause.
 pub(crate) fn propagate(
     trail: &mut Trail,
     search: &mut Search,
@@ -45,7 +47,8 @@ pub(crate) fn propagate(
     }
 }
 
-/// Goes on to the end. Is some clause false by then?
+/// Exact in both directions, since only a walk over all clauses answers false. Ends since each round makes one more
+/// literal false.
 pub(crate) fn settle(
     trail: &mut Trail,
     search: &mut Search,

@@ -1,11 +1,12 @@
-//! Are the additions a refutation of the clauses?
+//! The additions in order, up to the empty clause. The empty clause is put at their end, so a proof may stop where
+//! propagation finishes the rest. Additions after the first empty one are never looked at: everything follows by then.
 
 ghost use Rattle.std.specs.Prelude.{ℕ, ◌≡◌, ◌<◌, ◌↔◌, [], true, length, IfOk, OnOk};
-ghost use Rattle.bb_cnf.specs.Clauses.{lists_of, IsWithin};
+ghost use Rattle.bb_cnf.specs.Clauses.{lists_of, HasVariablesWithin};
 ghost use Rattle.bb_cnf.specs.Truth.{HaveNoModel};
 ghost use Rattle.bb_rup.specs.declared.refutation.RupAnswer.TheVariants as answers;
 ghost use Rattle.bb_rup.specs.Propagation.{Follows};
-ghost use Rattle.bb_rup.specs.Additions.{Succeed, IsFirstWithout, IsAnswer};
+ghost use Rattle.bb_rup.specs.Additions.{Succeed, IsFirstWithout, IsRupAnswer};
 ghost use Rattle.bb_rup.specs.Inside.Trails.{marked_by, IsTrail, IsReached, HaveMarks};
 
 use crate::NoMemory;
@@ -18,15 +19,15 @@ use bb_cnf::{Cnf, Lit};
 use smallvec::SmallVec;
 use std::alloc::Global;
 
-/// Each addition follows from the clauses and the additions before it, and so does the empty clause at their end; or
-/// the addition of this number, counted from 1, is the first that does not follow.
+/// `No` has the number of the first addition that does not follow, counted from 1. The empty clause at the end is the
+/// last.
 #[derive(Clone, Copy, Debug, PartialEq, Eq)]
 pub enum RupAnswer {
     Yes,
     No(u32),
 }
 
-// Watches the given clauses. Is some clause false by what they make true?
+// True where the given clauses alone propagate to a false clause: then every addition follows.
 fn begin(
     trail: &mut Trail,
     search: &mut Search,
@@ -45,7 +46,7 @@ fn begin(
     Ok(yes)
 }
 
-// Checks one addition after another.
+// `search` watches nothing yet.
 fn run(
     trail: &mut Trail,
     search: &mut Search,
@@ -56,8 +57,8 @@ fn run(
     requires trail { IsTrail trail.old }
     requires none { trail.old.lits.items ≡ [] }
     requires room { HaveMarks (length trail.old.marks.items) (lists_of given.now) }
-    requires room_behind { HaveMarks (length trail.old.marks.items) (lists_of adds.now) }
-    ensures { IfOk result (IsAnswer (lists_of given.now) (lists_of adds.now)) }
+    requires room_after { HaveMarks (length trail.old.marks.items) (lists_of adds.now) }
+    ensures { IfOk result (IsRupAnswer (lists_of given.now) (lists_of adds.now)) }
 {
     if begin(trail, search, given, adds)? {
         return Ok(RupAnswer::Yes);
@@ -76,12 +77,11 @@ fn run(
     }
 }
 
-/// Checks whether each addition follows by unit propagation from the clauses and the additions before it, with the
-/// empty clause put at their end, and up to the first empty one. `Yes` means that no assignment makes all clauses of
-/// `cnf` true. The number of `No` is that of the first addition that does not follow, counted from 1; the empty clause
-/// at the end counts. Only memory can be wanting.
+/// Checks each addition against the clauses and the additions before it, in the order of the list, with the empty
+/// clause at the end and up to the first empty one. After `Yes` no assignment satisfies `cnf`. The number of `No`
+/// counts from 1, and the empty clause at the end counts. The only error is lack of memory.
 pub fn rup(alloc: Global, cnf: &Cnf, adds: &[SmallVec<Lit, 4>]) -> Result<RupAnswer, NoMemory>
-    requires within { IsWithin cnf.now.vars (lists_of adds.now) }
+    requires within { HasVariablesWithin cnf.now.vars (lists_of adds.now) }
     requires few { length adds.now < 4294967295 }
     ensures yes { IfOk result (λ a. (a ≡ answers.Yes) ↔ Succeed cnf.now.clauses (lists_of adds.now)) }
     ensures no { IfOk result (λ a. (n : ℕ) → (a ≡ answers.No n) ↔ IsFirstWithout cnf.now.clauses (lists_of adds.now) n) }

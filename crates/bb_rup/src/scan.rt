@@ -1,15 +1,17 @@
-//! What comes of the clauses: one is false, one makes a literal true, or nothing new comes.
+//! The consequence of a clause, and the walk over all clauses. The walk alone makes propagation exact: it needs no
+//! watch and no index, so its proof is that of one loop, and whatever the watches missed is found here.
 
 ghost use Rattle.std.specs.Prelude.{◌<◌, length};
-ghost use Rattle.bb_rup.specs.Inside.Standings.{Comes, IfQuiet, IfOpen};
+ghost use Rattle.bb_rup.specs.Inside.Statuses.{Comes, IfQuiet, IfOpen};
 ghost use Rattle.bb_rup.specs.Inside.Trails.{HaveMarks};
 
-use crate::examination::{Standing, examine};
+use crate::examination::{ClauseStatus, examine};
 use crate::marks::{is_false, negation, place};
 use bb_cnf::Lit;
 use bb_watch::Clauses;
 
-/// Some clause is false; all literals of some clause but this one are, and its complement is not yet; or neither.
+/// `Conflict`: some clause is false. `Implied`: all literals of some clause but this one are false, and its complement
+/// is not false yet. `Quiet`: neither.
 #[derive(Clone, Copy, Debug)]
 pub(crate) enum Event {
     Conflict,
@@ -17,15 +19,16 @@ pub(crate) enum Event {
     Quiet,
 }
 
-/// What comes of one clause. Where its literals have marks and nothing comes of it, it is open.
+/// `Quiet` means that the clause is open only where all its literals have marks: a literal beyond the marks can never
+/// be made false.
 pub(crate) fn event_of(clauses: &Clauses<'_>, marks: &[bool], number: usize) -> Event
     requires { number < length clauses.now }
     ensures comes { Comes clauses.now marks.now result }
     ensures quiet { HaveMarks (length marks.now) clauses.now → IfOpen clauses.now marks.now number result }
 {
     match examine(clauses.at(number), marks) {
-        Standing::False => Event::Conflict,
-        Standing::Unit(lit) => {
+        ClauseStatus::False => Event::Conflict,
+        ClauseStatus::Unit(lit) => {
             let new = negation(lit);
             if !is_false(marks, new) && place(new) < marks.len() {
                 Event::Implied(lit)
@@ -33,11 +36,11 @@ pub(crate) fn event_of(clauses: &Clauses<'_>, marks: &[bool], number: usize) -> 
                 Event::Quiet
             }
         }
-        Standing::Two => Event::Quiet,
+        ClauseStatus::Two => Event::Quiet,
     }
 }
 
-/// One walk over all clauses.
+/// Linear in all clauses: called only after the watches found nothing.
 pub(crate) fn scan(clauses: &Clauses<'_>, marks: &[bool]) -> Event
     requires { HaveMarks (length marks.now) clauses.now }
     ensures comes { Comes clauses.now marks.now result }

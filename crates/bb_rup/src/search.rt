@@ -1,5 +1,8 @@
-//! Which clauses are looked at while literals become false. Of most additions of a long proof nothing comes any more after a while:
-//! these are idle, and are looked at only where nothing comes of the others. No answer depends on which they are.
+//! Which clauses are watched first. A solver's proof has many clauses that it deletes after a while, and deletions are
+//! passed over here, so of most additions nothing comes any more: an addition without a consequence for 4,096 additions
+//! is idle. Two passes follow the trail: over the clauses in use, and over all only where those give nothing. Idle
+//! clauses leave the first pass in batches, every 1,024 additions, so no visit has to test for them. No answer depends
+//! on which clauses are idle.
 
 use crate::NoMemory;
 use crate::watching::two_of;
@@ -7,32 +10,32 @@ use bb_cnf::Lit;
 use bb_watch::{Clauses, Found, Propagator, Side, read, write};
 use std::alloc::Global;
 
-// So many additions later, an addition of which nothing came is idle.
+// An addition is idle after so many additions without a consequence of it.
 const IDLE: u32 = 4096;
 
-// So often the idle ones are left out.
+// How many additions pass between two removals of idle clauses.
 const SORTING: u32 = 1024;
 
-// No clause has this number.
 const LEFT_OUT: u32 = u32::MAX;
 
-/// The clauses that are not idle are the first ones of the propagator, and all clauses are the second ones.
+/// The propagator's first side has the clauses in use, its second side has all clauses. Both watch one copy of a
+/// clause.
 #[derive(Drop)]
 pub(crate) struct Search {
     propagator: Propagator,
-    // The clause of each of the first ones.
+    // The clause number of each clause of the first side, or `LEFT_OUT`.
     owners: Vec<u32>,
-    // For each clause: the addition by which something came of it last, and whether it is not idle.
+    // For each clause: the addition at which it last had a consequence, and whether it is on the first side.
     used: Vec<u32>,
     is_active: Vec<bool>,
-    // Idle clauses of which something came.
+    // Idle clauses that had a consequence during this addition.
     met: Vec<u32>,
-    // How many clauses are given, and the number of the addition.
+    // Given clauses are never idle. `turn` is the number of the addition.
     given: usize,
     turn: u32,
 }
 
-// Watches idle clauses again.
+// Puts clauses back on the first side, with fresh watches for the literals that are false now.
 fn watch_again(
     propagator: &mut Propagator,
     owners: &mut Vec<u32>,
@@ -51,7 +54,7 @@ fn watch_again(
 }
 
 impl Search {
-    /// No clause is watched. There is room for so many.
+    /// Room for `count` clauses on each side, the given ones and the additions.
     pub(crate) fn new(
         alloc: Global,
         vars: u32,
@@ -69,19 +72,18 @@ impl Search {
         })
     }
 
-    /// Tells the propagator of the false literals that it does not know.
+    /// The propagator runs ahead of the trail, but literals that the trail got from an addition are new to it.
     pub(crate) fn catch_up(&mut self, lits: &[Lit]) {
         for place in self.propagator.len()..lits.len() {
             self.propagator.make_false(lits[place]);
         }
     }
 
-    /// Only so many literals are false.
     pub(crate) fn take_back(&mut self, place: usize) {
         self.propagator.take_back(place);
     }
 
-    /// The clause of which something may come where so many literals are false.
+    /// A hint, for a trail with `place` literals: the clause may have no consequence after all.
     pub(crate) fn next(&mut self, place: usize) -> Option<usize> {
         let found = self.propagator.next(place)?;
         Some(self.number(found) as usize)
@@ -99,7 +101,7 @@ impl Search {
         number as usize >= self.given && self.turn.saturating_sub(used) > IDLE
     }
 
-    // Leaves a clause out from the first ones.
+    // The watches of the clause leave their lists when the propagator meets them.
     fn leave_out(&mut self, first: u32, number: u32) {
         self.propagator.forget(Side::First, first);
         write(&mut self.owners, first, LEFT_OUT);
@@ -108,7 +110,6 @@ impl Search {
         }
     }
 
-    // Leaves those out that are idle.
     fn sort_out(&mut self) {
         let count = u32::try_from(self.owners.len()).unwrap_or(u32::MAX);
         for first in 0..count {
@@ -119,7 +120,7 @@ impl Search {
         }
     }
 
-    /// Something came of the clause.
+    /// An idle clause is put back by `go_on`, when the literals that it is to watch are no longer false.
     pub(crate) fn came(&mut self, number: usize) -> Result<(), NoMemory> {
         let number_32 = u32::try_from(number).unwrap_or(0);
         write(&mut self.used, number_32, self.turn);
@@ -130,7 +131,7 @@ impl Search {
         Ok(())
     }
 
-    /// Watches the next clause.
+    /// Clauses are added in the order of their numbers. A new one is in use.
     pub(crate) fn add(&mut self, marks: &[bool], clause: &[Lit]) -> Result<(), NoMemory> {
         let number = u32::try_from(self.used.len()).unwrap_or(0);
         let (first, second) = two_of(clause, marks);
@@ -142,7 +143,8 @@ impl Search {
         Ok(())
     }
 
-    /// The trail ends at this place now. Idle clauses of which something came are watched again, and the next addition comes.
+    /// Ends an addition: the trail is back at `place`, so idle clauses that had a consequence can be watched again by
+    /// literals that are not false.
     pub(crate) fn go_on(
         &mut self,
         place: usize,

@@ -1,5 +1,5 @@
-//! The literals that are false, in the order in which they became so. Those of the front need no addition to be false,
-//! and stay; the others are taken back after each addition.
+//! The trail: the false literals in the order in which they became so, and a mark for each. Literals of the prefix are
+//! false whatever the addition, and stay; the others are taken back after each addition.
 
 ghost use Rattle.std.specs.Prelude.{◌≡◌, ◌-◌, ◌+◌, ◌*◌, ◌<◌, ◌≤◌, ◌++◌, ◌∷◌, [], true, false, length, take, set, All, IfOk, OnOk};
 ghost use Rattle.bb_cnf.specs.Clauses.{literals_of, same_literal};
@@ -10,14 +10,13 @@ use crate::marks::{is_false, place, unmark};
 use bb_cnf::Lit;
 use std::alloc::Global;
 
-/// A mark for each literal that is false, and the list of these.
 #[derive(Drop)]
 pub(crate) struct Trail {
     pub(crate) marks: Vec<bool>,
     pub(crate) lits: Vec<Lit>,
 }
 
-/// No literal is false. There are marks for the variables from 1 to `vars`.
+/// Marks for the variables from 1 to `vars`. The two places of variable 0 belong to no literal.
 pub(crate) fn none_false(alloc: Global, vars: u32) -> Result<Trail, NoMemory>
     ensures trail { IfOk result IsTrail }
     ensures none { IfOk result (λ t. t.lits.items ≡ []) }
@@ -30,7 +29,7 @@ pub(crate) fn none_false(alloc: Global, vars: u32) -> Result<Trail, NoMemory>
     })
 }
 
-/// One more literal is false.
+/// The literal must not be on the trail yet: no literal is on it twice, so its length is bounded by the marks.
 pub(crate) fn make_false(trail: &mut Trail, lit: Lit) -> Result<(), NoMemory>
     requires trail { IsTrail trail.old }
     requires in_range { mark_place lit < length trail.old.marks.items }
@@ -44,7 +43,7 @@ pub(crate) fn make_false(trail: &mut Trail, lit: Lit) -> Result<(), NoMemory>
     Ok(())
 }
 
-// One more literal is false, where it is not yet.
+// An addition may repeat a literal, or have one of the prefix.
 fn make_false_too(trail: &mut Trail, lit: Lit) -> Result<(), NoMemory>
     requires trail { IsTrail trail.old }
     requires in_range { mark_place lit < length trail.old.marks.items }
@@ -56,7 +55,6 @@ fn make_false_too(trail: &mut Trail, lit: Lit) -> Result<(), NoMemory>
     Ok(())
 }
 
-/// The literals of a clause are false too.
 pub(crate) fn make_all_false(trail: &mut Trail, clause: &[Lit]) -> Result<(), NoMemory>
     requires trail { IsTrail trail.old }
     requires in_range { All (HasMarks (length trail.old.marks.items)) clause.now }
@@ -68,7 +66,6 @@ pub(crate) fn make_all_false(trail: &mut Trail, clause: &[Lit]) -> Result<(), No
     Ok(())
 }
 
-// Takes the last literal back.
 fn pop(trail: &mut Trail)
     requires { IsTrail trail.old }
     ensures trail { IsTrail trail.new }
@@ -80,7 +77,6 @@ fn pop(trail: &mut Trail)
     }
 }
 
-/// Takes back all from this place on.
 pub(crate) fn pop_to(trail: &mut Trail, place: usize)
     requires trail { IsTrail trail.old }
     requires within { place ≤ length trail.old.lits.items }

@@ -1,8 +1,9 @@
-//! Propagation by watched literals. It runs ahead of the trail over copies of the clauses, and what it finds is a hint: each
-//! clause that it names is looked at before anything rests on it, and no answer depends on it that all such clauses are found.
+//! Propagation by two watched literals (Moskewicz et al., Chaff, 2001). It runs ahead of the trail over copies of the
+//! clauses, and what it finds is a hint: each clause that it names is examined before anything rests on it, and no
+//! answer depends on whether it names all such clauses. So nothing has to be proved about watches.
 
 ghost use Rattle.std.specs.Prelude.{IfOk};
-ghost use Rattle.bb_rup.specs.Inside.Standings.{Comes};
+ghost use Rattle.bb_rup.specs.Inside.Statuses.{Comes};
 
 use crate::NoMemory;
 use crate::marks::is_false;
@@ -12,10 +13,8 @@ use bb_cnf::Lit;
 use bb_watch::Clauses;
 use smallvec::SmallVec;
 
-// There is no variable 0.
 const NOTHING: Lit = Lit { var: 0, neg: false };
 
-// A literal that is not false, but not this one.
 fn not_false(clause: &[Lit], marks: &[bool], but: Lit) -> Option<Lit> {
     for lit in clause {
         if *lit != but && !is_false(marks, *lit) {
@@ -25,16 +24,16 @@ fn not_false(clause: &[Lit], marks: &[bool], but: Lit) -> Option<Lit> {
     None
 }
 
-/// Two literals of a clause to be watched, such as are not false where it has two.
+/// Two different literals that are not false, where the clause has two; otherwise its first and last literal serve. A
+/// wrong pair costs time and no answer.
 pub(crate) fn two_of(clause: &[Lit], marks: &[bool]) -> (Lit, Lit) {
-    let front = clause.first().copied().unwrap_or(NOTHING);
-    let first = not_false(clause, marks, NOTHING).unwrap_or(front);
+    let prefix = clause.first().copied().unwrap_or(NOTHING);
+    let first = not_false(clause, marks, NOTHING).unwrap_or(prefix);
     let back = clause.last().copied().unwrap_or(NOTHING);
     let second = not_false(clause, marks, first).unwrap_or(back);
     (first, second)
 }
 
-/// Watches two literals of each clause.
 pub(crate) fn watch_all(
     search: &mut Search,
     marks: &[bool],
@@ -46,7 +45,8 @@ pub(crate) fn watch_all(
     Ok(())
 }
 
-/// What comes of the clauses that the propagator finds, of the idle ones last.
+/// The next consequence that the propagator names, checked against the clause itself. Where the hint was wrong, the
+/// propagator drops what it found beyond the trail, since that may rest on it.
 pub(crate) fn watched(
     search: &mut Search,
     clauses: &Clauses<'_>,

@@ -1,17 +1,20 @@
-// The words of a text, one after another, in one pass over its bytes.
+//! The words of a text, in one pass over its bytes. Only a line feed ends a line. A comment line is known by its first
+//! byte that is no white space, before words are made; so a `c` that is not first on its line is a word, and a comment
+//! needs no blank after the `c`.
+
 ghost use Rattle.std.specs.Prelude.{◌≡◌, ◌<◌, ◌≤◌, length, IfSome, IfNone};
 ghost use Rattle.std.specs.Char.{is_ascii_whitespace};
 ghost use Rattle.bb_rup.specs.TextWords.{words_of};
 ghost use Rattle.bb_rup.specs.Inside.Ahead.{is_newline, from_first, words_at, words_if, IsCounted, BeginsWord};
 
-/// A word, and the number of its line.
+/// Lines count from 1.
 #[derive(Clone, Copy)]
 pub struct Word<'a> {
     pub bytes: &'a [u8],
     pub line: u32,
 }
 
-/// A place in a text: what is left, the number of its line, and whether the line has had a word.
+/// `begun`: the line has had a word, so a `c` begins no comment here.
 #[derive(Clone, Copy)]
 pub struct Place<'a> {
     pub rest: &'a [u8],
@@ -19,14 +22,14 @@ pub struct Place<'a> {
     pub begun: bool,
 }
 
-/// A word, and the place behind it.
+/// The next word is looked for from `after` on.
 #[derive(Clone, Copy)]
 pub struct Found<'a> {
     pub word: Word<'a>,
-    pub behind: Place<'a>,
+    pub after: Place<'a>,
 }
 
-/// The place before a text.
+/// The bound on the text keeps line numbers within 32 bits.
 #[tactic(auto, using(crate::proofs::WordSteps::word_steps))]
 pub fn start(text: &[u8]) -> Place<'_>
     requires { length text.now ≤ 33554432 }
@@ -40,7 +43,6 @@ pub fn start(text: &[u8]) -> Place<'_>
     }
 }
 
-// What is left from the end of the line on.
 fn from_newline(text: &[u8]) -> &[u8]
     ensures { result.now ≡ from_first is_newline text.now }
 {
@@ -54,7 +56,6 @@ fn from_newline(text: &[u8]) -> &[u8]
     rest
 }
 
-// What is left from the first white space on.
 fn from_white(text: &[u8]) -> &[u8]
     ensures { result.now ≡ from_first is_ascii_whitespace text.now }
 {
@@ -68,7 +69,8 @@ fn from_white(text: &[u8]) -> &[u8]
     rest
 }
 
-// The place behind a byte of white space or a comment at the front, or none where a word or the end is there.
+// The place after one byte of white space, or at the end of a comment; none at a word or the end of the text. The line
+// feed that ends a comment is left, so that it is counted once, as every line feed.
 #[tactic(auto, using(crate::proofs::WordSteps::word_steps))]
 fn passed(place: Place<'_>) -> Option<Place<'_>>
     requires { IsCounted place }
@@ -103,7 +105,7 @@ fn passed(place: Place<'_>) -> Option<Place<'_>>
     None
 }
 
-// Passes white space and comments.
+// Ends since each step leaves fewer bytes.
 fn skip(start: Place<'_>) -> Place<'_>
     requires { IsCounted start }
     ensures words { words_at result ≡ words_at start.entry }
@@ -118,13 +120,13 @@ fn skip(start: Place<'_>) -> Place<'_>
     place
 }
 
-/// The next word, and the place behind it.
+/// None at the end of the text.
 #[tactic(auto, using(crate::proofs::WordSteps::word_steps))]
 pub fn word_at(start: Place<'_>) -> Option<Found<'_>>
     requires { IsCounted start }
     ensures words { words_at start.entry ≡ words_if result }
-    ensures counted { IfSome result (λ found. IsCounted found.behind) }
-    ensures left { IfSome result (λ found. length found.behind.rest.now < length start.entry.rest.now) }
+    ensures counted { IfSome result (λ found. IsCounted found.after) }
+    ensures left { IfSome result (λ found. length found.after.rest.now < length start.entry.rest.now) }
 {
     let place = skip(start);
     if place.rest.is_empty() {
@@ -135,7 +137,7 @@ pub fn word_at(start: Place<'_>) -> Option<Found<'_>>
     let line = place.line;
     Some(Found {
         word: Word { bytes, line },
-        behind: Place {
+        after: Place {
             rest,
             line,
             begun: true,

@@ -3,12 +3,12 @@ use Rattle.std.proofs.Common.{◌≡◌, ◌⊎◌, ℕ, zero, suc, map, All, �
 use Rattle.std.specs.Prelude.{slice_index, if◌then◌else◌}
 use Rattle.std.proofs.lemmas.List.{get_or_append_left, get_or_push, length-append, length-map}
 use Rattle.std.proofs.lemmas.List.Elements.{All-nil, All-cons, All-head, All-tail, All-get_or}
-use Rattle.bb_lists.proofs.Orders.{same_or_less}
+use Rattle.bb_lemmas.proofs.Orders.{same_or_less}
 use Rattle.bb_net.specs.declared.cell.Cell.{Cell}
 use Rattle.bb_net.specs.declared.cell.Cell.TheVariants.{Const, Input, Not, And, Or, Xor, Mux, BoxOut}
 use Rattle.bb_net.specs.Netlists.{Netlist, IsNetlist, Pins, cell_at, ReadsBefore}
 use Rattle.bb_net.specs.Values.{xor}
-use Rattle.bb_filled.specs.Embeddings.{moved}
+use Rattle.bb_subst.specs.Embeddings.{moved}
 use Rattle.bb_strash.specs.Inside.Copies.{AreCopied}
 use Rattle.bb_strash.specs.Inside.Extensions.{bit, gate_bit, Extends, Gives}
 use Rattle.bb_strash.specs.Laws.{BitsAreGates, BitsStay}
@@ -74,12 +74,12 @@ module _ (gates : BitsAreGates) (stay : BitsStay) (source : Netlist) (kept : IsN
       last : slice_index (places ++ place ∷ []) k ≡ place
       last = get_or_push places place 0 k so.long
 
-      front : (j : ℕ) → j < k → slice_index (places ++ place ∷ []) j ≡ slice_index places j
-      front j h = get_or_append_left places (place ∷ []) 0 j (omega (arith, h, so.long))
+      prefix : (j : ℕ) → j < k → slice_index (places ++ place ∷ []) j ≡ slice_index places j
+      prefix j h = get_or_append_left places (place ∷ []) 0 j (omega (arith, h, so.long))
 
       there : (j : ℕ) → (k ≡ j) ⊎ (j < k) → slice_index (places ++ place ∷ []) j < length new.cells
       there j (inl is) = subst (λ n. slice_index (places ++ place ∷ []) n < length new.cells) is (subst (λ n. n < length new.cells) (sym last) gives.there)
-      there j (inr h) = subst (λ n. n < length new.cells) (sym (front j h)) (longer old new most e (slice_index places j) (so.there j h))
+      there j (inr h) = subst (λ n. n < length new.cells) (sym (prefix j h)) (longer old new most e (slice_index places j) (so.there j h))
 
       here : (x : List Bool) → bit new x place ≡ bit source x k
       here x =
@@ -89,7 +89,7 @@ module _ (gates : BitsAreGates) (stay : BitsStay) (source : Netlist) (kept : IsN
 
       by : (x : List Bool) (j : ℕ) → (k ≡ j) ⊎ (j < k) → bit new x (slice_index (places ++ place ∷ []) j) ≡ bit source x j
       by x j (inl is) = subst (λ n. bit new x (slice_index (places ++ place ∷ []) n) ≡ bit source x n) is (ap (bit new x) last ∙ here x)
-      by x j (inr h) = ap (bit new x) (front j h) ∙ stay old new most e x (slice_index places j) (so.there j h) ∙ so.same x j h
+      by x j (inr h) = ap (bit new x) (prefix j h) ∙ stay old new most e x (slice_index places j) (so.there j h) ∙ so.same x j h
 
 -- exclusive ors of pairs, one more
 pub difference_next : BitsStay → (start old new : Netlist) (n m : ℕ) (f g : ℕ → ℕ) (j : ℕ) (all : List ℕ) (place p q : ℕ) → Extends start old n → Extends old new m → p ≡ f j → q ≡ g j

@@ -4,7 +4,7 @@ use Rattle.std.specs.Prelude.{slice_index, if◌then◌else◌}
 use Rattle.std.specs.List.{range_with_len}
 use Rattle.std.proofs.lemmas.List.{get_or_append_left, get_or_push, length-append}
 use Rattle.std.proofs.lemmas.List.FromFn.{get_or-range_with_len, length-range_with_len}
-use Rattle.bb_lists.proofs.Orders.{same_or_less}
+use Rattle.bb_lemmas.proofs.Orders.{same_or_less}
 use Rattle.bb_net.specs.declared.cell.Cell.{Cell}
 use Rattle.bb_net.specs.declared.cell.Cell.TheVariants.{Const, Input, Not, And, Or, Xor, Mux, BoxOut}
 use Rattle.bb_net.specs.Netlists.{Netlist, IsNetlist, cell_at, ReadsBefore}
@@ -69,12 +69,12 @@ module _ (gates : BitsAreGates) (stay : BitsStay) (net : Netlist) (kept : IsNetl
       last : slice_index (places ++ place ∷ []) (length places) ≡ place
       last = get_or_push places place 0 (length places) refl
 
-      front : (j : ℕ) → j < length places → slice_index (places ++ place ∷ []) j ≡ slice_index places j
-      front j h = get_or_append_left places (place ∷ []) 0 j h
+      prefix : (j : ℕ) → j < length places → slice_index (places ++ place ∷ []) j ≡ slice_index places j
+      prefix j h = get_or_append_left places (place ∷ []) 0 j h
 
       there : (j : ℕ) → (length places ≡ j) ⊎ (j < length places) → slice_index (places ++ place ∷ []) j < length new.cells
       there j (inl is) = subst (λ n. slice_index (places ++ place ∷ []) n < length new.cells) is (subst (λ n. n < length new.cells) (sym last) gives.there)
-      there j (inr h) = subst (λ n. n < length new.cells) (sym (front j h)) (longer old new most e (slice_index places j) (so.there j h))
+      there j (inr h) = subst (λ n. n < length new.cells) (sym (prefix j h)) (longer old new most e (slice_index places j) (so.there j h))
 
       here : (x : List Bool) → bit new (map (bit net x) leaves) place ≡ bit net x (slice_index known k)
       here x =
@@ -87,7 +87,7 @@ module _ (gates : BitsAreGates) (stay : BitsStay) (net : Netlist) (kept : IsNetl
       by x j (inl is) g =
           subst (λ n. bit new (map (bit net x) leaves) (slice_index (places ++ place ∷ []) n) ≡ bit net x (slice_index known n)) is
           (ap (bit new (map (bit net x) leaves)) last ∙ here x ∙ ap (λ n. bit net x (slice_index known n)) at)
-      by x j (inr h) g = ap (bit new (map (bit net x) leaves)) (front j h) ∙ stay old new most e (map (bit net x) leaves) (slice_index places j) (so.there j h) ∙ so.same x j h g
+      by x j (inr h) g = ap (bit new (map (bit net x) leaves)) (prefix j h) ∙ stay old new most e (map (bit net x) leaves) (slice_index places j) (so.there j h) ∙ so.same x j h g
 
   -- the part with the cell as its output is a window
   pub window_is : (part whole : Netlist) (place root : ℕ) (places : List ℕ) → AreCut net leaves known part places → IsMoved known places place root → part.inputs ≡ length leaves → part.boxes ≡ []

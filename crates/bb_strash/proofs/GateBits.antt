@@ -4,7 +4,7 @@ use Rattle.std.specs.Prelude.{if◌then◌else◌}
 use Rattle.std.specs.List.{range_with_len}
 use Rattle.std.proofs.lemmas.List.{get_or_push, length-append, append_assoc, append-nil, get_or-take, length-map}
 use Rattle.std.proofs.lemmas.List.FromFn.{get_or-map-range_with_len}
-use Rattle.bb_lists.proofs.Ranges.{length-range}
+use Rattle.bb_lemmas.proofs.Ranges.{length-range}
 use Rattle.bb_net.specs.declared.cell.Cell.{Cell}
 use Rattle.bb_net.specs.declared.cell.Cell.TheVariants.{Const, Input, Not, And, Or, Xor, Mux, BoxOut}
 use Rattle.bb_net.specs.Netlists.{Netlist, IsNetlist, Pins, cell_at, first_cells, ReadsBefore, with_cell, with_pin}
@@ -96,12 +96,12 @@ reads_there inputs more n m boxes c none same is reads =
 
 -- the cells with which a netlist begins
 first_is : (net : Netlist) → IsNetlist net → (k : ℕ) → k < net.inputs + 2 → cell_at net.cells k ≡ cell_at (first_cells net.inputs) k
-first_is net kept k h = sym (get_or-take (net.inputs + 2) net.cells k (Const false) h) ∙ ap (λ l. cell_at l k) kept.front
+first_is net kept k h = sym (get_or-take (net.inputs + 2) net.cells k (Const false) h) ∙ ap (λ l. cell_at l k) kept.prefix
 
 pub begins : (net : Netlist) → IsNetlist net → net.inputs + 2 ≤ length net.cells
 begins net kept =
     let long : length (first_cells net.inputs) ≡ net.inputs + 2 = omega (arith, length-map (range_with_len 0 net.inputs) Input, length-range 0 net.inputs) in
-    let taken = ap length kept.front in
+    let taken = ap length kept.prefix in
     omega (arith, taken, long, taken_long (net.inputs + 2) net.cells)
   where
     taken_long : (n : ℕ) (l : List Cell) → length (take n l) ≤ length l
@@ -136,7 +136,7 @@ module _ (gates : BitsAreGates) (net : Netlist) (kept : IsNetlist net) (none : n
   pub inverter_reads : (a b : ℕ) → a < length net.cells → cell_at net.cells a ≡ Not b → b < length net.cells
   inverter_reads a b h is = omega (arith, h, subst (ReadsBefore net.inputs net.boxes a) is (kept.ordered a h))
 
--- a gate that stands at a place gives its function of the bits as they were
+-- a gate that is at a place gives its function of the bits as they were
 gate_was : (x : List Bool) (value old : ℕ → Bool) (n m : ℕ) (c : Cell) → ReadsBefore n [] m c → ((k : ℕ) → k < m → value k ≡ old k) → gate_bit x value c ≡ gate_bit x old c
 gate_was x value old n m (Const b) reads same = refl
 gate_was x value old n m (Input i) reads same = refl
@@ -149,12 +149,12 @@ gate_was x value old n m (Mux c t e) reads same =
 gate_was x value old n m (BoxOut b p) reads same = refl
 
 module _ (gates : BitsAreGates) (stay : BitsStay) where
-  pub stands_gives : (old new : Netlist) (most n place : ℕ) (c : Cell) → Extends old new most → ReadsBefore n [] (length old.cells) c → (place < length new.cells) × (cell_at new.cells place ≡ c)
+  pub occurs_gives : (old new : Netlist) (most n place : ℕ) (c : Cell) → Extends old new most → ReadsBefore n [] (length old.cells) c → (place < length new.cells) × (cell_at new.cells place ≡ c)
       → Gives new place (λ x. gate_bit x (bit old x) c)
-  stands_gives old new most n place c e reads stands = record {
-    there = stands.0;
+  occurs_gives old new most n place c e reads occurs = record {
+    there = occurs.0;
     same = λ x.
-        gates new e.after e.boxes x place stands.0 ∙ ap (gate_bit x (bit new x)) stands.1
+        gates new e.after e.boxes x place occurs.0 ∙ ap (gate_bit x (bit new x)) occurs.1
         ∙ gate_was x (bit new x) (bit old x) n (length old.cells) c reads (λ k h. stay old new most e x k h);
   }
 

@@ -1,4 +1,4 @@
--- What the code says to itself and to the search above it: no clause of the top call rests on it.
+-- Invariants of the code and of the search in `bb_expand`: no clause of the top call rests on them.
 pub mod Copies
 pub mod Extensions
 pub mod Miters

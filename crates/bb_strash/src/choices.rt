@@ -1,4 +1,5 @@
-//! Multiplexers are added in one form each.
+//! Normal forms of multiplexers. A mux with a constant branch becomes an and or an or, so that it shares nodes with
+//! gates; the others stay muxes.
 
 ghost use Rattle.std.specs.Prelude.{◌≡◌, ◌+◌, ◌<◌, ◌^◌, ◌&&◌, ◌||◌, not, if◌then◌else◌, [], length, IfOk, OnOk};
 ghost use Rattle.bb_strash.specs.Inside.Extensions.{bit, Extends, Gives};
@@ -11,7 +12,6 @@ use crate::places::place_of_gate;
 use bb_bits::NoMemory;
 use bb_net::{Cell, Net};
 
-// The conjunction of the inverse of a cell with another.
 fn add_below(net: &mut Net, index: &mut Index, c: u32, e: u32) -> Result<u32, NoMemory>
     requires none { net.old.boxes ≡ [] }
     requires c { c < length net.old.cells }
@@ -26,7 +26,6 @@ fn add_below(net: &mut Net, index: &mut Index, c: u32, e: u32) -> Result<u32, No
     Ok(place)
 }
 
-// The disjunction of the inverse of a cell with another.
 fn add_implies(net: &mut Net, index: &mut Index, c: u32, t: u32) -> Result<u32, NoMemory>
     requires none { net.old.boxes ≡ [] }
     requires c { c < length net.old.cells }
@@ -41,7 +40,7 @@ fn add_implies(net: &mut Net, index: &mut Index, c: u32, t: u32) -> Result<u32, 
     Ok(place)
 }
 
-// The choice by a cell that is no inverter. Where a branch is a constant it is a gate of two operands.
+// `c` is no inverter. Constant branches become gates of two operands.
 fn add_plain_mux(net: &mut Net, index: &mut Index, c: u32, t: u32, e: u32) -> Result<u32, NoMemory>
     requires none { net.old.boxes ≡ [] }
     requires c { c < length net.old.cells }
@@ -72,7 +71,7 @@ fn add_plain_mux(net: &mut Net, index: &mut Index, c: u32, t: u32, e: u32) -> Re
     place_of_gate(net, index, Cell::Mux(c, t, e))
 }
 
-/// The choice between two cells by a third: the branches are exchanged where that is an inverter.
+/// An inverted condition swaps the branches, so `c ? t : e` and `!c ? e : t` are one gate.
 pub(crate) fn add_mux(
     net: &mut Net,
     index: &mut Index,

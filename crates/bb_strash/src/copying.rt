@@ -1,4 +1,5 @@
-//! A netlist is copied into another.
+//! Copying a netlist into a hashed one, with a hook that may replace each copied cell. Hashing alone and SAT sweeping
+//! are then one loop.
 
 ghost use Rattle.std.specs.Prelude.{◌≡◌, ◌+◌, ◌*◌, ◌<◌, ◌^◌, [], length, IfOk, OnOk};
 ghost use Rattle.bb_strash.specs.Inside.Extensions.{bit, Extends, Gives};
@@ -7,13 +8,13 @@ ghost use Rattle.bb_strash.specs.Inside.Copies.{AreCopied};
 use crate::bit_laws::bits;
 use crate::hashed::Hashed;
 use bb_bits::NoMemory;
-use bb_filled::moved;
 use bb_net::Net;
+use bb_subst::moved;
 use std::alloc::Global;
 
-/// Which cells of a copy go on as others that have the same bit at every vector.
+/// Chooses another cell for a copied one; the contract demands that both have the same bit at every vector.
 pub trait Merger {
-    /// A cell with the bits of the one at `place`, which was copied from the cell `number` of the source.
+    /// `number` is the cell in the source, `place` its copy.
     fn merge(
         &mut self,
         alloc: Global,
@@ -28,7 +29,7 @@ pub trait Merger {
         ensures gives { IfOk result (λ other. Gives hashed.new other (λ x. bit hashed.old x place)) };
 }
 
-/// No cell goes on as another.
+/// Structural hashing alone.
 #[derive(Clone, Copy, Debug)]
 pub struct Unmerged;
 
@@ -46,7 +47,8 @@ impl Merger for Unmerged {
     }
 }
 
-/// Copies the cells of a netlist without boxes, and gives the place of each, in order.
+/// The answer gives the new place of each cell, in source order. Later cells read merged places, so merges accumulate
+/// from the inputs on.
 pub fn copy<M: Merger>(
     alloc: Global,
     hashed: &mut Hashed,

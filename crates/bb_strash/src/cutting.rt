@@ -1,4 +1,6 @@
-//! Windows of a netlist.
+//! Windows: the cone of a cell, cut at leaves. A window treats its leaves as free inputs, so it has every behaviour of
+//! the cone and perhaps more: what holds in the window holds in the netlist. The cut is a guess of `parts`; numbers are
+//! tested here, so nothing is proved of the guess.
 
 ghost use Rattle.std.specs.Prelude.{List, ◌≡◌, ◌+◌, ◌*◌, ◌<◌, ◌≤◌, ◌^◌, ◌++◌, ◌∷◌, [], ℕ, length, IfOk, IfSome, OnOk};
 ghost use Rattle.std.specs.List.{range_with_len};
@@ -15,17 +17,17 @@ use bb_net::{Cell, Net};
 use indexmap::IndexMap;
 use std::alloc::Global;
 
-/// A part of the cone of a cell, with the cells at which it is cut, in the order of its inputs.
+/// `leaves[i]` is the cell of the whole netlist at input `i` of the window.
 #[derive(Debug, Drop)]
 pub struct Window {
     pub net: Net,
     pub leaves: Vec<u32>,
 }
 
-// The most gates and leaves.
+// At most five cells are added for each, so places of the window stay within 32 bits.
 const MOST: usize = 1 << 27;
 
-// The constants, the leaves, and then the gates of a window, each behind those that it reads.
+// In the order of the window: constants, leaves, then gates after those that they read.
 fn known_cells(alloc: Global, part: &Part) -> Result<Vec<u32>, NoMemory>
     ensures { IfOk result (λ known. (more : List ℕ) × (known.items ≡ 0 ∷ 1 ∷ part.now.leaves.items ++ more)) }
 {
@@ -37,7 +39,7 @@ fn known_cells(alloc: Global, part: &Part) -> Result<Vec<u32>, NoMemory>
     Ok(known)
 }
 
-// Adds the gates, the first one first.
+// The list has the last gate first; reversed, operands come before their readers.
 fn push_gates(known: &mut Vec<u32>, gates: &[u32]) -> Result<(), NoMemory>
     ensures { OnOk result ((more : List ℕ) × (known.new.items ≡ known.old.items ++ more)) }
 {
@@ -47,7 +49,6 @@ fn push_gates(known: &mut Vec<u32>, gates: &[u32]) -> Result<(), NoMemory>
     Ok(())
 }
 
-// The number of each cell of a window.
 fn numbers(alloc: Global, known: &[u32]) -> Result<IndexMap<u32, usize>, NoMemory> {
     let mut numbers = IndexMap::with_capacity(alloc, known.len())?;
     for (number, place) in known.iter().enumerate() {
@@ -56,7 +57,7 @@ fn numbers(alloc: Global, known: &[u32]) -> Result<IndexMap<u32, usize>, NoMemor
     Ok(numbers)
 }
 
-// The places of the constants and the leaves in the window.
+// Constants are cells 0 and 1, and the leaves follow: a place equals its number there.
 fn first_places(alloc: Global, count: u32) -> Result<Vec<u32>, NoMemory>
     ensures places { IfOk result (λ places. places.items ≡ range_with_len 0 count) }
 {
@@ -67,7 +68,7 @@ fn first_places(alloc: Global, count: u32) -> Result<Vec<u32>, NoMemory>
     Ok(places)
 }
 
-/// Where the cells of a netlist stand in a window. What the numbers say is looked at before it is believed.
+/// Look-up tables from cells to places in the window. Hints: `place_in` tests each.
 #[derive(Clone, Copy)]
 struct Known<'a> {
     cells: &'a [u32],
@@ -75,7 +76,7 @@ struct Known<'a> {
     places: &'a [u32],
 }
 
-// The place of a cell in the window. None where it has none yet.
+// None for a cell that is not in the window yet.
 fn place_in(known: Known, cell: u32) -> Option<u32>
     ensures { IfSome result (λ place. IsMoved known.entry.cells.now known.entry.places.now cell place) }
 {
@@ -87,7 +88,7 @@ fn place_in(known: Known, cell: u32) -> Option<u32>
     }
 }
 
-// The gate over the places in the window of what it reads. None where one of these has none.
+// None where an operand is missing, and for inputs, which are leaves.
 fn moved_gate(known: Known, gate: Cell) -> Option<Cell>
     ensures { IfSome result (λ new. IsMovedGate known.entry.cells.now known.entry.places.now gate new) }
 {
@@ -106,7 +107,6 @@ fn moved_gate(known: Known, gate: Cell) -> Option<Cell>
     }
 }
 
-// The same for the gate at a place.
 fn moved_at(known: Known, cells: &[Cell], place: u32) -> Option<Cell>
     ensures { IfSome result (λ new. (place < length cells.now)
         × IsMovedGate known.entry.cells.now known.entry.places.now (cell_at cells.now place) new) }
@@ -114,7 +114,7 @@ fn moved_at(known: Known, cells: &[Cell], place: u32) -> Option<Cell>
     moved_gate(known, *cells.get(place as usize)?)
 }
 
-// Adds the gates of a window to its leaves. False where one reads what has no place.
+// False where an operand is missing, that is, where the guess was no cut.
 fn add_gates(
     hashed: &mut Hashed,
     net: &Net,
@@ -148,7 +148,6 @@ fn add_gates(
     Ok(true)
 }
 
-// A window of its constants and leaves alone, and where they stand in it.
 #[derive(Debug, Drop)]
 struct Begun {
     hashed: Hashed,
@@ -173,7 +172,6 @@ fn begin(alloc: Global, net: &Net, cells: &[u32], leaves: &[u32]) -> Result<Begu
     Ok(Begun { hashed, places })
 }
 
-// The netlist with this one output.
 fn with_output(alloc: Global, hashed: Hashed, root: u32) -> Result<Net, NoMemory>
     requires there { root < length hashed.cells }
     requires none { hashed.outs ≡ [] }
@@ -184,7 +182,7 @@ fn with_output(alloc: Global, hashed: Hashed, root: u32) -> Result<Net, NoMemory
     hashed.finish(outs)
 }
 
-// The window of a cell that has these leaves and gates. None where a gate reads what is not among them.
+// None where the leaves are no cut of the cone.
 fn cut(
     alloc: Global,
     net: &Net,
@@ -219,8 +217,8 @@ fn cut(
     Ok(Some(part))
 }
 
-/// The window of a cell with at most so many gates, the last ones of its cone; where these are all, its leaves are
-/// inputs. None where it has more than 2^27 leaves or gates.
+/// At most `most` gates, the last ones of the cone; with all of them the leaves are inputs and the window is the cone.
+/// None beyond 2^27 leaves or gates.
 pub fn window_of(
     alloc: Global,
     net: &Net,

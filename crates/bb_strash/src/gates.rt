@@ -1,4 +1,6 @@
-//! Gates are added in one form each, where constants and equal operands are folded.
+//! Normal forms of not, and, or, xor. An or becomes an and of inverters, and inverters are pulled out of xors, so that
+//! gates with the same function of the same operands get one key; operands of commutative gates are sorted by place.
+//! Constants, equal and complementary operands are folded.
 
 ghost use Rattle.std.specs.Prelude.{◌≡◌, ◌⊎◌, ◌+◌, ◌<◌, ◌^◌, ◌&&◌, ◌||◌, not, [], length, IfOk, IfSome, OnOk};
 ghost use Rattle.bb_net.specs.Netlists.{IsNetlist};
@@ -12,7 +14,7 @@ use crate::places::place_of_gate;
 use bb_bits::NoMemory;
 use bb_net::{Cell, Net};
 
-/// The inverse of a cell.
+/// No inverter of an inverter is made.
 pub(crate) fn add_not(net: &mut Net, index: &mut Index, a: u32) -> Result<u32, NoMemory>
     requires none { net.old.boxes ≡ [] }
     requires a { a < length net.old.cells }
@@ -34,7 +36,6 @@ pub(crate) fn add_not(net: &mut Net, index: &mut Index, a: u32) -> Result<u32, N
     }
 }
 
-// The cell that is the conjunction of two, where it is one of them or a constant.
 fn folded_and(net: &Net, a: u32, b: u32) -> Option<u32>
     requires none { net.now.boxes ≡ [] }
     requires a { a < length net.now.cells }
@@ -56,7 +57,6 @@ fn folded_and(net: &Net, a: u32, b: u32) -> Option<u32>
     None
 }
 
-// The conjunction of two cells, the earlier one first.
 fn and_of(a: u32, b: u32) -> Cell
     ensures { (result ≡ Cell.And a b) ⊎ (result ≡ Cell.And b a) }
 {
@@ -67,7 +67,6 @@ fn and_of(a: u32, b: u32) -> Cell
     }
 }
 
-/// The conjunction of two cells.
 pub(crate) fn add_and(net: &mut Net, index: &mut Index, a: u32, b: u32) -> Result<u32, NoMemory>
     requires none { net.old.boxes ≡ [] }
     requires a { a < length net.old.cells }
@@ -83,7 +82,7 @@ pub(crate) fn add_and(net: &mut Net, index: &mut Index, a: u32, b: u32) -> Resul
     }
 }
 
-/// The disjunction of two cells: the inverse of the conjunction of their inverses.
+/// By De Morgan; adds at most four cells.
 pub(crate) fn add_or(net: &mut Net, index: &mut Index, a: u32, b: u32) -> Result<u32, NoMemory>
     requires none { net.old.boxes ≡ [] }
     requires a { a < length net.old.cells }
@@ -100,7 +99,7 @@ pub(crate) fn add_or(net: &mut Net, index: &mut Index, a: u32, b: u32) -> Result
     Ok(either)
 }
 
-// The exclusive or of two cells, where it is one of them or 0.
+// Complementary operands need no case: the caller has removed inverters.
 fn folded_xor(net: &Net, a: u32, b: u32) -> Option<u32>
     requires none { net.now.boxes ≡ [] }
     requires a { a < length net.now.cells }
@@ -122,7 +121,6 @@ fn folded_xor(net: &Net, a: u32, b: u32) -> Option<u32>
     None
 }
 
-// The exclusive or of two cells, the earlier one first.
 fn xor_of(a: u32, b: u32) -> Cell
     ensures { (result ≡ Cell.Xor a b) ⊎ (result ≡ Cell.Xor b a) }
 {
@@ -133,7 +131,6 @@ fn xor_of(a: u32, b: u32) -> Cell
     }
 }
 
-// The exclusive or of two cells that are no inverters.
 fn add_plain_xor(net: &mut Net, index: &mut Index, a: u32, b: u32) -> Result<u32, NoMemory>
     requires none { net.old.boxes ≡ [] }
     requires a { a < length net.old.cells }
@@ -149,7 +146,6 @@ fn add_plain_xor(net: &mut Net, index: &mut Index, a: u32, b: u32) -> Result<u32
     }
 }
 
-// A cell, or its inverse.
 fn add_signed(net: &mut Net, index: &mut Index, a: u32, inverse: bool) -> Result<u32, NoMemory>
     requires none { net.old.boxes ≡ [] }
     requires a { a < length net.old.cells }
@@ -165,7 +161,7 @@ fn add_signed(net: &mut Net, index: &mut Index, a: u32, inverse: bool) -> Result
     }
 }
 
-/// The exclusive or of two cells: that of the cells without their inverters, inverted where there is one of these.
+/// Inverters of the operands move to the output, where two cancel.
 pub(crate) fn add_xor(net: &mut Net, index: &mut Index, a: u32, b: u32) -> Result<u32, NoMemory>
     requires none { net.old.boxes ≡ [] }
     requires a { a < length net.old.cells }

@@ -1,4 +1,5 @@
-//! A netlist without boxes in which gates are looked up before they are added.
+//! A netlist that grows by hashed gates. Its first cells are the two constants, then the inputs, at fixed places, so
+//! folding recognizes constants by place.
 
 ghost use Rattle.std.specs.Prelude.{◌≡◌, ◌+◌, ◌<◌, ◌^◌, [], ℕ, All, length, IfOk, OnOk};
 ghost use Rattle.bb_net.specs.Netlists.{first_cells, IsNetlist, ReadsBefore};
@@ -13,9 +14,8 @@ use bb_net::{Cell, Net};
 use std::alloc::Global;
 use std::marker::Model;
 
-/// A netlist without boxes that is built cell by cell. A gate over the same cells as an earlier one adds none, nor does
-/// one with a constant operand, two equal operands, or one operand that is the other's inverse, where that makes it a
-/// constant or one of them.
+/// A netlist without boxes, built cell by cell. Gates over the same cells are shared, and those that a constant, an
+/// equal or a complementary operand decides are not made.
 #[derive(Debug, Drop)]
 pub struct Hashed {
     net: Net,
@@ -30,7 +30,6 @@ impl Model for Hashed {
     ghost view = { λ h. h.net };
 }
 
-// Adds a cell over cells that are there.
 fn add_cell(net: &mut Net, index: &mut Index, cell: Cell) -> Result<u32, NoMemory>
     requires none { net.old.boxes ≡ [] }
     requires reads { ReadsBefore net.old.inputs [] (length net.old.cells) cell }
@@ -54,7 +53,7 @@ fn add_cell(net: &mut Net, index: &mut Index, cell: Cell) -> Result<u32, NoMemor
 }
 
 impl Hashed {
-    /// The netlist of the constants and the inputs alone.
+    /// Constants 0 and 1 at places 0 and 1; input `i` at place `i + 2`.
     pub fn start(alloc: Global, inputs: u32) -> Result<Hashed, NoMemory>
         requires { inputs + 2 < 2 ^ 32 }
         ensures start { IfOk result (λ h. h ≡ record { inputs = inputs; cells = first_cells inputs; boxes = []; outs = [] }) }
@@ -64,7 +63,7 @@ impl Hashed {
         Ok(Hashed { net, index })
     }
 
-    /// The netlist as it stands.
+    /// Without outputs, which come with `finish`.
     pub fn net(&self) -> &Net
         ensures net { result.now ≡ self.now }
         ensures kept { IsNetlist self.now }
@@ -73,7 +72,7 @@ impl Hashed {
         &self.net
     }
 
-    /// The place of a cell that has at every vector the bit of this one; at most five cells are added for it.
+    /// The place of a cell with the same bit at every vector. Adds at most five cells, which bounds the size of a copy.
     pub fn add(&mut self, cell: Cell) -> Result<u32, NoMemory>
         requires none { self.old.boxes ≡ [] }
         requires reads { ReadsBefore self.old.inputs [] (length self.old.cells) cell }
@@ -85,7 +84,7 @@ impl Hashed {
         add_cell(&mut self.net, &mut self.index, cell)
     }
 
-    /// The netlist with these outputs.
+    /// Gives the netlist its outputs, in this order.
     pub fn finish(self, outs: Vec<u32>) -> Result<Net, NoMemory>
         requires there { All (λ place. place < length self.cells) outs.items }
         requires none { self.outs ≡ [] }

@@ -1,4 +1,5 @@
-//! Inverters, and cells without theirs.
+//! Inverters are cells here, not signs on edges as in an AIG: the netlist type has no signed edges. These look-ups
+//! recover the sign.
 
 ghost use Rattle.std.specs.Prelude.{◌≡◌, ◌≢◌, ◌⊎◌, ◌<◌, [], true, length, Bool, List, IfSome};
 ghost use Rattle.bb_net.specs.Netlists.{IsNetlist, cell_at};
@@ -8,7 +9,6 @@ ghost use Rattle.bb_strash.specs.Inside.Extensions.{bit};
 use crate::bit_laws::bits;
 use bb_net::{Cell, Net};
 
-/// The cell that an inverter reads. None where the cell is no inverter.
 pub(crate) fn inverted(net: &Net, a: u32) -> Option<u32>
     requires there { a < length net.now.cells }
     ensures { IfSome result (λ b. cell_at net.now.cells a ≡ Cell.Not b) }
@@ -19,7 +19,7 @@ pub(crate) fn inverted(net: &Net, a: u32) -> Option<u32>
     }
 }
 
-/// Is one of the two cells the other's inverter?
+/// Looks one inverter deep, which is enough: no inverter of an inverter is made.
 pub(crate) fn are_complements(net: &Net, a: u32, b: u32) -> bool
     requires a { a < length net.now.cells }
     requires b { b < length net.now.cells }
@@ -28,14 +28,13 @@ pub(crate) fn are_complements(net: &Net, a: u32, b: u32) -> bool
     inverted(net, a) == Some(b) || inverted(net, b) == Some(a)
 }
 
-/// A cell, and whether an inverter stands behind it.
 #[derive(Clone, Copy, Debug)]
 pub(crate) struct Signed {
     pub place: u32,
     pub inverted: bool,
 }
 
-/// The cell without its inverter; 1 is 0 inverted.
+/// The constant 1 counts as 0 inverted, so folding needs only the constant 0.
 pub(crate) fn without_inverter(net: &Net, a: u32) -> Signed
     requires none { net.now.boxes ≡ [] }
     requires there { a < length net.now.cells }

@@ -1,4 +1,6 @@
-//! The miter of two netlists.
+//! The miter (Brand 1993) over shared cells: both netlists are copied into one hashed netlist, so outputs whose cones
+//! have the same structure give the constant 0 without search. The disjunction of the outputs is left out, since each
+//! output is searched by itself.
 
 ghost use Rattle.std.specs.Prelude.{◌≡◌, ◌+◌, ◌*◌, ◌<◌, ◌^◌, [], ℕ, length, slice_index, IfOk, IfSome, OnOk};
 ghost use Rattle.bb_net.specs.Values.{xor};
@@ -9,14 +11,13 @@ use crate::bit_laws::bits;
 use crate::copying::{Unmerged, copy};
 use crate::hashed::Hashed;
 use bb_bits::NoMemory;
-use bb_filled::place_of;
 use bb_net::{Cell, Net};
+use bb_subst::place_of;
 use std::alloc::Global;
 
-// The most cells and outputs of each of the two.
+// Five cells for each copied one then stay below 2^32.
 pub(crate) const MOST: usize = 1 << 25;
 
-// The exclusive or of outputs, pair by pair. The first places of each pair are among the first list of places.
 fn differences(
     alloc: Global,
     hashed: &mut Hashed,
@@ -51,8 +52,7 @@ fn differences(
     Ok(all)
 }
 
-/// The miter of two netlists without boxes, with the same inputs and as many outputs, over cells that they share. None
-/// where they have more than 2^25 cells or outputs.
+/// Output `j` is the xor of the outputs `j`. None beyond 2^25 cells or outputs.
 pub fn miter(alloc: Global, spec: &Net, imp: &Net) -> Result<Option<Net>, NoMemory>
     requires inputs { spec.now.inputs ≡ imp.now.inputs }
     requires outputs { length spec.now.outs ≡ length imp.now.outs }

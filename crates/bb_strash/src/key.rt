@@ -1,9 +1,10 @@
-//! What a gate is looked up by.
+//! Keys of hashed gates: only the normal forms have one, since all others are turned into these before they are looked
+//! up.
 
 use bb_net::Cell;
 use indexmap::IndexMap;
 
-/// A gate over places of cells, by which its own place is looked up.
+/// Or has no key, as it becomes an and of inverters.
 #[derive(Clone, Copy, Debug, PartialEq, Eq, Hash)]
 pub(crate) enum Key {
     Not(u32),
@@ -13,11 +14,10 @@ pub(crate) enum Key {
     Other,
 }
 
-/// The places of gates. What it says is looked at before it is believed.
+/// A hint: a place from here is compared with the cell there before it is used.
 pub(crate) type Index = IndexMap<Key, u32>;
 
 impl Key {
-    /// The key of a cell.
     pub(crate) fn of(cell: Cell) -> Key {
         match cell {
             Cell::Not(a) => Key::Not(a),

@@ -1,5 +1,6 @@
-//! Structural hashing: netlists without boxes in which gates are looked up before they are added, the miter of two
-//! netlists, and windows of one.
+//! Structural hashing of netlists without boxes (AIG-like, with xor and mux kept), the miter of two netlists, and
+//! windows for SAT sweeping. Only equality of bits is proved: that no gate occurs twice is not, since no answer depends
+//! on it.
 #![tactic(auto)]
 
 mod bit_laws;

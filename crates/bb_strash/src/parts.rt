@@ -1,18 +1,20 @@
-//! Which cells a window has.
+//! The choice of a window, by a heap of places (cuts and heaps, Kuehlmann and Krohm 1997): the cells of the cone with
+//! the highest places. Cells read only lower places, so popping the highest first visits each cell once, in reverse
+//! topological order, and any stop leaves a cut.
 
 use bb_bits::NoMemory;
 use bb_net::{Cell, Net};
 use std::alloc::Global;
 use std::collections::BinaryHeap;
 
-/// The cells of a window, each list from the last one to the first: those at which it is cut, and the gates.
+/// Both lists from the last cell to the first.
 #[derive(Debug, Drop)]
 pub(crate) struct Part {
     pub leaves: Vec<u32>,
     pub gates: Vec<u32>,
 }
 
-// Adds what a cell reads. An input reads nothing, and is where each window ends.
+// Inputs end every window.
 fn push_operands(heap: &mut BinaryHeap<u32>, cell: Cell) -> Result<(), NoMemory> {
     match cell {
         Cell::Const(_) | Cell::Input(_) | Cell::BoxOut(_, _) => {}
@@ -30,7 +32,7 @@ fn push_operands(heap: &mut BinaryHeap<u32>, cell: Cell) -> Result<(), NoMemory>
     Ok(())
 }
 
-/// The window of a cell that has at most so many gates: those behind it that stand last.
+/// Up to `most` gates, those of the cone with the highest places.
 pub(crate) fn part_of(alloc: Global, net: &Net, place: u32, most: usize) -> Result<Part, NoMemory> {
     let mut part = Part {
         leaves: Vec::new(alloc),
@@ -39,7 +41,7 @@ pub(crate) fn part_of(alloc: Global, net: &Net, place: u32, most: usize) -> Resu
     let mut heap = BinaryHeap::new(alloc);
     heap.push(place)?;
     let mut last = None;
-    // Each gate adds at most three cells.
+    // Each gate pushes at most three cells, which bounds the loop.
     let most_visits = net.cells().len().saturating_mul(3).saturating_add(1);
     for _ in 0..most_visits {
         let Some(here) = heap.pop() else {

@@ -1,4 +1,5 @@
-//! A netlist in which cells go on as others.
+//! A copy of a netlist in which a `Merger` replaces cells. Cells that are no longer read stay in the copy; they cost
+//! memory only, since searches work on cones of outputs.
 
 ghost use Rattle.std.specs.Prelude.{◌≡◌, ◌<◌, [], map, slice_index, IfOk, IfSome};
 ghost use Rattle.bb_strash.specs.Inside.Miters.{HasOutputsOf};
@@ -8,11 +9,10 @@ use crate::copying::{Merger, copy};
 use crate::hashed::Hashed;
 use crate::joining::MOST;
 use bb_bits::NoMemory;
-use bb_filled::place_of;
 use bb_net::Net;
+use bb_subst::place_of;
 use std::alloc::Global;
 
-// The new places of cells.
 fn new_places(alloc: Global, places: &[u32], old: &[u32]) -> Result<Vec<u32>, NoMemory>
     ensures { IfOk result (λ new. new.items ≡ map (slice_index places.now) old.now) }
 {
@@ -23,7 +23,7 @@ fn new_places(alloc: Global, places: &[u32], old: &[u32]) -> Result<Vec<u32>, No
     Ok(new)
 }
 
-/// The netlist with the same outputs at every vector in which cells are merged. None where it has more than 2^25 cells.
+/// Same outputs at every vector. None beyond 2^25 cells.
 pub fn swept<M: Merger>(alloc: Global, net: &Net, merger: &mut M) -> Result<Option<Net>, NoMemory>
     requires none { net.now.boxes ≡ [] }
     ensures { IfOk result (λ found. IfSome found (HasOutputsOf net.now)) }

@@ -1,6 +1,6 @@
 -- the laws, each from its lemma
 use Rattle.std.proofs.Common.{◌≡◌, ◌<◌, ℕ, Bool, true, List, inl, inr, arith}
-use Rattle.bb_lists.proofs.Bits.{not_true, never_both}
+use Rattle.bb_lemmas.proofs.Bits.{not_true, never_both}
 use Rattle.bb_bits.specs.Laws.TruthLaws.{SizeLaws}
 use Rattle.bb_uniq.specs.Laws.{SequenceLaws}
 use Rattle.bb_sym.specs.Laws.{FunctionLaws, MakingLaws, PointLaws}
@@ -8,8 +8,8 @@ use Rattle.bb_sym.specs.Plain.{Function, one_of}
 use Rattle.bb_sym.proofs.Budget.{all_refused, all_fit}
 use Rattle.bb_sym.proofs.FunctionTables.{truth_at-table, table_size, table_same, combined-table, constant-table, variable-table}
 use Rattle.bb_sym.proofs.LeastVectors.{number_of-append, number_of-zeros, first_is_least}
-use Rattle.bb_sym.proofs.MadeLemmas.{Makes-none, Makes-one, Makes-then, Makes-same, too_many_one, too_many_then, too_many_within, any_cases, within_append_left, within_append_right, StandsFor-kept, StandForAll-kept}
-use Rattle.bb_sym.proofs.PickedRefs.{picked_refs, picked_stand}
+use Rattle.bb_sym.proofs.MadeLemmas.{Makes-none, Makes-one, Makes-then, Makes-same, too_many_one, too_many_then, too_many_within, any_cases, within_append_left, within_append_right, Represents-kept, RepresentAll-kept}
+use Rattle.bb_sym.proofs.PickedRefs.{picked_refs, picked_occur}
 use Rattle.bb_sym.proofs.WrongTables.{HaveCells-kept}
 use Rattle.bb_sym.proofs.SomeWrong.{any_there, any_of, none_of}
 
@@ -43,11 +43,11 @@ making_laws sequences sizes = record {
   refused_more = too_many_within;
   start_refused = λ s ts e. all_refused sequences s e ts;
   start_fits = λ s now ts e sound. all_fit sequences sizes s now e sound ts;
-  stands_still = StandsFor-kept;
-  all_still = StandForAll-kept;
+  occurs_still = Represents-kept;
+  all_still = RepresentAll-kept;
   cells_still = HaveCells-kept;
   picked_refs = picked_refs;
-  picked_stand = picked_stand;
+  picked_occur = picked_occur;
 }
 
 pub point_laws : PointLaws

@@ -8,7 +8,7 @@ use Rattle.bb_uniq.specs.Inside.Nodes.{NodeStore}
 use Rattle.bb_uniq.specs.Inside.Meaning.{truth_of, Adds, IsTooMany}
 use Rattle.bb_sym.specs.Functions.{is_wrong, always_wrong, wrong_for_all_pins}
 use Rattle.bb_sym.specs.Plain.{block_functions, table}
-use Rattle.bb_sym.specs.Inside.Made.{Makes, AreTooMany, StandsFor}
+use Rattle.bb_sym.specs.Inside.Made.{Makes, AreTooMany, Represents}
 use Rattle.bb_sym.proofs.OutputLoop.{first_refused, rest_refused, first_makes}
 
 module _ (spec imp : Netlist) (inputs pins j : ℕ) (i : inputs ≡ imp.inputs) (k : pins ≡ output_pins imp.boxes) (old : NodeStore) (v : inputs + pins ≡ old.vars) where
@@ -31,5 +31,5 @@ module _ (spec imp : Netlist) (inputs pins j : ℕ) (i : inputs ≡ imp.inputs) 
   pub wrong_makes : (mid new : NodeStore) (f : Ref) → Adds old mid wrong f.0 → Makes mid new (block_functions ◌&&◌ inputs pins (truth_of mid f.0)) → Makes old new (wrong_for_all_pins spec imp j)
   wrong_makes mid new f added made = subst (Makes old new) list_is (first_makes old mid new wrong (block_functions ◌&&◌ inputs pins wrong) f.0 added (subst (λ t. Makes mid new (block_functions ◌&&◌ inputs pins t)) added.table made))
 
-  pub wrong_stands : (mid new : NodeStore) (f r : Ref) → Adds old mid wrong f.0 → StandsFor new (quantified_block ◌&&◌ inputs pins (truth_of mid f.0)) r → StandsFor new (always_wrong spec imp j) r
-  wrong_stands mid new f r added h = record { ref = h.ref; table = h.table ∙ (ap (quantified_block ◌&&◌ inputs pins) added.table ∙ last_is) }
+  pub wrong_occurs : (mid new : NodeStore) (f r : Ref) → Adds old mid wrong f.0 → Represents new (quantified_block ◌&&◌ inputs pins (truth_of mid f.0)) r → Represents new (always_wrong spec imp j) r
+  wrong_occurs mid new f r added h = record { ref = h.ref; table = h.table ∙ (ap (quantified_block ◌&&◌ inputs pins) added.table ∙ last_is) }

@@ -6,7 +6,7 @@ use Rattle.bb_uniq.specs.declared.store.Ref.{Ref}
 use Rattle.bb_uniq.specs.Inside.Nodes.{NodeStore}
 use Rattle.bb_uniq.specs.Inside.Meaning.{truth_of, Adds, IsTooMany}
 use Rattle.bb_sym.specs.Plain.{block_functions}
-use Rattle.bb_sym.specs.Inside.Made.{Makes, AreTooMany, StandsFor}
+use Rattle.bb_sym.specs.Inside.Made.{Makes, AreTooMany, Represents}
 use Rattle.bb_sym.proofs.MadeLemmas.{AreWithin, Makes-one, Makes-then, Makes-same, refused, listed, within_none, within_one, within_append, within_append_left, within_append_right}
 
 swapped : (x : Truth) (ts : List Truth) → AreWithin (ts ++ x ∷ []) (x ∷ ts)
@@ -48,17 +48,17 @@ module _ (op : Bool → Bool → Bool) (first count : ℕ) (t : Truth) where
       subst (λ n. Makes start now (map from_each (range_with_len 0 n))) (let whole : count - 0 ≡ count = omega arith in whole) (subst (λ i. Makes start now (functions_from i)) e h)
 
   -- one more variable
-  module _ (start old : NodeStore) (k : ℕ) (r : Ref) (l : k + 1 ≤ count) (stand : StandsFor old (from_each (k + 1)) r) (made : Makes start old (functions_from (k + 1))) where
+  module _ (start old : NodeStore) (k : ℕ) (r : Ref) (l : k + 1 ≤ count) (occur : Represents old (from_each (k + 1)) r) (made : Makes start old (functions_from (k + 1))) where
     next_is : quantified op (first + k) (truth_of old r.0) ≡ from_each k
-    next_is = ap (quantified op (first + k)) stand.table ∙ sym (from_each-earlier k l)
+    next_is = ap (quantified op (first + k)) occur.table ∙ sym (from_each-earlier k l)
 
     pub refused_earlier : IsTooMany old (quantified op (first + k) (truth_of old r.0)) → AreTooMany start (block_functions op first count t)
     refused_earlier many =
         refused start old (functions_from (k + 1)) (block_functions op first count t) (from_each k) made (subst (IsTooMany old) next_is many)
         (later_within (k + 1) (count - (k + 1)) (omega (arith, l))) (listed from_each 0 count k k (omega (arith, l)) (omega arith))
 
-    pub stands_earlier : (new : NodeStore) (q : Ref) → Adds old new (quantified op (first + k) (truth_of old r.0)) q.0 → StandsFor new (from_each k) q
-    stands_earlier new q added = record { ref = added.ref; table = added.table ∙ next_is }
+    pub occurs_earlier : (new : NodeStore) (q : Ref) → Adds old new (quantified op (first + k) (truth_of old r.0)) q.0 → Represents new (from_each k) q
+    occurs_earlier new q added = record { ref = added.ref; table = added.table ∙ next_is }
 
     pub makes_earlier : (new : NodeStore) (q : Ref) → Adds old new (quantified op (first + k) (truth_of old r.0)) q.0 → Makes start new (functions_from k)
     makes_earlier new q added =

@@ -3,7 +3,7 @@ use Rattle.std.proofs.Common.{◌≡◌, ◌<◌, ◌≤◌, ℕ, zero, suc, ◌
 use Rattle.std.specs.Prelude.{slice_index_or}
 use Rattle.std.proofs.lemmas.List.Sums.{sum_by-cons}
 use Rattle.bb_bits.specs.Bits.{xor}
-use Rattle.bb_bits.specs.Truth.{Truth, complement, joined, chosen}
+use Rattle.bb_bits.specs.Truth.{Truth, complement_of_table, joined_tables, chosen}
 use Rattle.bb_net.specs.declared.cell.Cell.{Cell}
 use Rattle.bb_net.specs.declared.cell.Cell.TheVariants.{Const, Input, Not, And, Or, Xor, Mux, BoxOut}
 use Rattle.bb_net.specs.Netlists.{Netlist, Pins, IsNetlist, IsOrdered, IsPinAt, ReadsBefore, cell_at, box_at}
@@ -32,10 +32,10 @@ pub cell_table-same : (n first inputs place : ℕ) (starts : List ℕ) (boxes : 
     cell_table n first starts at cell ≡ cell_table n first starts by cell
 cell_table-same n first inputs place starts boxes at by same (Const b) reads = refl
 cell_table-same n first inputs place starts boxes at by same (Input i) reads = refl
-cell_table-same n first inputs place starts boxes at by same (Not a) reads = ap complement (same a reads)
-cell_table-same n first inputs place starts boxes at by same (And a b) reads = ap₂ (joined ◌&&◌) (same a reads.0) (same b reads.1)
-cell_table-same n first inputs place starts boxes at by same (Or a b) reads = ap₂ (joined ◌||◌) (same a reads.0) (same b reads.1)
-cell_table-same n first inputs place starts boxes at by same (Xor a b) reads = ap₂ (joined xor) (same a reads.0) (same b reads.1)
+cell_table-same n first inputs place starts boxes at by same (Not a) reads = ap complement_of_table (same a reads)
+cell_table-same n first inputs place starts boxes at by same (And a b) reads = ap₂ (joined_tables ◌&&◌) (same a reads.0) (same b reads.1)
+cell_table-same n first inputs place starts boxes at by same (Or a b) reads = ap₂ (joined_tables ◌||◌) (same a reads.0) (same b reads.1)
+cell_table-same n first inputs place starts boxes at by same (Xor a b) reads = ap₂ (joined_tables xor) (same a reads.0) (same b reads.1)
 cell_table-same n first inputs place starts boxes at by same (Mux c t e) reads = ap₂ (λ u p. u p) (ap₂ chosen (same c reads.0) (same t reads.1)) (same e reads.2)
 cell_table-same n first inputs place starts boxes at by same (BoxOut b p) reads = refl
 

@@ -1,11 +1,11 @@
--- tables with more variables, on which nothing depends, in front of the others or behind them
+-- tables with more variables, on which nothing depends, before the others or after them
 use Rattle.std.proofs.Common.{◌≡◌, ℕ, zero, suc, ◌+◌, Bool, false, true, [], ◌∷◌, take, drop, refl, sym, ap, ap₂, ◌∙◌, subst, inl, inr, arith}
 use Rattle.bb_bits.specs.Truth.{Truth, Bit, Halves, lifted, constant, IsSubtableOf, IsBead, IsBeadOf}
 use Rattle.bb_bits.specs.Laws.TruthLaws.{TableLaws}
 use Rattle.bb_sym.specs.Plain.{Function, table}
 use Rattle.bb_sym.proofs.FunctionTables.{constant-table}
 
--- a table with so many more variables behind the others, on which nothing depends
+-- a table with so many more variables after the others, on which nothing depends
 abbrev pub deepened : ℕ → Truth → Truth
 deepened m (Bit b) = constant m b
 deepened m (Halves lo hi) = Halves (deepened m lo) (deepened m hi)
@@ -60,11 +60,11 @@ bead_deepened laws m (Halves lo hi) h = λ e. h (deepened_same laws m lo hi e)
 pub beads_deepened : TableLaws → (m : ℕ) (b t : Truth) → IsBeadOf b t → IsBeadOf (deepened m b) (deepened m t)
 beads_deepened laws m b t h = (subtable_deepened m b t h.0, bead_deepened laws m b h.1)
 
--- the table of a function of the variables behind the first ones, and of one of the variables before the last ones
-pub table-behind : (k n vars : ℕ) (f : Function) → vars ≡ k + n → table vars (λ p. f (drop k p)) ≡ lifted k (table n f)
-table-behind zero n vars f e = let same : vars ≡ n = omega (arith, e) in ap (λ i. table i f) same
-table-behind (suc k) n zero f e = absurd (omega (arith, e))
-table-behind (suc k) n (suc vars) f e = let rest = table-behind k n vars f (omega (arith, e)) in ap₂ Halves rest rest
+-- the table of a function of the variables after the first ones, and of one of the variables before the last ones
+pub table-after : (k n vars : ℕ) (f : Function) → vars ≡ k + n → table vars (λ p. f (drop k p)) ≡ lifted k (table n f)
+table-after zero n vars f e = let same : vars ≡ n = omega (arith, e) in ap (λ i. table i f) same
+table-after (suc k) n zero f e = absurd (omega (arith, e))
+table-after (suc k) n (suc vars) f e = let rest = table-after k n vars f (omega (arith, e)) in ap₂ Halves rest rest
 
 pub table-before : (n m vars : ℕ) (f : Function) → vars ≡ n + m → table vars (λ p. f (take n p)) ≡ deepened m (table n f)
 table-before zero m vars f e = let same : vars ≡ m = omega (arith, e) in ap (λ i. table i (λ p. f [])) same ∙ sym (constant-table m (f []))

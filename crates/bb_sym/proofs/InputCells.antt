@@ -9,9 +9,9 @@ use Rattle.bb_sym.specs.declared.known_gates.DualRail.{DualRail}
 use Rattle.bb_uniq.specs.Inside.Nodes.{NodeStore}
 use Rattle.bb_sym.specs.Functions.{spec_bit, known_tables, mismatches, symbolic_functions}
 use Rattle.bb_sym.specs.Plain.{Reading, AreVariables, IsReadSo, cell_bit, table, tables, variables, places, outputs}
-use Rattle.bb_sym.specs.Inside.Made.{Makes, AreTooMany, StandForAll}
+use Rattle.bb_sym.specs.Inside.Made.{Makes, AreTooMany, RepresentAll}
 use Rattle.bb_sym.specs.Inside.Rails.{HaveAllRails, HaveKnown, known_functions, known_rails}
-use Rattle.bb_sym.proofs.MadeLemmas.{within_append_left, too_many_within, too_many_then, Makes-then, StandForAll-kept}
+use Rattle.bb_sym.proofs.MadeLemmas.{within_append_left, too_many_within, too_many_then, Makes-then, RepresentAll-kept}
 use Rattle.bb_sym.proofs.PlainCells.{no_pin}
 
 -- a point is the bits of the inputs
@@ -68,13 +68,13 @@ module _ (p : NetPair) (pair : IsPair p) (a : NodeStore) (v : p.imp.inputs ≡ a
         pub input_cells_made : Makes a last all_cells
         input_cells_made = Makes-then a b last (variables p.imp.inputs) (bits ++ known) first_made (Makes-then b mid last bits known second_made third)
 
-        pub input_cells_stand : (of_spec : List Ref) (of_imp : List DualRail) → (length of_spec ≡ length p.spec.cells) × StandForAll mid (λ place. table b.vars (cell_bit inputs_only p.spec place)) of_spec → (length of_imp ≡ length p.imp.cells) × HaveAllRails last (known_rails p.imp) of_imp →
+        pub input_cells_occur : (of_spec : List Ref) (of_imp : List DualRail) → (length of_spec ≡ length p.spec.cells) × RepresentAll mid (λ place. table b.vars (cell_bit inputs_only p.spec place)) of_spec → (length of_imp ≡ length p.imp.cells) × HaveAllRails last (known_rails p.imp) of_imp →
             HaveKnown last p.spec p.imp of_spec of_imp
-        input_cells_stand of_spec of_imp s i = record {
+        input_cells_occur of_spec of_imp s i = record {
           spec_whole = s.0;
           imp_whole = i.0;
           spec_cells = λ place l.
-              let h = StandForAll-kept mid last (λ place. table b.vars (cell_bit inputs_only p.spec place)) of_spec third.kept s.1 place l in
+              let h = RepresentAll-kept mid last (λ place. table b.vars (cell_bit inputs_only p.spec place)) of_spec third.kept s.1 place l in
               record { ref = h.ref; table = h.table ∙ ap (λ n. table n (cell_bit inputs_only p.spec place)) b_vars };
           imp_cells = i.1;
         }

@@ -19,7 +19,7 @@ pub record KnownMade (first now : NodeStore) (net : Netlist) (made : List DualRa
   pub fit : net.inputs ≡ first.vars
   pub there : i < length net.cells
   pub count : length made ≡ i
-  pub stand : HaveAllRails now (known_rails net) made
+  pub occur : HaveAllRails now (known_rails net) made
   pub makes : Makes first now (flat_map (known_tables net) (range_with_len 0 i))
 
 module _ (first now : NodeStore) (net : Netlist) (made : List DualRail) (i : ℕ) (m : KnownMade first now net made i) where
@@ -30,7 +30,7 @@ module _ (first now : NodeStore) (net : Netlist) (made : List DualRail) (i : ℕ
   vars_is = m.makes.kept.vars ∙ sym m.fit
 
   same : (k : ℕ) → k < i → rails_at now made k ≡ known_rails net k
-  same k l = HaveRails-tables now (known_rails net k) (pair_at made k) (m.stand k (omega (arith, l, m.count)))
+  same k l = HaveRails-tables now (known_rails net k) (pair_at made k) (m.occur k (omega (arith, l, m.count)))
 
   reads : ReadsBefore net.inputs net.boxes i cell
   reads = m.kept.ordered i m.there
@@ -57,7 +57,7 @@ module _ (first now : NodeStore) (net : Netlist) (made : List DualRail) (i : ℕ
     known_made = flat_makes first now new (known_tables net) i m.makes (subst (Makes now new) next_tables makes)
 
     pub known_next : TernExists → (r : DualRail) → HaveRails new (cell_rails now.vars (rails_at now made) cell) r → HaveAllRails new (known_rails net) (made ++ r ∷ [])
-    known_next exists r h = HaveAllRails-push now new (known_rails net) made r i m.count makes.kept m.stand (subst (λ t. HaveRails new t r) (next_rails exists) h)
+    known_next exists r h = HaveAllRails-push now new (known_rails net) made r i m.count makes.kept m.occur (subst (λ t. HaveRails new t r) (next_rails exists) h)
 
 -- the parts as the loop reads them
 pub known_parts : (first now : NodeStore) (net : Netlist) (i : ℕ) (cells : List Cell) (made read : List DualRail) → IsNetlist net → net.inputs ≡ first.vars → cells ≡ net.cells → i < length cells → read ≡ made →
@@ -67,6 +67,6 @@ known_parts first now net i cells made read kept fit same there is invariant = r
   fit = fit;
   there = omega (arith, there, ap length same);
   count = ap length is ∙ invariant.0;
-  stand = subst (HaveAllRails now (known_rails net)) (sym is) invariant.1;
+  occur = subst (HaveAllRails now (known_rails net)) (sym is) invariant.1;
   makes = invariant.2;
 }

@@ -1,6 +1,6 @@
 -- the tables of the cells of an implementation whose boxes are unknown
 use Rattle.std.proofs.Common.{◌≡◌, ◌<◌, ℕ, Bool, false, not, ◌&&◌, ◌||◌, List, [], ◌∷◌, length, Contains, Option, refl, sym, ap, ap₂, subst, arith, ◌∙◌}
-use Rattle.bb_bits.specs.Truth.{Truth, complement, joined}
+use Rattle.bb_bits.specs.Truth.{Truth, complement_of_table, joined_tables}
 use Rattle.bb_net.specs.declared.cell.Cell.{Cell}
 use Rattle.bb_net.specs.declared.cell.Cell.TheVariants.{Const, Input, Not, And, Or, Xor, Mux, BoxOut}
 use Rattle.bb_net.specs.Netlists.{Netlist, Pins, IsNetlist, IsOrdered, ReadsBefore, cell_at}
@@ -25,10 +25,10 @@ either-table : (n : ℕ) (f g : Function) → either (table n f) (table n g) ≡
 either-table n f g = combined-table n (λ a b c. a || b) f g f
 
 pub sum-table : (n : ℕ) (a b c e : Function) → sum_table (table n a) (table n b) (table n c) (table n e) ≡ table n (λ x. (a x && b x) || (c x && e x))
-sum-table n a b c e = ap₂ (joined ◌||◌) (both-table n a b) (both-table n c e) ∙ either-table n (λ x. a x && b x) (λ x. c x && e x)
+sum-table n a b c e = ap₂ (joined_tables ◌||◌) (both-table n a b) (both-table n c e) ∙ either-table n (λ x. a x && b x) (λ x. c x && e x)
 
 choice-table : (n : ℕ) (c d t e : Function) → choice_table (table n c) (table n d) (table n t) (table n e) ≡ table n (λ x. ((c x && t x) || (d x && e x)) || (t x && e x))
-choice-table n c d t e = ap₂ (joined ◌||◌) (sum-table n c t d e) (both-table n t e) ∙ either-table n (λ x. (c x && t x) || (d x && e x)) (λ x. t x && e x)
+choice-table n c d t e = ap₂ (joined_tables ◌||◌) (sum-table n c t d e) (both-table n t e) ∙ either-table n (λ x. (c x && t x) || (d x && e x)) (λ x. t x && e x)
 
 -- the two tables of a cell, by those of the places that it reads
 module _ (n : ℕ) (value : ℕ → List Bool → Option Bool) where
@@ -59,7 +59,7 @@ module _ (n : ℕ) (value : ℕ → List Bool → Option Bool) where
 
   pub zero-table : (place : ℕ) (cell : Cell) → ReadsBefore n [] place cell → (cell_rails n of_place cell).zero ≡ table n (λ x. is_zero (gate3 x (λ k. value k x) cell))
   zero-table place (Const b) reads = constant-table n (not b)
-  zero-table place (Input i) reads = ap complement (variable-table n i reads) ∙ combined-table n (λ a b c. not a) (λ x. bit_of x i) (λ x. bit_of x i) (λ x. bit_of x i)
+  zero-table place (Input i) reads = ap complement_of_table (variable-table n i reads) ∙ combined-table n (λ a b c. not a) (λ x. bit_of x i) (λ x. bit_of x i) (λ x. bit_of x i)
   zero-table place (BoxOut b p) reads = constant-table n false
   zero-table place (Not a) reads = table_same n (λ x. is_one (value a x)) (λ x. is_zero (not3 (value a x))) (λ x l. sym (zero_not (value a x)))
   zero-table place (And a b) reads =
@@ -109,7 +109,7 @@ module _ (exists : TernExists) (net : Netlist) (kept : IsNetlist net) (place : �
   pub rails_are : cell_rails net.inputs (known_rails net) cell ≡ known_rails net place
   rails_are = ap₂ rails one_is zero_is
 
--- both stand among those that are made for a cell
+-- both are among those that are made for a cell
 one_listed : (n : ℕ) (at : ℕ → Rails) (cell : Cell) → Contains (tables_made n at cell) (cell_rails n at cell).one
 one_listed n at (Const b) = (0, omega (arith), refl)
 one_listed n at (Input i) = (0, omega (arith), refl)

@@ -1,9 +1,9 @@
 -- what the check of unknown boxes finds, as a condition on vectors
 use Rattle.std.proofs.Common.{◌≡◌, ◌≢◌, ◌<◌, ℕ, Bool, true, false, not, ◌&&◌, ◌||◌, List, length, take, drop, ◌++◌, Option, Some, None, IfSome, slice_index, refl, sym, ap, ◌∙◌, subst, subst₂, arith, append-nil, drop_of_length-le, take_all}
-use Rattle.bb_lists.proofs.Bits.{not_true}
+use Rattle.bb_lemmas.proofs.Bits.{not_true}
 use Rattle.bb_bits.specs.Truth.{truth_at}
 use Rattle.bb_net.specs.Netlists.{Netlist}
-use Rattle.bb_net.specs.Agreement.{IsVector, wanted_bit}
+use Rattle.bb_net.specs.Equivalence.{IsVector, wanted_bit}
 use Rattle.bb_net.specs.Conditions.{IsKnownWrong, MayBeRight, MayBeRightEverywhere}
 use Rattle.bb_net.specs.Ternary.{tern, tern_of}
 use Rattle.bb_uniq.specs.declared.store.Ref.{Ref}
@@ -13,7 +13,7 @@ use Rattle.bb_quant.specs.Inside.LeastPoints.{IsLeastPoint}
 use Rattle.bb_sym.specs.Functions.{is_one, is_zero, known_one, known_zero, spec_bit, high, low, sum_table, mismatch}
 use Rattle.bb_sym.specs.Plain.{Function, table}
 use Rattle.bb_sym.specs.Finds.{IsLeastVector, IsFirstFound}
-use Rattle.bb_sym.specs.Inside.Made.{IsNowhereTrue, StandForAll, ref_at}
+use Rattle.bb_sym.specs.Inside.Made.{IsNowhereTrue, RepresentAll, ref_at}
 use Rattle.bb_sym.proofs.FunctionTables.{truth_at-table, combined-table}
 use Rattle.bb_sym.proofs.KnownTables.{sum-table}
 
@@ -68,22 +68,22 @@ module _ (spec imp : Netlist) where
   may_be_right : (j : ℕ) → IsNowhereTrue imp.inputs (mismatch spec imp j) → (x : List Bool) → IsVector imp x → MayBeRight spec imp x j
   may_be_right j none x e = not_wrong (tern_of (tern imp x) (slice_index imp.outs j)) (wanted_bit spec x j) (not_true (differs_at j x) (λ is. none x e (mismatch_at j x e ∙ is)))
 
-  table_at : (s : NodeStore) (refs : List Ref) (j : ℕ) → s.vars ≡ imp.inputs → StandForAll s (mismatch spec imp) refs → j < length refs → IsNowhereTrue s.vars (truth_of s (ref_at refs j).0) → IsNowhereTrue imp.inputs (mismatch spec imp j)
-  table_at s refs j e stand l none = subst₂ IsNowhereTrue e (stand j l).table none
+  table_at : (s : NodeStore) (refs : List Ref) (j : ℕ) → s.vars ≡ imp.inputs → RepresentAll s (mismatch spec imp) refs → j < length refs → IsNowhereTrue s.vars (truth_of s (ref_at refs j).0) → IsNowhereTrue imp.inputs (mismatch spec imp j)
+  table_at s refs j e occur l none = subst₂ IsNowhereTrue e (occur j l).table none
 
   -- the first output of which there is a vector
-  pub first_known : (s : NodeStore) (refs : List Ref) (old p found : List Bool) (j : ℕ) → s.vars ≡ imp.inputs → length refs ≡ length imp.outs → StandForAll s (mismatch spec imp) refs → length old ≡ s.vars → j < length refs →
+  pub first_known : (s : NodeStore) (refs : List Ref) (old p found : List Bool) (j : ℕ) → s.vars ≡ imp.inputs → length refs ≡ length imp.outs → RepresentAll s (mismatch spec imp) refs → length old ≡ s.vars → j < length refs →
       IsLeastPoint (truth_of s (ref_at refs j).0) true 0 old p → ((i : ℕ) → i < j → IsNowhereTrue s.vars (truth_of s (ref_at refs i).0)) → found ≡ p → IsFirstFound imp (IsKnownWrong spec imp) (MayBeRight spec imp) found j
-  first_known s refs old p found j e count stand long l least none is = record {
+  first_known s refs old p found j e count occur long l least none is = record {
     there = omega (arith, l, count);
-    at = subst (IsLeastVector imp (λ x. IsKnownWrong spec imp x j)) (sym is) (least_known j old p (long ∙ e) (subst (λ t. IsLeastPoint t true 0 old p) (stand j l).table least));
-    earlier = λ i before y vector. may_be_right i (table_at s refs i e stand (omega (arith, before, l)) (none i before)) y vector;
+    at = subst (IsLeastVector imp (λ x. IsKnownWrong spec imp x j)) (sym is) (least_known j old p (long ∙ e) (subst (λ t. IsLeastPoint t true 0 old p) (occur j l).table least));
+    earlier = λ i before y vector. may_be_right i (table_at s refs i e occur (omega (arith, before, l)) (none i before)) y vector;
   }
 
-  pub none_known : (s : NodeStore) (refs : List Ref) → s.vars ≡ imp.inputs → length refs ≡ length imp.outs → StandForAll s (mismatch spec imp) refs → ((i : ℕ) → i < length refs → IsNowhereTrue s.vars (truth_of s (ref_at refs i).0)) → MayBeRightEverywhere spec imp
-  none_known s refs e count stand none x vector j there =
+  pub none_known : (s : NodeStore) (refs : List Ref) → s.vars ≡ imp.inputs → length refs ≡ length imp.outs → RepresentAll s (mismatch spec imp) refs → ((i : ℕ) → i < length refs → IsNowhereTrue s.vars (truth_of s (ref_at refs i).0)) → MayBeRightEverywhere spec imp
+  none_known s refs e count occur none x vector j there =
       let l : j < length refs = omega (arith, there, count) in
-      may_be_right j (table_at s refs j e stand l (none j l)) x vector
+      may_be_right j (table_at s refs j e occur l (none j l)) x vector
 
 -- what is left of a vector that was overwritten
 pub written_whole : (p q : List Bool) (len : ℕ) → length p ≡ length q → len ≡ length q → take len (p ++ drop (length p) q) ≡ p

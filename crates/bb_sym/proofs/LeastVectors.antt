@@ -1,7 +1,7 @@
 -- points of the inputs and the output pins: what "for all pins" says of the inputs, and the least such inputs
 use Rattle.std.proofs.Common.{◌≡◌, ◌<◌, ◌≤◌, ℕ, zero, suc, ◌+◌, ◌*◌, ◌^◌, Bool, true, false, ◌&&◌, List, [], ◌∷◌, ◌++◌, length, take, drop, replicate, refl, sym, ap, ap₂, ◌∙◌, subst, subst₂, arith, append-nil, length-append, length-take, length-drop, take-append-drop, drop_of_length-le, take_all, pow-add, pow-suc, zero-mul}
 use Rattle.std.proofs.lemmas.List.{length-replicate}
-use Rattle.bb_lists.proofs.Bits.{not_true}
+use Rattle.bb_lemmas.proofs.Bits.{not_true}
 use Rattle.bb_bits.specs.Numbers.{number_of}
 use Rattle.bb_bits.specs.Truth.{Truth, IsTruthTable, truth_at, quantified_block}
 use Rattle.bb_bits.specs.Laws.TruthLaws.{QuantifierLaws}
@@ -11,7 +11,7 @@ use Rattle.bb_sym.specs.Plain.{Function, table}
 use Rattle.bb_sym.specs.Finds.{IsLeastVector}
 use Rattle.bb_sym.proofs.FunctionTables.{truth_at-table, table_size}
 
--- bits behind others: the first ones count more
+-- bits after others: the first ones count more
 pub number_of-append : (x w : List Bool) → number_of (x ++ w) ≡ number_of x * 2 ^ length w + number_of w
 number_of-append [] w = omega (arith, zero-mul (2 ^ length w))
 number_of-append (false ∷ x) w = number_of-append x w
@@ -24,7 +24,7 @@ pub number_of-zeros : (k : ℕ) → number_of (replicate k false) ≡ 0
 number_of-zeros zero = refl
 number_of-zeros (suc k) = number_of-zeros k
 
--- with zeros behind the other, the first bits of a smaller number are no greater
+-- with zeros after the other, the first bits of a smaller number are no greater
 pub first_is_least : (x w y : List Bool) (k : ℕ) → length w ≡ k → number_of (x ++ w) ≤ number_of (y ++ replicate k false) → number_of x ≤ number_of y
 first_is_least x w y k e l =
     let first = number_of-append x w in
@@ -45,7 +45,7 @@ first_is_least x w y k e l =
     by_powers a b p w pos l = grind (arith)
 
 module _ (laws : QuantifierLaws) (inputs pins : ℕ) (f : Function) where
-  -- the function for all values of the variables behind the inputs
+  -- the function for all values of the variables after the inputs
   abbrev pub block : Truth
   block = quantified_block ◌&&◌ inputs pins (table (inputs + pins) f)
 
@@ -79,12 +79,12 @@ module _ (laws : QuantifierLaws) (inputs pins : ℕ) (f : Function) where
       let whole : length p ≡ inputs + pins = least.begins.0 ∙ long in
       let x = take inputs p in
       let w = drop inputs p in
-      let front : length x ≡ inputs = omega (arith, length-take inputs p, whole) in
-      let behind : length w ≡ pins = omega (arith, length-drop inputs p, whole) in
+      let prefix : length x ≡ inputs = omega (arith, length-take inputs p, whole) in
+      let after : length w ≡ pins = omega (arith, length-drop inputs p, whole) in
       let parts : p ≡ x ++ (w ++ []) = sym (take-append-drop inputs p) ∙ ap (λ (v : List Bool). x ++ v) (sym (append-nil w)) in
       record {
-        vector = front ∙ sym same;
-        holds = there x front (all_of_true x w front behind (subst (λ q. truth_at block q ≡ true) parts least.bit));
+        vector = prefix ∙ sym same;
+        holds = there x prefix (all_of_true x w prefix after (subst (λ q. truth_at block q ≡ true) parts least.bit));
         least = λ y vector holds.
             let e : length y ≡ inputs = vector ∙ same in
             let zeros = replicate pins false in
@@ -92,7 +92,7 @@ module _ (laws : QuantifierLaws) (inputs pins : ℕ) (f : Function) where
             let q = y ++ (zeros ++ []) in
             let l : length q ≡ length old = omega (arith, length-append y (zeros ++ []), length-append zeros [], e, h, long) in
             let le : number_of p ≤ number_of q = least.least q (l, refl) (true_of_all y zeros e h (back y e holds)) in
-            first_is_least x w y pins behind (subst₂ (λ a b. number_of a ≤ number_of b) (sym (take-append-drop inputs p)) (ap (λ (v : List Bool). y ++ v) (append-nil zeros)) le);
+            first_is_least x w y pins after (subst₂ (λ a b. number_of a ≤ number_of b) (sym (take-append-drop inputs p)) (ap (λ (v : List Bool). y ++ v) (append-nil zeros)) le);
       }
 
 -- what is left of a vector that was overwritten and cut

@@ -12,7 +12,7 @@ use Rattle.bb_uniq.specs.declared.store.Ref.{Ref}
 use Rattle.bb_uniq.specs.Laws.{StoreLaws, GrowthLaws}
 use Rattle.bb_uniq.specs.Inside.Nodes.{NodeStore, IsStore, IsRef}
 use Rattle.bb_uniq.specs.Inside.Meaning.{IsHeldWith, Keeps, Adds, IsTooMany}
-use Rattle.bb_sym.specs.Inside.Made.{IsHeldWithAny, Makes, AreTooMany, StandsFor, StandForAll, AreRefs, ref_at}
+use Rattle.bb_sym.specs.Inside.Made.{IsHeldWithAny, Makes, AreTooMany, Represents, RepresentAll, AreRefs, ref_at}
 
 -- every bead of the first list is one of the second
 abbrev pub AreWithin : List Truth → List Truth → Type 0
@@ -137,27 +137,27 @@ pub refused_more : (a b : NodeStore) (f : ℕ → Truth) (i n : ℕ) → Makes a
 refused_more a b f i n h l many =
     refused a b (map f (range_with_len 0 i)) (map f (range_with_len 0 n)) (f i) h many (within_range f i n (omega (arith, l))) (listed f 0 n i i l (omega arith))
 
--- a Ref that stands for a table still does
-pub StandsFor-kept : (a b : NodeStore) (t : Truth) (r : Ref) → Keeps a b → StandsFor a t r → StandsFor b t r
-StandsFor-kept a b t r kept h = record { ref = kept.refs r.0 h.ref; table = kept.tables r.0 h.ref ∙ h.table }
+-- a Ref that represents a table still does
+pub Represents-kept : (a b : NodeStore) (t : Truth) (r : Ref) → Keeps a b → Represents a t r → Represents b t r
+Represents-kept a b t r kept h = record { ref = kept.refs r.0 h.ref; table = kept.tables r.0 h.ref ∙ h.table }
 
-pub StandForAll-kept : (a b : NodeStore) (t : ℕ → Truth) (refs : List Ref) → Keeps a b → StandForAll a t refs → StandForAll b t refs
-StandForAll-kept a b t refs kept h place l = StandsFor-kept a b (t place) (ref_at refs place) kept (h place l)
+pub RepresentAll-kept : (a b : NodeStore) (t : ℕ → Truth) (refs : List Ref) → Keeps a b → RepresentAll a t refs → RepresentAll b t refs
+RepresentAll-kept a b t refs kept h place l = Represents-kept a b (t place) (ref_at refs place) kept (h place l)
 
--- one more Ref behind others
-pub StandForAll-push : (old new : NodeStore) (t : ℕ → Truth) (refs : List Ref) (r : Ref) (n : ℕ) → length refs ≡ n → Keeps old new → StandForAll old t refs → StandsFor new (t n) r → StandForAll new t (refs ++ r ∷ [])
-StandForAll-push old new t refs r n e kept h last place l =
+-- one more Ref after others
+pub RepresentAll-push : (old new : NodeStore) (t : ℕ → Truth) (refs : List Ref) (r : Ref) (n : ℕ) → length refs ≡ n → Keeps old new → RepresentAll old t refs → Represents new (t n) r → RepresentAll new t (refs ++ r ∷ [])
+RepresentAll-push old new t refs r n e kept h last place l =
     let long = length_push refs r in
     elim (cases_lt place (length refs)) [
-      | inl before ↦ subst (StandsFor new (t place)) (sym (get_or_append_left refs (r ∷ []) (record { 0 = 0 }) place before)) (StandsFor-kept old new (t place) (ref_at refs place) kept (h place before))
-      | inr behind ↦
-          let here : place ≡ length refs = omega (arith, long, l, behind) in
+      | inl before ↦ subst (Represents new (t place)) (sym (get_or_append_left refs (r ∷ []) (record { 0 = 0 }) place before)) (Represents-kept old new (t place) (ref_at refs place) kept (h place before))
+      | inr after ↦
+          let here : place ≡ length refs = omega (arith, long, l, after) in
           let at : place ≡ n = here ∙ e in
-          subst (StandsFor new (t place)) (sym (get_or_push refs r (record { 0 = 0 }) place (sym here))) (subst (λ k. StandsFor new (t k) r) (sym at) last)
+          subst (Represents new (t place)) (sym (get_or_push refs r (record { 0 = 0 }) place (sym here))) (subst (λ k. Represents new (t k) r) (sym at) last)
     ]
 
-pub StandsFor-added : (old new : NodeStore) (t : Truth) (r : Ref) → Adds old new t r.0 → StandsFor new t r
-StandsFor-added old new t r added = record { ref = added.ref; table = added.table }
+pub Represents-added : (old new : NodeStore) (t : Truth) (r : Ref) → Adds old new t r.0 → Represents new t r
+Represents-added old new t r added = record { ref = added.ref; table = added.table }
 
 leaf_bit : (bit : Bool) (r : ℕ) → r ≡ cond bit 1 0 → (r < 2) × ((r == 1) ≡ bit)
 leaf_bit true r e = (omega (arith, e), ap (λ k. k == 1) e)
@@ -178,11 +178,11 @@ AreRefs-push old new refs r kept last h place l =
     let long = length_push refs r in
     elim (cases_lt place (length refs)) [
       | inl before ↦ subst (λ (q : Ref). IsRef new q.0) (sym (get_or_append_left refs (r ∷ []) (record { 0 = 0 }) place before)) (kept.refs (ref_at refs place).0 (h place before))
-      | inr behind ↦
-          let here : place ≡ length refs = omega (arith, long, l, behind) in
+      | inr after ↦
+          let here : place ≡ length refs = omega (arith, long, l, after) in
           subst (λ (q : Ref). IsRef new q.0) (sym (get_or_push refs r (record { 0 = 0 }) place (sym here))) last
     ]
 
--- Refs that stand for tables are of the store
-pub StandForAll-refs : (s : NodeStore) (t : ℕ → Truth) (refs : List Ref) → StandForAll s t refs → AreRefs s refs
-StandForAll-refs s t refs h place l = (h place l).ref
+-- Refs that represent tables are of the store
+pub RepresentAll-refs : (s : NodeStore) (t : ℕ → Truth) (refs : List Ref) → RepresentAll s t refs → AreRefs s refs
+RepresentAll-refs s t refs h place l = (h place l).ref

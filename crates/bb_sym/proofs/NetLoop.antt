@@ -8,8 +8,8 @@ use Rattle.bb_uniq.specs.declared.store.Ref.{Ref}
 use Rattle.bb_uniq.specs.Inside.Nodes.{NodeStore}
 use Rattle.bb_uniq.specs.Inside.Meaning.{truth_of, Adds, IsTooMany}
 use Rattle.bb_sym.specs.Plain.{Reading, AreVariables, IsReadSo, cell_bit, table, tables, places}
-use Rattle.bb_sym.specs.Inside.Made.{Makes, AreTooMany, StandForAll, cell_table, ref_at}
-use Rattle.bb_sym.proofs.MadeLemmas.{Makes-more, refused_more, StandForAll-push, StandsFor-added}
+use Rattle.bb_sym.specs.Inside.Made.{Makes, AreTooMany, RepresentAll, cell_table, ref_at}
+use Rattle.bb_sym.proofs.MadeLemmas.{Makes-more, refused_more, RepresentAll-push, Represents-added}
 use Rattle.bb_sym.proofs.CellTables.{ValueExists, cell_table-is}
 
 -- the table of the next cell
@@ -18,7 +18,7 @@ next_table now first starts made net i = cell_table now.vars first starts (λ pl
 
 -- so many cells of a net are made since the store was `s`
 abbrev pub CellsMade : NodeStore → NodeStore → Netlist → List Ref → ℕ → Reading → Type 0
-CellsMade s now net made i r = StandForAll now (λ place. table s.vars (cell_bit r net place)) made × Makes s now (map (λ place. table s.vars (cell_bit r net place)) (range_with_len 0 i))
+CellsMade s now net made i r = RepresentAll now (λ place. table s.vars (cell_bit r net place)) made × Makes s now (map (λ place. table s.vars (cell_bit r net place)) (range_with_len 0 i))
 
 all_of : (n : ℕ) (net : Netlist) (r : Reading) → map (λ place. table n (cell_bit r net place)) (places net) ≡ tables n (map (cell_bit r net) (places net))
 all_of n net r = sym (map-map (table n) (cell_bit r net) (places net))
@@ -37,7 +37,7 @@ module _ (exists : ValueExists) (s now : NodeStore) (net : Netlist) (kept : IsNe
   pub next_made : (new : NodeStore) (q : Ref) → Adds now new (next_table now first starts made net i) q.0 → CellsMade s new net (made ++ q ∷ []) (i + 1) r
   next_made new q added =
       let also = subst (λ t. Adds now new t q.0) next_is added in (
-        StandForAll-push now new (λ place. table s.vars (cell_bit r net place)) made q i count also.kept so_far.0 (StandsFor-added now new (table s.vars (cell_bit r net i)) q also),
+        RepresentAll-push now new (λ place. table s.vars (cell_bit r net place)) made q i count also.kept so_far.0 (Represents-added now new (table s.vars (cell_bit r net i)) q also),
         Makes-more s now new (λ place. table s.vars (cell_bit r net place)) i q.0 so_far.1 also,
       )
 

@@ -7,7 +7,7 @@ use Rattle.bb_uniq.specs.Inside.Meaning.{Adds, IsTooMany}
 use Rattle.bb_sym.specs.Inside.Made.{Makes, AreTooMany}
 use Rattle.bb_sym.proofs.MadeLemmas.{Makes-then, Makes-one, too_many_within, too_many_then, too_many_one, within_append_left}
 
--- the lists of the first numbers and of those behind
+-- the lists of the first numbers and of those after
 flat_parts : (f : ℕ → List Truth) (a n m : ℕ) → flat_map f (range_with_len a (n + m)) ≡ flat_map f (range_with_len a n) ++ flat_map f (range_with_len (a + n) m)
 flat_parts f a zero m = ap₂ (λ i k. flat_map f (range_with_len i k)) (let e : a ≡ a + 0 = omega arith in e) (let e : 0 + m ≡ m = omega arith in e)
 flat_parts f a (suc n) m =

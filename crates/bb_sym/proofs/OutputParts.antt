@@ -8,7 +8,7 @@ use Rattle.bb_uniq.specs.Inside.Nodes.{NodeStore}
 use Rattle.bb_uniq.specs.Inside.Meaning.{truth_of}
 use Rattle.bb_sym.specs.Functions.{plain_functions, is_wrong, some_wrong, first_some_wrong, all_always_wrong, inputs_and_pins, for_all_pins, output_functions}
 use Rattle.bb_sym.specs.Plain.{block_functions, table, tables, outputs}
-use Rattle.bb_sym.specs.Inside.Made.{Makes, AreTooMany, StandsFor}
+use Rattle.bb_sym.specs.Inside.Made.{Makes, AreTooMany, Represents}
 use Rattle.bb_sym.proofs.MadeLemmas.{Makes-then, too_many_within, too_many_then, within_append_left}
 
 -- where each output is wrong, and where one of the first is
@@ -44,12 +44,12 @@ module _ (spec imp : Netlist) (inputs pins : ℕ) (i : inputs ≡ imp.inputs) (k
         subst (AreTooMany a) parts_are
         (too_many_then a b (plain_functions spec imp) (wrong_tables n spec imp ++ pins_part) plain (too_many_within b (wrong_tables n spec imp) (wrong_tables n spec imp ++ pins_part) (within_append_left (wrong_tables n spec imp) pins_part) here))
 
-    module _ (d : NodeStore) (any : Ref) (wrong : Makes b d (wrong_tables b.vars spec imp)) (stand : StandsFor d (table b.vars (some_wrong spec imp (length imp.outs))) any) where
+    module _ (d : NodeStore) (any : Ref) (wrong : Makes b d (wrong_tables b.vars spec imp)) (occur : Represents d (table b.vars (some_wrong spec imp (length imp.outs))) any) where
       wrong_made : Makes b d (wrong_tables n spec imp)
       wrong_made = subst (λ m. Makes b d (wrong_tables m spec imp)) (plain.kept.vars ∙ vars_is) wrong
 
       any_is : truth_of d any.0 ≡ any_table
-      any_is = stand.table ∙ ap (λ m. table m (some_wrong spec imp (length imp.outs))) (plain.kept.vars ∙ vars_is)
+      any_is = occur.table ∙ ap (λ m. table m (some_wrong spec imp (length imp.outs))) (plain.kept.vars ∙ vars_is)
 
       pins_are : block_functions ◌&&◌ inputs pins (truth_of d any.0) ≡ pins_part
       pins_are = ap (block_functions ◌&&◌ inputs pins) any_is ∙ ap₂ (λ from count. block_functions ◌&&◌ from count any_table) i k
@@ -64,5 +64,5 @@ module _ (spec imp : Netlist) (inputs pins : ℕ) (i : inputs ≡ imp.inputs) (k
           subst (Makes a e) parts_are
           (Makes-then a b e (plain_functions spec imp) (wrong_tables n spec imp ++ pins_part) plain (Makes-then b d e (wrong_tables n spec imp) pins_part wrong_made (subst (Makes d e) pins_are last)))
 
-      pub output_stands : (e : NodeStore) (r : Ref) → StandsFor e (quantified_block ◌&&◌ inputs pins (truth_of d any.0)) r → StandsFor e (all_always_wrong spec imp) r
-      output_stands e r h = record { ref = h.ref; table = h.table ∙ (ap (quantified_block ◌&&◌ inputs pins) any_is ∙ ap₂ (λ from count. quantified_block ◌&&◌ from count any_table) i k) }
+      pub output_occurs : (e : NodeStore) (r : Ref) → Represents e (quantified_block ◌&&◌ inputs pins (truth_of d any.0)) r → Represents e (all_always_wrong spec imp) r
+      output_occurs e r h = record { ref = h.ref; table = h.table ∙ (ap (quantified_block ◌&&◌ inputs pins) any_is ∙ ap₂ (λ from count. quantified_block ◌&&◌ from count any_table) i k) }

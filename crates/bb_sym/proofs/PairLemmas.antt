@@ -4,7 +4,7 @@ use Rattle.bb_bits.specs.Truth.{Truth}
 use Rattle.bb_uniq.specs.declared.store.Ref.{Ref}
 use Rattle.bb_uniq.specs.Inside.Nodes.{NodeStore}
 use Rattle.bb_uniq.specs.Inside.Meaning.{Adds, IsTooMany}
-use Rattle.bb_sym.specs.Inside.Made.{Makes, AreTooMany, StandsFor}
+use Rattle.bb_sym.specs.Inside.Made.{Makes, AreTooMany, Represents}
 use Rattle.bb_sym.proofs.MadeLemmas.{Makes-then, Makes-one, too_many_then, too_many_one}
 use Rattle.bb_sym.proofs.OutputLoop.{rest_refused, first_makes}
 
@@ -17,10 +17,10 @@ module _ (s m : NodeStore) (t u v : Truth) (first : Ref) (added : Adds s m t fir
     pub two_made : Makes s n (t ∷ u ∷ [])
     two_made = first_makes s m n t (u ∷ []) first.0 added (Makes-one m n u second.0 (subst (λ w. Adds m n w second.0) same also))
 
-    pub two_first : StandsFor n t first
+    pub two_first : Represents n t first
     two_first = record { ref = also.kept.refs first.0 added.ref; table = also.kept.tables first.0 added.ref ∙ added.table }
 
-    pub two_second : StandsFor n u second
+    pub two_second : Represents n u second
     two_second = record { ref = also.ref; table = also.table ∙ same }
 
 -- two lists of tables
@@ -37,5 +37,5 @@ same_four f p q r s = ap₂ (λ g u. g u) (ap₂ (λ g u. g u) (ap₂ f p q) r) 
 pub same_three : {X Y : Type 0} (f : X → X → X → Y) {a b c x y z : X} → a ≡ x → b ≡ y → c ≡ z → f a b c ≡ f x y z
 same_three f p q r = ap₂ (λ g u. g u) (ap₂ f p q) r
 
-pub stands_same : (s : NodeStore) (t u : Truth) (r : Ref) → t ≡ u → StandsFor s t r → StandsFor s u r
-stands_same s t u r e h = record { ref = h.ref; table = h.table ∙ e }
+pub occurs_same : (s : NodeStore) (t u : Truth) (r : Ref) → t ≡ u → Represents s t r → Represents s u r
+occurs_same s t u r e h = record { ref = h.ref; table = h.table ∙ e }

@@ -7,7 +7,7 @@ use Rattle.bb_net.specs.Netlists.{Netlist, IsNetlist}
 use Rattle.bb_uniq.specs.declared.store.Ref.{Ref}
 use Rattle.bb_uniq.specs.Inside.Nodes.{NodeStore, IsRef}
 use Rattle.bb_sym.specs.Plain.{Reading, cell_bit, without_pins, table}
-use Rattle.bb_sym.specs.Inside.Made.{AreRefs, StandsFor, StandForAll, AreCells, HaveCells, ref_at}
+use Rattle.bb_sym.specs.Inside.Made.{AreRefs, Represents, RepresentAll, AreCells, HaveCells, ref_at}
 
 picked_at : (refs : List Ref) (places : List ℕ) (j : ℕ) → j < length places → ref_at (map (ref_at refs) places) j ≡ ref_at refs (slice_index places j)
 picked_at refs places j l = get_or-map (ref_at refs) places j 0 (record { 0 = 0 }) l
@@ -17,10 +17,10 @@ picked_refs s refs places are there j l =
     let here : j < length places = omega (arith, l, length-map places (ref_at refs)) in
     subst (λ (r : Ref). IsRef s r.0) (sym (picked_at refs places j here)) (are (slice_index places j) (there j 0 here))
 
-pub picked_stand : (s : NodeStore) (t : ℕ → Truth) (refs : List Ref) (places : List ℕ) → StandForAll s t refs → All (λ place. place < length refs) places → StandForAll s (λ j. t (slice_index places j)) (map (ref_at refs) places)
-picked_stand s t refs places stand there j l =
+pub picked_occur : (s : NodeStore) (t : ℕ → Truth) (refs : List Ref) (places : List ℕ) → RepresentAll s t refs → All (λ place. place < length refs) places → RepresentAll s (λ j. t (slice_index places j)) (map (ref_at refs) places)
+picked_occur s t refs places occur there j l =
     let here : j < length places = omega (arith, l, length-map places (ref_at refs)) in
-    subst (StandsFor s (t (slice_index places j))) (sym (picked_at refs places j here)) (stand (slice_index places j) (there j 0 here))
+    subst (Represents s (t (slice_index places j))) (sym (picked_at refs places j here)) (occur (slice_index places j) (there j 0 here))
 
 pub outs_within : (net : Netlist) → IsNetlist net → (refs : List Ref) → length refs ≡ length net.cells → All (λ place. place < length refs) net.outs
 outs_within net kept refs e k d l = let there = kept.outs_there k d l in omega (arith, there, e)
@@ -43,12 +43,12 @@ module _ (s : NodeStore) (spec imp : Netlist) (kept : IsNetlist spec) (also : Is
   given_count = wanted_count ∙ sym (ap length given ∙ length-map imp.outs (ref_at of_imp))
 
   module _ (r : Reading) (have : HaveCells s r spec imp of_spec of_imp) where
-    pub wanted_stand : StandForAll s (λ j. table s.vars (cell_bit (without_pins r) spec (slice_index spec.outs j))) fs
-    wanted_stand =
-        subst (StandForAll s (λ j. table s.vars (cell_bit (without_pins r) spec (slice_index spec.outs j)))) (sym wanted)
-        (picked_stand s (λ place. table s.vars (cell_bit (without_pins r) spec place)) of_spec spec.outs have.spec_cells (outs_within spec kept of_spec cells.spec_whole))
+    pub wanted_occur : RepresentAll s (λ j. table s.vars (cell_bit (without_pins r) spec (slice_index spec.outs j))) fs
+    wanted_occur =
+        subst (RepresentAll s (λ j. table s.vars (cell_bit (without_pins r) spec (slice_index spec.outs j)))) (sym wanted)
+        (picked_occur s (λ place. table s.vars (cell_bit (without_pins r) spec place)) of_spec spec.outs have.spec_cells (outs_within spec kept of_spec cells.spec_whole))
 
-    pub given_stand : StandForAll s (λ j. table s.vars (cell_bit r imp (slice_index imp.outs j))) gs
-    given_stand =
-        subst (StandForAll s (λ j. table s.vars (cell_bit r imp (slice_index imp.outs j)))) (sym given)
-        (picked_stand s (λ place. table s.vars (cell_bit r imp place)) of_imp imp.outs have.imp_cells (outs_within imp also of_imp cells.imp_whole))
+    pub given_occur : RepresentAll s (λ j. table s.vars (cell_bit r imp (slice_index imp.outs j))) gs
+    given_occur =
+        subst (RepresentAll s (λ j. table s.vars (cell_bit r imp (slice_index imp.outs j)))) (sym given)
+        (picked_occur s (λ place. table s.vars (cell_bit r imp place)) of_imp imp.outs have.imp_cells (outs_within imp also of_imp cells.imp_whole))

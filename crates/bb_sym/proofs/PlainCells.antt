@@ -10,8 +10,8 @@ use Rattle.bb_uniq.specs.declared.store.Ref.{Ref}
 use Rattle.bb_uniq.specs.Inside.Nodes.{NodeStore}
 use Rattle.bb_sym.specs.Functions.{inputs_and_pins}
 use Rattle.bb_sym.specs.Plain.{Reading, AreVariables, IsReadSo, cell_bit, without_pins, plain_functions_at, table, tables, variables, places}
-use Rattle.bb_sym.specs.Inside.Made.{Makes, AreTooMany, StandForAll, HaveCells}
-use Rattle.bb_sym.proofs.MadeLemmas.{within_append_left, too_many_within, too_many_then, Makes-then, StandForAll-kept}
+use Rattle.bb_sym.specs.Inside.Made.{Makes, AreTooMany, RepresentAll, HaveCells}
+use Rattle.bb_sym.proofs.MadeLemmas.{within_append_left, too_many_within, too_many_then, Makes-then, RepresentAll-kept}
 
 pub few_variables : (p : NetPair) → IsPair p → inputs_and_pins p.imp ≤ 2048
 few_variables p pair =
@@ -69,13 +69,13 @@ module _ (spec imp : Netlist) (r : Reading) (a : NodeStore) where
           let third : Makes c d imp_part = subst (λ n. Makes c d (tables n (map (cell_bit r imp) (places imp)))) (also.kept.vars ∙ made.kept.vars) last in
           subst (Makes a d) (parts_are a.vars r spec imp) (Makes-then a b d (variables a.vars) (spec_part ++ imp_part) made (Makes-then b c d spec_part imp_part second third))
 
-      pub plain_stand : (d : NodeStore) (of_spec of_imp : List Ref) → Makes c d (tables c.vars (map (cell_bit r imp) (places imp))) → length of_spec ≡ length spec.cells → StandForAll c (λ place. table b.vars (cell_bit (without_pins r) spec place)) of_spec →
-          length of_imp ≡ length imp.cells → StandForAll d (λ place. table c.vars (cell_bit r imp place)) of_imp → HaveCells d r spec imp of_spec of_imp
-      plain_stand d of_spec of_imp last spec_whole specs imp_whole imps = record {
+      pub plain_occur : (d : NodeStore) (of_spec of_imp : List Ref) → Makes c d (tables c.vars (map (cell_bit r imp) (places imp))) → length of_spec ≡ length spec.cells → RepresentAll c (λ place. table b.vars (cell_bit (without_pins r) spec place)) of_spec →
+          length of_imp ≡ length imp.cells → RepresentAll d (λ place. table c.vars (cell_bit r imp place)) of_imp → HaveCells d r spec imp of_spec of_imp
+      plain_occur d of_spec of_imp last spec_whole specs imp_whole imps = record {
         spec_whole = spec_whole;
         imp_whole = imp_whole;
         spec_cells = λ place l.
-            let h = StandForAll-kept c d (λ place. table b.vars (cell_bit (without_pins r) spec place)) of_spec last.kept specs place l in
+            let h = RepresentAll-kept c d (λ place. table b.vars (cell_bit (without_pins r) spec place)) of_spec last.kept specs place l in
             record { ref = h.ref; table = h.table ∙ ap (λ n. table n (cell_bit (without_pins r) spec place)) (sym (last.kept.vars ∙ also.kept.vars)) };
         imp_cells = λ place l. let h = imps place l in record { ref = h.ref; table = h.table ∙ ap (λ n. table n (cell_bit r imp place)) (sym last.kept.vars) };
       }

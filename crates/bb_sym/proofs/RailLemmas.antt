@@ -6,7 +6,7 @@ use Rattle.bb_uniq.specs.Inside.Nodes.{NodeStore}
 use Rattle.bb_uniq.specs.Inside.Meaning.{Keeps}
 use Rattle.bb_sym.specs.declared.known_gates.DualRail.{DualRail}
 use Rattle.bb_sym.specs.Inside.Rails.{Rails, rails, rails_of, AreRails, HaveRails, HaveAllRails, pair_at}
-use Rattle.bb_sym.proofs.MadeLemmas.{StandsFor-kept}
+use Rattle.bb_sym.proofs.MadeLemmas.{Represents-kept}
 use Rattle.bb_sym.proofs.PairLemmas.{same_three}
 
 -- what stores say of two Refs, after more was made
@@ -14,7 +14,7 @@ pub rails_of-kept : (a b : NodeStore) (r : DualRail) → Keeps a b → AreRails 
 rails_of-kept a b r kept refs = ap₂ rails (kept.tables r.one.0 refs.0) (kept.tables r.zero.0 refs.1)
 
 pub HaveRails-kept : (a b : NodeStore) (t : Rails) (r : DualRail) → Keeps a b → HaveRails a t r → HaveRails b t r
-HaveRails-kept a b t r kept h = record { one = StandsFor-kept a b t.one r.one kept h.one; zero = StandsFor-kept a b t.zero r.zero kept h.zero }
+HaveRails-kept a b t r kept h = record { one = Represents-kept a b t.one r.one kept h.one; zero = Represents-kept a b t.zero r.zero kept h.zero }
 
 pub HaveRails-tables : (s : NodeStore) (t : Rails) (r : DualRail) → HaveRails s t r → rails_of s r ≡ t
 HaveRails-tables s t r h = ap₂ rails h.one.table h.zero.table

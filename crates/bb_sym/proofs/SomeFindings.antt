@@ -3,14 +3,14 @@ use Rattle.std.proofs.Common.{◌≡◌, ◌≢◌, ◌⊎◌, ◌<◌, ◌+◌,
 use Rattle.std.specs.Prelude.{IfSome, slice_index}
 use Rattle.std.proofs.lemmas.Bool.{cases_eq}
 use Rattle.std.proofs.lemmas.List.{length-take}
-use Rattle.bb_lists.proofs.LeastBits.{Below, least_or_none}
-use Rattle.bb_lists.proofs.Ranges.{length-run}
-use Rattle.bb_lists.proofs.Vectors.{vec_of}
+use Rattle.bb_lemmas.proofs.LeastBits.{Below, least_or_none}
+use Rattle.bb_lemmas.proofs.Ranges.{length-run}
+use Rattle.bb_lemmas.proofs.Vectors.{vec_of}
 use Rattle.bb_net.specs.declared.cell.Cell.TheVariants.{Input}
 use Rattle.bb_net.specs.Netlists.{Netlist, IsNetlist}
 use Rattle.bb_net.specs.Values.{flat}
 use Rattle.bb_net.specs.Ternary.{tern, tern_of}
-use Rattle.bb_net.specs.Agreement.{wanted_bit, IsVector, AreBoxOutputs, IsOutput, AllRight}
+use Rattle.bb_net.specs.Equivalence.{wanted_bit, IsVector, AreBoxOutputs, IsOutput, AllRight}
 use Rattle.bb_net.specs.Conditions.{IsKnownWrong, MayBeRight, MayBeRightEverywhere, IsAlwaysWrong, EachSometimesRight, HasAlwaysWrong, AllSometimesRight}
 use Rattle.bb_sym.specs.declared.found.Found.{Found}
 use Rattle.bb_sym.specs.Finds.{IsLeastVector, IsFirstFound, IsSometimesRight, FindsOutput, FindsVector}
@@ -46,7 +46,7 @@ module _ (below : Below) where
   -- the inputs of a netlist are fewer than a vector holds
   few_inputs : (imp : Netlist) → IsNetlist imp → imp.inputs < 2 ^ 63
   few_inputs imp kept =
-      let long = ap length kept.front in
+      let long = ap length kept.prefix in
       let inputs = length-take (imp.inputs + 2) imp.cells in
       omega (arith, kept.cells_fit, inputs, long, length-run Input 0 imp.inputs)
 

@@ -11,7 +11,7 @@ use Rattle.bb_net.specs.Netlists.{Netlist}
 use Rattle.bb_sym.specs.Functions.{spec_bit, specification_functions, known_tables, mismatches, inputs_first, inputs_and_pins, plain_functions, wrong_for_all_pins, is_wrong, first_some_wrong, some_wrong, for_all_pins, symbolic_functions, local_functions, output_functions}
 use Rattle.bb_sym.specs.Laws.{CellsHoldSpecification, HoldsSpecification, ReadsInputs}
 use Rattle.bb_sym.specs.Plain.{Function, Reading, table, tables, variables, places, outputs, cell_bit, without_pins, plain_functions_at}
-use Rattle.bb_sym.proofs.Deepened.{deepened, deepened_same, beads_deepened, table-behind, table-before}
+use Rattle.bb_sym.proofs.Deepened.{deepened, deepened_same, beads_deepened, table-after, table-before}
 use Rattle.bb_sym.proofs.FunctionTables.{table_same}
 use Rattle.bb_sym.proofs.MadeLemmas.{AreWithin, within_append_left, within_append_right}
 
@@ -45,11 +45,11 @@ listed_image : (g : Truth → Truth) (ts : List Truth) (t : Truth) → Contains 
 listed_image g ts t c = (c.0, (let long = length-map ts g in let within = c.1 in omega (arith, long, within)), get_or-map g ts c.0 t (g t) c.1 ∙ ap g c.2)
 
 module _ (laws : TableLaws) (beads : BeadLaws) (spec imp : Netlist) (vars before : ℕ) (r : Reading) (reads : ReadsInputs vars before imp.inputs r) where
-  abbrev behind : ℕ
-  behind = vars - (before + imp.inputs)
+  abbrev after : ℕ
+  after = vars - (before + imp.inputs)
 
   abbrev image : Truth → Truth
-  image t = lifted before (deepened behind t)
+  image t = lifted before (deepened after t)
 
   abbrev own_tables : List Truth
   own_tables = tables vars (map (cell_bit (without_pins r) spec) (places spec))
@@ -59,15 +59,15 @@ module _ (laws : TableLaws) (beads : BeadLaws) (spec imp : Netlist) (vars before
       let f = spec_bit spec place in
       let within = reads.within in
       table_same vars (cell_bit (without_pins r) spec place) (λ p. f (take imp.inputs (drop before p))) (λ p long. ap f (reads.read p long))
-      ∙ (table-behind before (imp.inputs + behind) vars (λ p. f (take imp.inputs p)) (omega (arith, within))
-      ∙ ap (lifted before) (table-before imp.inputs behind (imp.inputs + behind) f refl))
+      ∙ (table-after before (imp.inputs + after) vars (λ p. f (take imp.inputs p)) (omega (arith, within))
+      ∙ ap (lifted before) (table-before imp.inputs after (imp.inputs + after) f refl))
 
   -- a bead over the inputs has its bead over all variables
-  bead_there : (b : Truth) → IsBeadOfAny (specification_functions spec imp) b → IsBeadOfAny own_tables (deepened behind b)
+  bead_there : (b : Truth) → IsBeadOfAny (specification_functions spec imp) b → IsBeadOfAny own_tables (deepened after b)
   bead_there b h = (
     image h.0,
     subst (λ (ts : List Truth). Contains ts (image h.0)) (sym (tables_are imp.inputs vars image (spec_bit spec) (cell_bit (without_pins r) spec) cell_is (places spec))) (listed_image image (specification_functions spec imp) h.0 h.1),
-    (beads.lifted before (deepened behind b) (deepened behind h.0)).1 (beads_deepened laws behind b h.0 h.2),
+    (beads.lifted before (deepened after b) (deepened after h.0)).1 (beads_deepened laws after b h.0 h.2),
   )
 
   own_within : AreWithin own_tables (plain_functions_at vars r spec imp)
@@ -78,7 +78,7 @@ module _ (laws : TableLaws) (beads : BeadLaws) (spec imp : Netlist) (vars before
 
   pub cells_count : (k : ℕ) → HasMoreThan (IsBeadOfAny (specification_functions spec imp)) k → HasMoreThan (IsBeadOfAny (plain_functions_at vars r spec imp)) k
   cells_count k h =
-      more_within own_tables (plain_functions_at vars r spec imp) k own_within (as_many (IsBeadOfAny (specification_functions spec imp)) (IsBeadOfAny own_tables) (deepened behind) (deepened_same laws behind) bead_there k h)
+      more_within own_tables (plain_functions_at vars r spec imp) k own_within (as_many (IsBeadOfAny (specification_functions spec imp)) (IsBeadOfAny own_tables) (deepened after) (deepened_same laws after) bead_there k h)
 
 pub cells_hold : TableLaws → BeadLaws → CellsHoldSpecification
 cells_hold laws beads spec imp k vars before r reads = cells_count laws beads spec imp vars before r reads k

@@ -1,9 +1,9 @@
--- What a check tells: the least vector at which something is wrong, vectors being ordered as the numbers that they spell, the
--- first input the most significant; and where it tells of an output, the first for which there is one.
+-- What a check reports: the least vector at which something is wrong, vectors being ordered as the numbers that they
+-- spell, the first input the most significant; and where it reports an output, the first for which there is one.
 use Rattle.std.specs.Prelude.{◌≡◌, ◌≤◌, ◌<◌, ◌⊎◌, ℕ, Bool, List, None, Some}
 use Rattle.bb_bits.specs.Numbers.{number_of}
 use Rattle.bb_net.specs.Netlists.{Netlist}
-use Rattle.bb_net.specs.Agreement.{IsVector, AreBoxOutputs, IsOutput, IsRight}
+use Rattle.bb_net.specs.Equivalence.{IsVector, AreBoxOutputs, IsOutput, IsRight}
 use Rattle.bb_net.specs.Values.{flat}
 use Rattle.bb_net.specs.Conditions.{IsKnownWrong, MayBeRight, MayBeRightEverywhere, IsAlwaysWrong, EachSometimesRight, HasAlwaysWrong, AllSometimesRight}
 use Rattle.bb_sym.specs.declared.found.Found.{Found}
@@ -24,11 +24,11 @@ pub record IsFirstFound (imp : Netlist) (P N : List Bool → ℕ → Type 0) (x 
 abbrev pub IsSometimesRight : Netlist → Netlist → List Bool → ℕ → Type 0
 IsSometimesRight spec imp x j = (z : List Bool) × AreBoxOutputs imp z × IsRight spec imp x (flat imp x z) j
 
--- what a check tells: the first output, and the least vector for it
+-- what a check reports: the first output, and the least vector for it
 abbrev pub FindsOutput : Netlist → (List Bool → ℕ → Type 0) → (List Bool → ℕ → Type 0) → Found → Type 0
 FindsOutput imp P N found = (j : ℕ) × (found.output ≡ Some j) × IsFirstFound imp P N found.input.items j
 
--- or the least vector alone
+-- or only the least vector, with no output
 abbrev pub FindsVector : Netlist → (List Bool → Type 0) → Found → Type 0
 FindsVector imp P found = (found.output ≡ None) × IsLeastVector imp P found.input.items
 

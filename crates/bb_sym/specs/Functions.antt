@@ -1,10 +1,10 @@
--- The Boolean functions that a check by diagrams makes, as truth tables; a check holds exactly their beads (Knuth, The Art of
--- Computer Programming, volume 4A, 7.1.4). Each variable is one of them. Where functions are folded by an operation, the first is
--- joined with the second, that with the third, and so on, and each result is one of the list. Of what a report says they count for
--- `nodes` alone.
+-- The Boolean functions that a check by diagrams makes, as truth tables; a check holds exactly their beads (Knuth, The
+-- Art of Computer Programming, volume 4A, 7.1.4). Each variable is one of them. Where functions are folded by an
+-- operation, the first is joined with the second, that with the third, and so on, and each result is one of the list.
+-- In a report they matter for `nodes` only.
 use Rattle.std.specs.Prelude.{ℕ, ◌+◌, Bool, false, not, ◌&&◌, ◌||◌, List, ◌∷◌, [], ◌++◌, length, map, take, drop, slice_index, Option, Some, None}
 use Rattle.std.specs.List.{flat_map}
-use Rattle.bb_bits.specs.Truth.{Truth, constant, variable, complement, joined, quantified_block}
+use Rattle.bb_bits.specs.Truth.{Truth, constant, variable, complement_of_table, joined_tables, quantified_block}
 use Rattle.bb_net.specs.declared.cell.Cell.{Cell}
 use Rattle.bb_net.specs.declared.cell.Cell.TheVariants.{Const, Input, Not, And, Or, Xor, Mux, BoxOut}
 use Rattle.bb_net.specs.Netlists.{Netlist, cell_at}
@@ -18,7 +18,7 @@ use Rattle.bb_sym.specs.Plain.{Function, Reading, table, tables, variables, plac
 abbrev pub spec_bit : Netlist → ℕ → Function
 spec_bit spec place = λ x. bit_of (flat spec x []) place
 
--- the cells of the specification alone, over the inputs of the implementation, which are its own
+-- only the cells of the specification, over the inputs of the implementation, which are its own
 abbrev pub specification_functions : Netlist → Netlist → List Truth
 specification_functions spec imp = tables imp.inputs (map (spec_bit spec) (places spec))
 
@@ -39,10 +39,10 @@ known_zero imp place = λ x. is_zero (tern_of (tern imp x) place)
 
 -- the tables that are joined at each point
 abbrev pub both : Truth → Truth → Truth
-both t u = joined ◌&&◌ t u
+both t u = joined_tables ◌&&◌ t u
 
 abbrev pub either : Truth → Truth → Truth
-either t u = joined ◌||◌ t u
+either t u = joined_tables ◌||◌ t u
 
 -- "a and b, or c and e", and that of which it is made
 abbrev pub sum_table : Truth → Truth → Truth → Truth → Truth
@@ -61,7 +61,7 @@ choice_tables c d t e = sum_tables c t d e ++ both t e ∷ choice_table c d t e 
 -- the tables of a cell over n variables, by those of its operands: where they are known to be 1, and where to be 0
 abbrev pub cell_tables : ℕ → (ℕ → Truth) → (ℕ → Truth) → Cell → List Truth
 cell_tables n high low (Const b) = constant n b ∷ constant n (not b) ∷ []
-cell_tables n high low (Input i) = variable n i ∷ complement (variable n i) ∷ []
+cell_tables n high low (Input i) = variable n i ∷ complement_of_table (variable n i) ∷ []
 cell_tables n high low (BoxOut b p) = constant n false ∷ []
 cell_tables n high low (Not a) = low a ∷ high a ∷ []
 cell_tables n high low (And a b) = both (high a) (high b) ∷ either (low a) (low b) ∷ []
@@ -82,10 +82,10 @@ wanted spec imp j = table imp.inputs (spec_bit spec (slice_index spec.outs j))
 
 -- an output is known to be 1 where 0 is wanted, or known to be 0 where 1 is; and that of which it is made
 abbrev pub mismatch : Netlist → Netlist → ℕ → Truth
-mismatch spec imp j = sum_table (high imp (slice_index imp.outs j)) (complement (wanted spec imp j)) (low imp (slice_index imp.outs j)) (wanted spec imp j)
+mismatch spec imp j = sum_table (high imp (slice_index imp.outs j)) (complement_of_table (wanted spec imp j)) (low imp (slice_index imp.outs j)) (wanted spec imp j)
 
 abbrev pub mismatches : Netlist → Netlist → ℕ → List Truth
-mismatches spec imp j = complement (wanted spec imp j) ∷ sum_tables (high imp (slice_index imp.outs j)) (complement (wanted spec imp j)) (low imp (slice_index imp.outs j)) (wanted spec imp j)
+mismatches spec imp j = complement_of_table (wanted spec imp j) ∷ sum_tables (high imp (slice_index imp.outs j)) (complement_of_table (wanted spec imp j)) (low imp (slice_index imp.outs j)) (wanted spec imp j)
 
 abbrev pub known_tables : Netlist → ℕ → List Truth
 known_tables imp place = cell_tables imp.inputs (high imp) (low imp) (cell_at imp.cells place)

@@ -1,4 +1,4 @@
--- What the code says to itself: no clause of the top call rests on it.
+-- Invariants of the code: no clause of the top call rests on them.
 pub mod Dependence
 pub mod Made
 pub mod Rails

@@ -1,4 +1,5 @@
--- What a reader expects of the tables of functions, of what a sequence of calls leaves in a store, and of points as numbers.
+-- What a reader expects of the tables of functions, of what a sequence of calls leaves in a store, and of points as
+-- numbers.
 use Rattle.std.specs.Prelude.{◌≡◌, ◌<◌, ◌≤◌, ◌↔◌, ◌⊎◌, ℕ, ◌+◌, ◌*◌, ◌^◌, Bool, true, false, List, [], ◌∷◌, ◌++◌, length, map, take, drop, replicate, All, Contains, slice_index}
 use Rattle.bb_bits.specs.Numbers.{number_of}
 use Rattle.bb_bits.specs.Truth.{Truth, IsTruthTable, truth_at, constant, variable, combined, IsBeadOfAny}
@@ -8,7 +9,7 @@ use Rattle.bb_net.specs.Values.{bit_of}
 use Rattle.bb_uniq.specs.declared.store.Ref.{Ref}
 use Rattle.bb_uniq.specs.Inside.Nodes.{NodeStore, IsStore}
 use Rattle.bb_uniq.specs.Inside.Meaning.{Keeps, Adds, IsTooMany}
-use Rattle.bb_sym.specs.Inside.Made.{Makes, AreTooMany, AreRefs, StandsFor, StandForAll, HaveCells, ref_at}
+use Rattle.bb_sym.specs.Inside.Made.{Makes, AreTooMany, AreRefs, Represents, RepresentAll, HaveCells, ref_at}
 use Rattle.bb_sym.specs.Functions.{specification_functions, high, low, known_tables}
 use Rattle.bb_sym.specs.Plain.{Function, Reading, table, one_of, plain_functions_at}
 
@@ -25,16 +26,17 @@ pub record FunctionLaws : Type 0 where
   pub one_true : (f : ℕ → Function) (count : ℕ) (p : List Bool) → (one_of f count p ≡ true) ↔ ((j : ℕ) × (j < count) × (f j p ≡ true))
   pub one_false : (f : ℕ → Function) (count : ℕ) (p : List Bool) → (one_of f count p ≡ false) ↔ ((j : ℕ) → j < count → f j p ≡ false)
 
--- what is made for each cell where boxes are unknown has both its tables: where its value is known to be 1, and where to be 0
+-- what is made for each cell where boxes are unknown has both its tables: where its value is known to be 1, and where
+-- to be 0
 pub record KnownTableLaws : Type 0 where
   pub high_listed : (imp : Netlist) → IsNetlist imp → (place : ℕ) → place < length imp.cells → Contains (known_tables imp place) (high imp place)
   pub low_listed : (imp : Netlist) → IsNetlist imp → (place : ℕ) → place < length imp.cells → Contains (known_tables imp place) (low imp place)
 
--- the functions of a check have more beads than a number where the cells of the specification alone have
+-- the functions of a check have more beads than a number where already the cells of the specification have
 abbrev pub HoldsSpecification : (Netlist → Netlist → List Truth) → Type 0
 HoldsSpecification functions = (spec imp : Netlist) (k : ℕ) → HasMoreThan (IsBeadOfAny (specification_functions spec imp)) k → HasMoreThan (IsBeadOfAny (functions spec imp)) k
 
--- of a point of so many variables the inputs are those beside each other behind the first ones, in their order
+-- in a point of `vars` variables the inputs are adjacent bits after the first `before` ones, in their order
 pub record ReadsInputs (vars before inputs : ℕ) (r : Reading) : Type 0 where
   pub within : before + inputs ≤ vars
   pub read : (p : List Bool) → length p ≡ vars → r.inputs p ≡ take inputs (drop before p)
@@ -49,7 +51,7 @@ pub record MakingLaws : Type 0 where
   pub none : (s : NodeStore) → Makes s s []
   pub one : (old new : NodeStore) (t : Truth) (r : ℕ) → Adds old new t r → Makes old new (t ∷ [])
   pub then : (a b c : NodeStore) (ts us : List Truth) → Makes a b ts → Makes b c us → Makes a c (ts ++ us)
-  -- the beads alone count
+  -- only the beads count
   pub both : (ts us : List Truth) (b : Truth) → IsBeadOfAny (ts ++ us) b ↔ (IsBeadOfAny ts b ⊎ IsBeadOfAny us b)
   pub same : (a b : NodeStore) (ts us : List Truth) → ((t : Truth) → IsBeadOfAny ts t ↔ IsBeadOfAny us t) → Makes a b ts → Makes a b us
   -- where the beads are too many, they are too many with further ones, and after those before were made
@@ -59,17 +61,17 @@ pub record MakingLaws : Type 0 where
   -- from a store of no node on, what is held are the beads of the tables, and they fit the limit
   pub start_refused : (s : NodeStore) (ts : List Truth) → s.nodes ≡ [] → AreTooMany s ts → HasMoreThan (IsBeadOfAny ts) s.limit
   pub start_fits : (s now : NodeStore) (ts : List Truth) → s.nodes ≡ [] → IsStore now → Makes s now ts → HasMoreThan (IsBeadOfAny ts) s.limit → ⊥
-  -- Refs keep what they stand for; some may be picked at places
-  pub stands_still : (a b : NodeStore) (t : Truth) (r : Ref) → Keeps a b → StandsFor a t r → StandsFor b t r
-  pub all_still : (a b : NodeStore) (t : ℕ → Truth) (refs : List Ref) → Keeps a b → StandForAll a t refs → StandForAll b t refs
+  -- Refs keep their meaning; some may be picked at places
+  pub occurs_still : (a b : NodeStore) (t : Truth) (r : Ref) → Keeps a b → Represents a t r → Represents b t r
+  pub all_still : (a b : NodeStore) (t : ℕ → Truth) (refs : List Ref) → Keeps a b → RepresentAll a t refs → RepresentAll b t refs
   pub cells_still : (a b : NodeStore) (r : Reading) (spec imp : Netlist) (of_spec of_imp : List Ref) → Keeps a b → HaveCells a r spec imp of_spec of_imp → HaveCells b r spec imp of_spec of_imp
   pub picked_refs : (s : NodeStore) (refs : List Ref) (places : List ℕ) → AreRefs s refs → All (λ place. place < length refs) places → AreRefs s (map (ref_at refs) places)
-  pub picked_stand : (s : NodeStore) (t : ℕ → Truth) (refs : List Ref) (places : List ℕ) → StandForAll s t refs → All (λ place. place < length refs) places
-      → StandForAll s (λ j. t (slice_index places j)) (map (ref_at refs) places)
+  pub picked_occur : (s : NodeStore) (t : ℕ → Truth) (refs : List Ref) (places : List ℕ) → RepresentAll s t refs → All (λ place. place < length refs) places
+      → RepresentAll s (λ j. t (slice_index places j)) (map (ref_at refs) places)
 
 -- the numbers that points spell
 pub record PointLaws : Type 0 where
   pub append : (x w : List Bool) → number_of (x ++ w) ≡ number_of x * 2 ^ length w + number_of w
   pub zeros : (k : ℕ) → number_of (replicate k false) ≡ 0
-  -- with zeros behind the greater one, the first bits of the smaller one spell no more
+  -- with zeros after the greater one, the first bits of the smaller one spell no more
   pub first_bits : (x w y : List Bool) (k : ℕ) → length w ≡ k → number_of (x ++ w) ≤ number_of (y ++ replicate k false) → number_of x ≤ number_of y

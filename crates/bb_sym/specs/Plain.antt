@@ -1,6 +1,6 @@
--- The bits of the cells of nets, and where outputs are wrong, as Boolean functions of points. A point gives a bit to each variable
--- of a check, the first variable first. Checks order their variables differently, so how a point is read is a parameter: which
--- bits the inputs have, and which the output pins of the boxes.
+-- The bits of the cells of nets, and where outputs are wrong, as Boolean functions of points. A point gives a bit to
+-- each variable of a check, the first variable first. Checks order their variables differently, so how a point is read
+-- is a parameter: which bits the inputs have, and which the output pins of the boxes.
 use Rattle.std.specs.Prelude.{◌≡◌, ◌≤◌, ◌<◌, ℕ, zero, suc, ◌+◌, ◌-◌, Bool, false, true, List, [], ◌∷◌, ◌++◌, length, map, take, slice_index, slice_index_or}
 use Rattle.std.specs.List.{list_any, range_with_len}
 use Rattle.bb_bits.specs.Bits.{xor}
@@ -12,7 +12,7 @@ use Rattle.bb_net.specs.Values.{bit_of, flat, output_pins}
 abbrev pub Function : Type 0
 Function = List Bool → Bool
 
--- its truth table for so many variables
+-- its truth table over n variables
 abbrev pub table : ℕ → Function → Truth
 table zero f = Bit (f [])
 table (suc n) f = Halves (table n (λ x. f (false ∷ x))) (table n (λ x. f (true ∷ x)))
@@ -46,7 +46,7 @@ pub record Reading : Type 0 where
   pub inputs : List Bool → List Bool
   pub pins : List Bool → List Bool
 
--- for a net without boxes, the inputs alone
+-- for a net without boxes, only the inputs
 abbrev pub without_pins : Reading → Reading
 without_pins r = record { inputs = r.inputs; pins = λ p. [] }
 

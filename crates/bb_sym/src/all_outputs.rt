@@ -1,4 +1,7 @@
-//! The least vector at which some output is wrong whatever the boxes give, which need not be the same output for all of it.
+//! The check of all outputs together: a vector at which, whatever the boxes give, some output is wrong, which may be
+//! another output for other contents. It refutes more than the check output by output, at the price of the disjunction
+//! of all differences. All functions are made before a vector is looked for, so `Nodes` comes exactly where their beads
+//! exceed the budget, whatever would be found.
 
 ghost use Rattle.std.specs.Prelude.{◌≡◌, ◌≤◌, ◌+◌, ◌++◌, ℕ, [], length, map, Some, None, IfOk, OnOk, IsErrOf, IfSome, IfNone};
 ghost use Rattle.bb_bits.specs.Truth.{IsBeadOfAny};
@@ -7,7 +10,7 @@ ghost use Rattle.bb_net.specs.Conditions.{HasAlwaysWrong, AllSometimesRight};
 ghost use Rattle.bb_net.specs.Values.{output_pins};
 ghost use Rattle.bb_sym.specs.Functions.{output_functions, all_always_wrong, inputs_and_pins};
 ghost use Rattle.bb_sym.specs.Finds.{FindsVector};
-ghost use Rattle.bb_sym.specs.Inside.Made.{Makes, AreTooMany, StandsFor, StandForAll};
+ghost use Rattle.bb_sym.specs.Inside.Made.{Makes, AreTooMany, Represents, RepresentAll};
 
 use crate::blocks::quantify_block;
 use crate::differences::some_wrong;
@@ -20,8 +23,8 @@ use bb_quant::least;
 use bb_uniq::laws;
 use std::alloc::Global;
 
-/// The least vector at which, whatever the boxes give, some output is wrong, which need not be the same one for all of it. No
-/// output is told.
+/// The least vector at which, whatever the boxes give, some output is wrong. `output` of the answer is none, since it
+/// may be another one for other contents.
 ///
 /// # Errors
 ///
@@ -45,8 +48,8 @@ pub fn output(
     output_of(alloc, spec, imp, nodes, cache)
 }
 
-/// As [`output`], for a specification without boxes and an implementation that need not be a pair: they have the same inputs and as
-/// many outputs, and inputs and output pins are at most 2,048 together.
+/// As [`output`], for two netlists that need not be a pair: the specification without boxes, the same inputs, as many
+/// outputs, and at most 2,048 inputs and output pins together. A search that fills boxes has no pair.
 ///
 /// # Errors
 ///
@@ -89,7 +92,7 @@ pub fn output_of(
     }))
 }
 
-/// Makes all functions of the check. The diagram is 1 where some output is wrong whatever the boxes give.
+/// The pins come after the inputs, so quantifying them leaves a diagram over the inputs.
 fn output_diagram(
     alloc: Global,
     d: &mut Diagrams,
@@ -105,7 +108,7 @@ fn output_diagram(
     requires pins { pins ≡ output_pins imp.now.boxes }
     requires vars { inputs + pins ≡ d.old.store.vars }
     requires few { d.old.store.vars ≤ 2048 }
-    ensures result { IfOk result (StandsFor d.new.store (all_always_wrong spec.now imp.now)) }
+    ensures result { IfOk result (Represents d.new.store (all_always_wrong spec.now imp.now)) }
     ensures makes { OnOk result (Makes d.old.store d.new.store (output_functions spec.now imp.now)) }
     ensures nodes { IsErrOf result RungFault.Nodes → AreTooMany d.old.store (output_functions spec.now imp.now) }
 {

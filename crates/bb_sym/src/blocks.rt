@@ -1,4 +1,7 @@
-//! A block of variables quantified: what is left depends on the others alone.
+//! A block of adjacent variables quantified, the last one first. So each step leaves "for all values" (or "for some")
+//! of a shorter block, about which `bb_bits` has laws, and the beads of each step count as those of the check.
+//! Variables that the diagram does not have are passed over: otherwise each would cost a walk through it that changes
+//! nothing.
 
 ghost use Rattle.std.specs.Prelude.{◌≡◌, ◌+◌, ◌<◌, ◌≤◌, false, IfOk, OnOk, IsErrOf};
 ghost use Rattle.bb_bits.specs.Truth.{quantified, quantified_block};
@@ -7,7 +10,7 @@ ghost use Rattle.bb_uniq.specs.Inside.Nodes.{IsRef};
 ghost use Rattle.bb_uniq.specs.Inside.Meaning.{truth_of, Adds, Keeps, IsTooMany};
 ghost use Rattle.bb_sym.specs.Inside.Dependence.{IsIndependent};
 ghost use Rattle.bb_sym.specs.Plain.{block_functions};
-ghost use Rattle.bb_sym.specs.Inside.Made.{Makes, AreTooMany, StandsFor};
+ghost use Rattle.bb_sym.specs.Inside.Made.{Makes, AreTooMany, Represents};
 
 use crate::RungFault;
 use crate::variables::variables_of;
@@ -17,9 +20,9 @@ use bb_quant::{exists, forall};
 use bb_uniq::laws;
 use std::alloc::Global;
 
-/// The diagram that is 1 where `f` is 1 for all values of `count` variables from `first` on, or, where `all` is false, for some
-/// values. The last one is quantified first, and each function on the way is made. A variable on which `f` does not depend is
-/// passed over, since it leaves each function as it is.
+/// The diagram of `f` with `count` variables from `first` on quantified, by "for all" or, where `all` is false, by "for
+/// some". The result of each step stays in the store and counts. One walk finds the variables for the whole block,
+/// since quantifying adds none.
 ///
 /// # Errors
 ///
@@ -36,7 +39,7 @@ pub fn quantify_block(
     requires vars { first + count ≤ d.old.store.vars }
     requires few { d.old.store.vars ≤ 2048 }
     ensures kept { Keeps d.old.store d.new.store }
-    ensures result { IfOk result (StandsFor d.new.store (quantified_block (quantifier all) first count (truth_of d.old.store f.0))) }
+    ensures result { IfOk result (Represents d.new.store (quantified_block (quantifier all) first count (truth_of d.old.store f.0))) }
     ensures makes { OnOk result (Makes d.old.store d.new.store (block_functions (quantifier all) first count (truth_of d.old.store f.0))) }
     ensures nodes { IsErrOf result RungFault.Nodes → AreTooMany d.old.store (block_functions (quantifier all) first count (truth_of d.old.store f.0)) }
 {
@@ -55,7 +58,6 @@ pub fn quantify_block(
     Ok(r)
 }
 
-/// One variable quantified, on which the diagram may depend.
 fn quantify_one(d: &mut Diagrams, all: bool, f: Ref, v: u32, depends: bool) -> Result<Ref, DdFault>
     requires f { IsRef d.old.store f.0 }
     requires v { v < d.old.store.vars }

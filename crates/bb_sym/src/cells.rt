@@ -1,4 +1,6 @@
-//! The cells of both nets as diagrams. Where the variables of the inputs and of the output pins stand is left to the check.
+//! Cells of both nets as BDDs, bottom up in cell order. The order of variables is a parameter (`first`, `starts`),
+//! since checks order inputs and pins differently. One loop serves both nets: a specification has no box, so variables
+//! of pins do not change it, by the law that without boxes every value is known.
 
 ghost use Rattle.std.specs.Prelude.{if◌then◌else◌, ◌≡◌, ◌+◌, ◌<◌, ◌≤◌, ℕ, [], length, IfOk, OnOk, IsErrOf, slice_index_or};
 ghost use Rattle.bb_bits.specs.Truth.{variable};
@@ -7,7 +9,7 @@ ghost use Rattle.bb_uniq.specs.Inside.Meaning.{Adds, Keeps, IsTooMany};
 ghost use Rattle.bb_net.specs.declared.cell.Cell.TheVariants as cells;
 ghost use Rattle.bb_net.specs.Netlists.{ReadsBefore};
 ghost use Rattle.bb_sym.specs.Plain.{Reading, AreVariables, cell_bit, table, variables, plain_functions_at};
-ghost use Rattle.bb_sym.specs.Inside.Made.{Makes, AreTooMany, StandForAll, StandForFirst, ForEachReading, AreRefs, AreCells, HaveCells};
+ghost use Rattle.bb_sym.specs.Inside.Made.{Makes, AreTooMany, RepresentAll, RepresentFirst, ForEachReading, AreRefs, AreCells, HaveCells};
 ghost use Rattle.bb_sym.specs.Inside.Made.{bits_tables, cell_table, tables_at};
 
 use crate::RungFault;
@@ -16,7 +18,7 @@ use bb_net::{Cell, Net, value_exists};
 use bb_uniq::laws;
 use std::alloc::Global;
 
-/// The diagrams of all variables, and those of the cells of both nets by their places.
+/// BDDs by variable, and by cell place.
 #[derive(Drop)]
 pub struct PlainCells {
     pub variables: Vec<Ref>,
@@ -24,10 +26,10 @@ pub struct PlainCells {
     pub imp: Vec<Ref>,
 }
 
-/// Makes the variables and the cells of both nets, a specification without boxes and an implementation with the same inputs.
+/// Makes the variables and the cells of a specification without boxes and an implementation with the same inputs.
 ///
-/// There are `vars` variables. The inputs have those from `first` on, and the output pins of a box those from its entry of
-/// `starts` on.
+/// Input `i` has variable `first + i`; pin `p` of box `b` has `starts[b] + p`. All `vars` variables are made, also
+/// unused ones, so the set of functions does not depend on the netlists' reads.
 ///
 /// # Errors
 ///
@@ -46,7 +48,7 @@ pub fn plain_cells(
     requires no_box { spec.now.boxes ≡ [] }
     requires variables { AreVariables d.old.store.vars first starts.now imp.now }
     ensures kept { Keeps d.old.store d.new.store }
-    ensures variables { IfOk result (λ made. StandForFirst d.new.store (variable d.old.store.vars) d.old.store.vars made.variables.items) }
+    ensures variables { IfOk result (λ made. RepresentFirst d.new.store (variable d.old.store.vars) d.old.store.vars made.variables.items) }
     ensures refs { IfOk result (λ made. AreCells d.new.store spec.now imp.now made.spec.items made.imp.items) }
     ensures cells { ForEachReading d.old.store.vars first starts.now imp.now
         (λ r. IfOk result (λ made. HaveCells d.new.store r spec.now imp.now made.spec.items made.imp.items)) }
@@ -65,7 +67,6 @@ pub fn plain_cells(
     })
 }
 
-/// Makes all variables.
 pub(crate) fn make_variables(
     alloc: Global,
     d: &mut Diagrams,
@@ -73,7 +74,7 @@ pub(crate) fn make_variables(
 ) -> Result<Vec<Ref>, RungFault>
     requires { count ≡ d.old.store.vars }
     ensures kept { Keeps d.old.store d.new.store }
-    ensures refs { IfOk result (λ made. StandForFirst d.new.store (variable d.old.store.vars) d.old.store.vars made.items) }
+    ensures refs { IfOk result (λ made. RepresentFirst d.new.store (variable d.old.store.vars) d.old.store.vars made.items) }
     ensures makes { OnOk result (Makes d.old.store d.new.store (variables d.old.store.vars)) }
     ensures nodes { IsErrOf result RungFault.Nodes → AreTooMany d.old.store (variables d.old.store.vars) }
 {
@@ -85,7 +86,7 @@ pub(crate) fn make_variables(
     Ok(made)
 }
 
-/// The diagrams of the cells of a net, by their places. There may be more variables than it has.
+/// `d` may have more variables than the net reads.
 pub(crate) fn net_cells(
     alloc: Global,
     d: &mut Diagrams,
@@ -98,7 +99,7 @@ pub(crate) fn net_cells(
     ensures count { IfOk result (λ made. length made.items ≡ length net.now.cells) }
     ensures refs { IfOk result (λ made. AreRefs d.new.store made.items) }
     ensures cells { ForEachReading d.old.store.vars first starts.now net.now
-        (λ r. IfOk result (λ made. StandForAll d.new.store (λ place. table d.old.store.vars (cell_bit r net.now place)) made.items)) }
+        (λ r. IfOk result (λ made. RepresentAll d.new.store (λ place. table d.old.store.vars (cell_bit r net.now place)) made.items)) }
     ensures makes { ForEachReading d.old.store.vars first starts.now net.now
         (λ r. OnOk result (Makes d.old.store d.new.store (bits_tables d.old.store.vars r net.now))) }
     ensures nodes { ForEachReading d.old.store.vars first starts.now net.now
@@ -114,7 +115,7 @@ pub(crate) fn net_cells(
     Ok(made)
 }
 
-/// The diagram of a cell, where those of the places that it reads are made.
+/// `made` has the BDDs of all earlier cells, and a cell reads no others.
 fn cell_diagram(
     d: &mut Diagrams,
     cell: Cell,
@@ -147,7 +148,7 @@ fn cell_diagram(
     }
 }
 
-/// The leaf of a bit.
+/// Ref 0 is the leaf false and Ref 1 the leaf true.
 pub(crate) fn leaf(bit: bool) -> Ref
     ensures { result.0 ≡ (if bit then 1 else 0) }
 {

@@ -1,11 +1,12 @@
-//! Where bits differ: outputs that are wrong, and the disjunction of differences.
+//! The outputs that differ, and their disjunction. The disjunction is folded from the first output on, since each
+//! partial result is a function of the check and counts as beads: another order could count differently.
 
 ghost use Rattle.std.specs.Prelude.{◌≡◌, ◌<◌, ℕ, All, length, map, IfOk, OnOk, IsErrOf};
 ghost use Rattle.bb_uniq.specs.Inside.Nodes.{IsRef};
 ghost use Rattle.bb_uniq.specs.Inside.Meaning.{Adds, Keeps, IsTooMany};
 ghost use Rattle.bb_sym.specs.Plain.{Function, Reading, is_wrong_at, one_of, table};
 ghost use Rattle.bb_sym.specs.Functions.{inputs_first, is_wrong};
-ghost use Rattle.bb_sym.specs.Inside.Made.{Makes, AreTooMany, AreRefs, StandsFor, StandForAll, StandForFunctions, AreCells, HaveCells};
+ghost use Rattle.bb_sym.specs.Inside.Made.{Makes, AreTooMany, AreRefs, Represents, RepresentAll, RepresentFunctions, AreCells, HaveCells};
 ghost use Rattle.bb_sym.specs.Inside.Made.{differ_each, first_tables, some_tables, ref_at};
 
 use crate::RungFault;
@@ -16,7 +17,7 @@ use bb_dd::{DdFault, Diagrams, Ref};
 use bb_net::{Net, Pair};
 use std::alloc::Global;
 
-/// Makes, output by output, where it is wrong, and then the disjunction of these, which is given: 1 where some output is wrong.
+/// Also makes the difference of each output, in order; the result is 1 where some output is wrong.
 ///
 /// # Errors
 ///
@@ -32,7 +33,7 @@ pub fn some_wrong(
     requires made { AreCells d.old.store spec.now imp.now made.now.spec.items made.now.imp.items }
     ensures kept { Keeps d.old.store d.new.store }
     ensures result { (r : Reading) → HaveCells d.old.store r spec.now imp.now made.now.spec.items made.now.imp.items
-        → IfOk result (StandsFor d.new.store (table d.old.store.vars (one_of (is_wrong_at r spec.now imp.now) (length imp.now.outs)))) }
+        → IfOk result (Represents d.new.store (table d.old.store.vars (one_of (is_wrong_at r spec.now imp.now) (length imp.now.outs)))) }
     ensures makes { (r : Reading) → HaveCells d.old.store r spec.now imp.now made.now.spec.items made.now.imp.items
         → OnOk result (Makes d.old.store d.new.store (some_tables d.old.store.vars (is_wrong_at r spec.now imp.now) (length imp.now.outs))) }
     ensures nodes { (r : Reading) → HaveCells d.old.store r spec.now imp.now made.now.spec.items made.now.imp.items
@@ -44,7 +45,7 @@ pub fn some_wrong(
     Ok(any)
 }
 
-/// Makes, entry by entry, where the diagrams of two lists differ, and then the disjunction of these, which is given.
+/// As `some_wrong`, for two lists of diagrams of the same length.
 ///
 /// # Errors
 ///
@@ -59,11 +60,11 @@ pub fn some_differ(
     requires gs { AreRefs d.old.store gs.now }
     requires count { length fs.now ≡ length gs.now }
     ensures kept { Keeps d.old.store d.new.store }
-    ensures result { (f g : ℕ → Function) → StandForFunctions d.old.store f fs.now → StandForFunctions d.old.store g gs.now
-        → IfOk result (StandsFor d.new.store (table d.old.store.vars (one_of (differ_each f g) (length fs.now)))) }
-    ensures makes { (f g : ℕ → Function) → StandForFunctions d.old.store f fs.now → StandForFunctions d.old.store g gs.now
+    ensures result { (f g : ℕ → Function) → RepresentFunctions d.old.store f fs.now → RepresentFunctions d.old.store g gs.now
+        → IfOk result (Represents d.new.store (table d.old.store.vars (one_of (differ_each f g) (length fs.now)))) }
+    ensures makes { (f g : ℕ → Function) → RepresentFunctions d.old.store f fs.now → RepresentFunctions d.old.store g gs.now
         → OnOk result (Makes d.old.store d.new.store (some_tables d.old.store.vars (differ_each f g) (length fs.now))) }
-    ensures nodes { (f g : ℕ → Function) → StandForFunctions d.old.store f fs.now → StandForFunctions d.old.store g gs.now
+    ensures nodes { (f g : ℕ → Function) → RepresentFunctions d.old.store f fs.now → RepresentFunctions d.old.store g gs.now
         → IsErrOf result RungFault.Nodes → AreTooMany d.old.store (some_tables d.old.store.vars (differ_each f g) (length fs.now)) }
 {
     let different = differences(alloc, d, fs, gs)?;
@@ -71,7 +72,6 @@ pub fn some_differ(
     Ok(any)
 }
 
-/// The diagrams that are 1 where those of two lists differ, entry by entry.
 fn differences(
     alloc: Global,
     d: &mut Diagrams,
@@ -84,11 +84,11 @@ fn differences(
     ensures kept { Keeps d.old.store d.new.store }
     ensures count { IfOk result (λ refs. length refs.items ≡ length fs.now) }
     ensures refs { IfOk result (λ refs. AreRefs d.new.store refs.items) }
-    ensures stand { (f g : ℕ → Function) → StandForFunctions d.old.store f fs.now → StandForFunctions d.old.store g gs.now
-        → IfOk result (λ refs. StandForAll d.new.store (λ j. table d.old.store.vars (differ_each f g j)) refs.items) }
-    ensures makes { (f g : ℕ → Function) → StandForFunctions d.old.store f fs.now → StandForFunctions d.old.store g gs.now
+    ensures occur { (f g : ℕ → Function) → RepresentFunctions d.old.store f fs.now → RepresentFunctions d.old.store g gs.now
+        → IfOk result (λ refs. RepresentAll d.new.store (λ j. table d.old.store.vars (differ_each f g j)) refs.items) }
+    ensures makes { (f g : ℕ → Function) → RepresentFunctions d.old.store f fs.now → RepresentFunctions d.old.store g gs.now
         → OnOk result (Makes d.old.store d.new.store (first_tables d.old.store.vars (differ_each f g) (length fs.now))) }
-    ensures nodes { (f g : ℕ → Function) → StandForFunctions d.old.store f fs.now → StandForFunctions d.old.store g gs.now
+    ensures nodes { (f g : ℕ → Function) → RepresentFunctions d.old.store f fs.now → RepresentFunctions d.old.store g gs.now
         → IsErrOf result RungFault.Nodes → AreTooMany d.old.store (first_tables d.old.store.vars (differ_each f g) (length fs.now)) }
 {
     let mut refs = Vec::with_capacity(alloc, fs.len())?;
@@ -99,7 +99,7 @@ fn differences(
     Ok(refs)
 }
 
-/// The entries of a list at places.
+/// In the order of `places`.
 pub fn picked(alloc: Global, refs: &[Ref], places: &[u32]) -> Result<Vec<Ref>, NoMemory>
     requires { All (λ place. place < length refs.now) places.now }
     ensures { IfOk result (λ picked. picked.items ≡ map (ref_at refs.now) places.now) }
@@ -111,7 +111,6 @@ pub fn picked(alloc: Global, refs: &[Ref], places: &[u32]) -> Result<Vec<Ref>, N
     Ok(picked)
 }
 
-/// The diagram that is 1 where an output is wrong, the variables being the inputs and then the output pins.
 pub(crate) fn wrong_output(
     d: &mut Diagrams,
     pair: &Pair,

@@ -1,4 +1,6 @@
-//! The first output that is wrong whatever the boxes give, at the least such vector.
+//! The check output by output: an output that at some vector is wrong whatever the boxes give. Each output has its own
+//! diagram, so no disjunction over all outputs is made, but an error that needs two outputs together is missed. All
+//! outputs are made before the first vector is looked for, so `Nodes` does not depend on what is found.
 
 ghost use Rattle.std.specs.Prelude.{◌≡◌, ◌≤◌, ◌<◌, ◌+◌, ℕ, length, Some, IfOk, OnOk, IsErrOf, IfSome, IfNone};
 ghost use Rattle.std.specs.List.{flat_map};
@@ -9,7 +11,7 @@ ghost use Rattle.bb_net.specs.Values.{output_pins};
 ghost use Rattle.bb_sym.specs.Functions.{inputs_first, local_functions, always_wrong, wrong_for_all_pins};
 ghost use Rattle.bb_sym.specs.Plain.{outputs};
 ghost use Rattle.bb_sym.specs.Finds.{FindsOutput, IsSometimesRight};
-ghost use Rattle.bb_sym.specs.Inside.Made.{Makes, AreTooMany, StandsFor, StandForAll, StandForFirst, HaveCells};
+ghost use Rattle.bb_sym.specs.Inside.Made.{Makes, AreTooMany, Represents, RepresentAll, RepresentFirst, HaveCells};
 
 use crate::blocks::quantify_block;
 use crate::cells::PlainCells;
@@ -23,7 +25,7 @@ use bb_net::Pair;
 use bb_uniq::laws;
 use std::alloc::Global;
 
-/// The first output that is wrong at some vector whatever the boxes give, and the least such vector.
+/// The first such output, and the least vector for it.
 ///
 /// # Errors
 ///
@@ -59,7 +61,6 @@ pub fn local(alloc: Global, pair: &Pair, nodes: u32, cache: u32) -> Result<Optio
     }
 }
 
-/// Makes all functions of the check. The diagrams are, output by output, 1 where it is wrong whatever the boxes give.
 fn local_diagrams(
     alloc: Global,
     d: &mut Diagrams,
@@ -71,7 +72,7 @@ fn local_diagrams(
     requires pins { pins ≡ output_pins pair.now.imp.boxes }
     requires vars { inputs + pins ≡ d.old.store.vars }
     requires few { d.old.store.vars ≤ 2048 }
-    ensures refs { IfOk result (λ refs. StandForFirst d.new.store (always_wrong pair.now.spec pair.now.imp) (length pair.now.imp.outs) refs.items) }
+    ensures refs { IfOk result (λ refs. RepresentFirst d.new.store (always_wrong pair.now.spec pair.now.imp) (length pair.now.imp.outs) refs.items) }
     ensures makes { OnOk result (Makes d.old.store d.new.store (local_functions pair.now.spec pair.now.imp)) }
     ensures nodes { IsErrOf result RungFault.Nodes → AreTooMany d.old.store (local_functions pair.now.spec pair.now.imp) }
 {
@@ -82,7 +83,6 @@ fn local_diagrams(
     Ok(refs)
 }
 
-/// The diagrams that are 1 where an output is wrong whatever the boxes give, output by output.
 fn always_wrong_outputs(
     alloc: Global,
     d: &mut Diagrams,
@@ -96,7 +96,7 @@ fn always_wrong_outputs(
     requires pins { pins ≡ output_pins pair.now.imp.boxes }
     requires vars { inputs + pins ≡ d.old.store.vars }
     requires few { d.old.store.vars ≤ 2048 }
-    ensures refs { IfOk result (λ refs. StandForFirst d.new.store (always_wrong pair.now.spec pair.now.imp) (length pair.now.imp.outs) refs.items) }
+    ensures refs { IfOk result (λ refs. RepresentFirst d.new.store (always_wrong pair.now.spec pair.now.imp) (length pair.now.imp.outs) refs.items) }
     ensures makes { OnOk result (Makes d.old.store d.new.store (flat_map (wrong_for_all_pins pair.now.spec pair.now.imp) (outputs pair.now.imp))) }
     ensures nodes { IsErrOf result RungFault.Nodes → AreTooMany d.old.store (flat_map (wrong_for_all_pins pair.now.spec pair.now.imp) (outputs pair.now.imp)) }
 {
@@ -109,7 +109,6 @@ fn always_wrong_outputs(
     Ok(refs)
 }
 
-/// The diagram that is 1 where an output is wrong whatever the boxes give.
 fn always_wrong_output(
     alloc: Global,
     d: &mut Diagrams,
@@ -125,7 +124,7 @@ fn always_wrong_output(
     requires pins { pins ≡ output_pins pair.now.imp.boxes }
     requires vars { inputs + pins ≡ d.old.store.vars }
     requires few { d.old.store.vars ≤ 2048 }
-    ensures result { IfOk result (StandsFor d.new.store (always_wrong pair.now.spec pair.now.imp j)) }
+    ensures result { IfOk result (Represents d.new.store (always_wrong pair.now.spec pair.now.imp j)) }
     ensures makes { OnOk result (Makes d.old.store d.new.store (wrong_for_all_pins pair.now.spec pair.now.imp j)) }
     ensures nodes { IsErrOf result RungFault.Nodes → AreTooMany d.old.store (wrong_for_all_pins pair.now.spec pair.now.imp j) }
 {

@@ -1,4 +1,5 @@
-//! Why a check gives no answer.
+//! Faults of the checks by BDDs: the budget and memory are kept apart, since the first is a function of the pair and
+//! the second is not.
 
 ghost use Rattle.std.specs.Prelude.{◌≡◌};
 
@@ -6,10 +7,10 @@ use bb_bits::NoMemory;
 use bb_dd::DdFault;
 use std::alloc::AllocFailed;
 
-/// Why a check by diagrams gives no answer.
+/// `Nodes` is decided by the pair and the budget alone, `NoMemory` by the machine.
 #[derive(Clone, Copy, Debug, PartialEq, Eq)]
 pub enum RungFault {
-    /// The functions of the check have more beads than it may hold.
+    /// The functions of the check have more beads than the budget, exactly then.
     Nodes,
     NoMemory,
 }

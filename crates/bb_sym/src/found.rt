@@ -1,7 +1,7 @@
-//! What a check finds.
+//! What a check finds: a witness, so that a reader can simulate it and need not believe the BDDs.
 
-/// A vector at which the implementation is wrong, and the output that is told: the first one for which there is such a
-/// vector. The check of all outputs together tells none.
+/// A vector at which the implementation is wrong, and the first output for which there is one; `output` is none from
+/// the check of all outputs together.
 #[derive(Debug, Drop)]
 pub struct Found {
     pub output: Option<u32>,

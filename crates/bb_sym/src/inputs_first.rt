@@ -1,4 +1,5 @@
-//! The cells of both nets where the variables are the inputs and then the output pins of the boxes, box after box.
+//! The variable order inputs, then pins box after box. Pins are quantified from the last on, so they are last in the
+//! order and what remains needs no renaming.
 
 ghost use Rattle.std.specs.Prelude.{◌≡◌, ◌+◌, ◌<◌, ◌≤◌, ℕ, [], length, take, IfOk, OnOk, IsErrOf, slice_index_or};
 ghost use Rattle.bb_net.specs.Values.{output_pins};
@@ -12,7 +13,6 @@ use bb_dd::{Diagrams, Ref};
 use bb_net::{BoxPins, Net};
 use std::alloc::Global;
 
-/// Makes the variables and the cells of both nets.
 pub(crate) fn ordered_cells(
     alloc: Global,
     d: &mut Diagrams,
@@ -35,7 +35,6 @@ pub(crate) fn ordered_cells(
     Ok(made)
 }
 
-/// How many output pins boxes have.
 pub(crate) fn count_pins(boxes: &[BoxPins]) -> u32
     requires { output_pins boxes.now ≤ 2048 }
     ensures { result ≡ output_pins boxes.now }
@@ -47,7 +46,7 @@ pub(crate) fn count_pins(boxes: &[BoxPins]) -> u32
     count
 }
 
-/// The first variable of each box, where its output pins have one variable each, box after box, from `first` on.
+/// Box `b` has its output pins from entry `b` on.
 fn first_variables(alloc: Global, first: u32, boxes: &[BoxPins]) -> Result<Vec<u32>, NoMemory>
     requires { first + output_pins boxes.now ≤ 2048 }
     ensures count { IfOk result (λ starts. length starts.items ≡ length boxes.now) }

@@ -1,5 +1,6 @@
-//! The cells of an implementation whose boxes are unknown: for each cell a diagram that is 1 where it is known to be 1, and one
-//! that is 1 where it is known to be 0. The variables are the inputs.
+//! 0-1-X simulation of an implementation over all vectors at once, in dual-rail encoding; a box output is X everywhere.
+//! Each gate is a fixed sequence of joins of its operands' tables, which the definitions repeat, so what the store
+//! makes is what they list. Only the inputs are variables: no pin has one.
 
 ghost use Rattle.std.specs.Prelude.{◌≡◌, [], length, IfOk, OnOk, IsErrOf};
 ghost use Rattle.std.specs.List.{flat_map};
@@ -17,7 +18,6 @@ use bb_net::{Cell, Net, tern_exists};
 use bb_uniq::laws;
 use std::alloc::Global;
 
-/// The diagrams of the cells of a net, by their places.
 pub(crate) fn known_cells(
     alloc: Global,
     d: &mut Diagrams,
@@ -39,7 +39,6 @@ pub(crate) fn known_cells(
     Ok(made)
 }
 
-/// The diagrams of a cell, where those of the places that it reads are made.
 fn known_cell(d: &mut Diagrams, cell: Cell, made: &[DualRail]) -> Result<DualRail, RungFault>
     requires reads { ReadsBefore d.old.store.vars [] (length made.now) cell }
     requires made { AreAllRails d.old.store made.now }

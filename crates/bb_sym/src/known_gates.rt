@@ -1,4 +1,5 @@
-//! The gates on values in three values, each as two diagrams: where it is known to be 1, and where it is known to be 0.
+//! Gates in three values (0, 1, X), dual-rail: a function for "known to be 1" and one for "known to be 0". The dual
+//! rail keeps X out of the BDDs, whose leaves stay 0 and 1.
 
 ghost use Rattle.std.specs.Prelude.{◌<◌, IfOk, OnOk, IsErrOf};
 ghost use Rattle.bb_sym.specs.Inside.Made.{Makes, AreTooMany};
@@ -9,14 +10,13 @@ use crate::RungFault;
 use crate::sums::{choice, sum_of_products};
 use bb_dd::{Diagrams, Ref};
 
-/// A value in three values as two diagrams, the dual-rail encoding: where it is known to be 1, and where it is known to be 0.
+/// `one` and `zero` are never both 1; where both are 0 the value is X.
 #[derive(Clone, Copy)]
 pub(crate) struct DualRail {
     pub(crate) one: Ref,
     pub(crate) zero: Ref,
 }
 
-/// An input, which is always known.
 pub(crate) fn known_input(d: &mut Diagrams, i: u32) -> Result<DualRail, RungFault>
     requires { i < d.old.store.vars }
     ensures rails { IfOk result (HaveRails d.new.store (input_rails d.old.store.vars i)) }
@@ -28,7 +28,7 @@ pub(crate) fn known_input(d: &mut Diagrams, i: u32) -> Result<DualRail, RungFaul
     Ok(DualRail { one, zero })
 }
 
-/// Known to be 1 where both are, and to be 0 where one is.
+/// A known 0 decides even where the other operand is X.
 pub(crate) fn known_and(d: &mut Diagrams, a: DualRail, b: DualRail) -> Result<DualRail, RungFault>
     requires a { AreRails d.old.store a }
     requires b { AreRails d.old.store b }
@@ -41,7 +41,7 @@ pub(crate) fn known_and(d: &mut Diagrams, a: DualRail, b: DualRail) -> Result<Du
     Ok(DualRail { one, zero })
 }
 
-/// Known to be 1 where one is, and to be 0 where both are.
+/// A known 1 decides even where the other operand is X.
 pub(crate) fn known_or(d: &mut Diagrams, a: DualRail, b: DualRail) -> Result<DualRail, RungFault>
     requires a { AreRails d.old.store a }
     requires b { AreRails d.old.store b }
@@ -54,7 +54,7 @@ pub(crate) fn known_or(d: &mut Diagrams, a: DualRail, b: DualRail) -> Result<Dua
     Ok(DualRail { one, zero })
 }
 
-/// Known where both are.
+/// X where either operand is X.
 pub(crate) fn known_xor(d: &mut Diagrams, a: DualRail, b: DualRail) -> Result<DualRail, RungFault>
     requires a { AreRails d.old.store a }
     requires b { AreRails d.old.store b }
@@ -67,7 +67,7 @@ pub(crate) fn known_xor(d: &mut Diagrams, a: DualRail, b: DualRail) -> Result<Du
     Ok(DualRail { one, zero })
 }
 
-/// What is chosen where the condition is known, and what both branches have.
+/// Also known where the condition is X but both branches have the same bit.
 pub(crate) fn known_mux(
     d: &mut Diagrams,
     c: DualRail,

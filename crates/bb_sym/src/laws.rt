@@ -1,4 +1,5 @@
-//! Laws of functions, and of what calls leave in a store. Each function has laws as its contract and does nothing.
+//! Laws of functions and of what calls leave in a store, as contracts of empty functions: crates above call a function
+//! and cite no proof of this one.
 
 ghost use Rattle.bb_net.specs.Netlists.{Netlist, IsNetlist};
 ghost use Rattle.bb_sym.specs.Finds.{FindingsExist};
@@ -9,21 +10,21 @@ use bb_bits::{number_is_below, truth};
 use bb_net::{tern_exists, vectors_hold_or_not};
 use bb_uniq::laws;
 
-/// Functions of points and their tables.
+/// A table has the value of its function at each point, and functions that agree everywhere have one table.
 #[tactic(auto, using(crate::proofs::AllLaws::function_laws))]
 pub fn functions()
     ensures { FunctionLaws }
 {}
 
-/// The tables of a cell where boxes are unknown are among those that are made for it.
+/// The check makes further tables on the way; these two are among them.
 pub fn known_tables()
     ensures { KnownTableLaws }
 {
     tern_exists();
 }
 
-/// The functions of each check have at least as many beads as the cells of the specification alone: over its variables these have
-/// as many as over the inputs, which keep their order.
+/// Where the specification alone has too many beads each check reports `Nodes`: inputs keep their order in all checks,
+/// and variables on which nothing depends add no bead.
 pub fn specification_counts()
     ensures cells { CellsHoldSpecification }
     ensures symbolic { HoldsSpecification symbolic_functions }
@@ -34,7 +35,7 @@ pub fn specification_counts()
     truth::beads();
 }
 
-/// What a sequence of calls makes: the beads of the tables of all its results, and no others.
+/// What a sequence of calls makes is a set of beads, so the order of a list does not matter and lists are appended.
 pub fn making()
     ensures { MakingLaws }
 {
@@ -42,13 +43,13 @@ pub fn making()
     laws::sequences();
 }
 
-/// Points as numbers, the first bit most significant.
+/// A point as a number, the first bit most significant: "least" refers to this order.
 #[tactic(auto, using(crate::proofs::AllLaws::point_laws))]
 pub fn points()
     ensures { PointLaws }
 {}
 
-/// Of each kind a mistake is found, the least vector of the first output, or there is none anywhere.
+/// Each check finds the least vector of the first output, or shows that there is none at any vector.
 pub fn findings_exist()
     ensures { (spec imp : Netlist) → IsNetlist imp → FindingsExist spec imp }
 {

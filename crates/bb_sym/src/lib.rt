@@ -1,4 +1,8 @@
-//! The checks of an implementation with boxes that look at every input vector by decision diagrams.
+//! The checks by BDDs (reduced ordered decision diagrams) that ask what no content of the black boxes can repair,
+//! weakest first: 0-1-X simulation over all vectors (`symbolic`), each output with its box outputs quantified
+//! (`local`), all outputs together (`output`). They are the checks of Scholl and Becker 2001; a weaker one decides less
+//! with smaller diagrams, which is why all three exist. They know nothing of shared contents: what they show of boxes
+//! that are filled one by one is true of fewer contents too.
 #![tactic(auto)]
 
 mod all_outputs;

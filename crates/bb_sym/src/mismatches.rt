@@ -1,4 +1,5 @@
-//! The outputs that are known and wrong although the boxes are unknown: for each a diagram over the inputs that is 1 where it is.
+//! Outputs that are known and wrong in 0-1-X simulation, over the inputs. An output that is X is passed over: contents
+//! that make it right cannot be excluded.
 
 ghost use Rattle.std.specs.Prelude.{◌≡◌, ◌<◌, length, IfOk, OnOk, IsErrOf};
 ghost use Rattle.std.specs.List.{flat_map};
@@ -6,7 +7,7 @@ ghost use Rattle.bb_uniq.specs.Inside.Nodes.{IsRef};
 ghost use Rattle.bb_uniq.specs.Inside.Meaning.{truth_of};
 ghost use Rattle.bb_sym.specs.Functions.{mismatch, mismatches};
 ghost use Rattle.bb_sym.specs.Plain.{outputs};
-ghost use Rattle.bb_sym.specs.Inside.Made.{Makes, AreTooMany, StandsFor, StandForAll, StandForFirst};
+ghost use Rattle.bb_sym.specs.Inside.Made.{Makes, AreTooMany, Represents, RepresentAll, RepresentFirst};
 ghost use Rattle.bb_sym.specs.Inside.Rails.{rails_of, AreRails, HaveKnown, known_functions, known_wrong_table, known_wrong_tables};
 
 use crate::RungFault;
@@ -18,14 +19,14 @@ use bb_dd::{Diagrams, Ref};
 use bb_net::Pair;
 use std::alloc::Global;
 
-/// The diagrams of the cells of both nets, by their places, over the inputs alone.
+/// The specification has plain BDDs, since it has no X.
 #[derive(Drop)]
 pub(crate) struct InputCells {
     pub(crate) spec: Vec<Ref>,
     pub(crate) imp: Vec<DualRail>,
 }
 
-/// Makes the variables and the cells of both nets.
+/// Variables first, so that each is made whether or not a cell reads it.
 pub(crate) fn input_cells(
     alloc: Global,
     d: &mut Diagrams,
@@ -45,7 +46,6 @@ pub(crate) fn input_cells(
     Ok(InputCells { spec, imp })
 }
 
-/// The diagrams that are 1 where an output is known and wrong, output by output.
 pub(crate) fn known_wrong_outputs(
     alloc: Global,
     d: &mut Diagrams,
@@ -53,7 +53,7 @@ pub(crate) fn known_wrong_outputs(
     made: &InputCells,
 ) -> Result<Vec<Ref>, RungFault>
     requires made { HaveKnown d.old.store pair.now.spec pair.now.imp made.now.spec.items made.now.imp.items }
-    ensures refs { IfOk result (λ refs. StandForFirst d.new.store (mismatch pair.now.spec pair.now.imp) (length pair.now.imp.outs) refs.items) }
+    ensures refs { IfOk result (λ refs. RepresentFirst d.new.store (mismatch pair.now.spec pair.now.imp) (length pair.now.imp.outs) refs.items) }
     ensures makes { OnOk result (Makes d.old.store d.new.store (flat_map (mismatches pair.now.spec pair.now.imp) (outputs pair.now.imp))) }
     ensures nodes { IsErrOf result RungFault.Nodes → AreTooMany d.old.store (flat_map (mismatches pair.now.spec pair.now.imp) (outputs pair.now.imp)) }
 {
@@ -66,7 +66,6 @@ pub(crate) fn known_wrong_outputs(
     Ok(refs)
 }
 
-/// The diagram that is 1 where an output is known and wrong.
 fn known_wrong_output(
     d: &mut Diagrams,
     pair: &Pair,
@@ -75,7 +74,7 @@ fn known_wrong_output(
 ) -> Result<Ref, RungFault>
     requires made { HaveKnown d.old.store pair.now.spec pair.now.imp made.now.spec.items made.now.imp.items }
     requires j { j < length pair.now.imp.outs }
-    ensures result { IfOk result (StandsFor d.new.store (mismatch pair.now.spec pair.now.imp j)) }
+    ensures result { IfOk result (Represents d.new.store (mismatch pair.now.spec pair.now.imp j)) }
     ensures makes { OnOk result (Makes d.old.store d.new.store (mismatches pair.now.spec pair.now.imp j)) }
     ensures nodes { IsErrOf result RungFault.Nodes → AreTooMany d.old.store (mismatches pair.now.spec pair.now.imp j) }
 {
@@ -86,11 +85,11 @@ fn known_wrong_output(
     wrong_where_known(d, known, wanted)
 }
 
-/// Where a bit is known to be 1 and is not wanted, or known to be 0 and is.
+/// Known to be 1 and not wanted, or known to be 0 and wanted; X is never wrong.
 fn wrong_where_known(d: &mut Diagrams, known: DualRail, wanted: Ref) -> Result<Ref, RungFault>
     requires known { AreRails d.old.store known }
     requires wanted { IsRef d.old.store wanted.0 }
-    ensures result { IfOk result (StandsFor d.new.store (known_wrong_table (rails_of d.old.store known) (truth_of d.old.store wanted.0))) }
+    ensures result { IfOk result (Represents d.new.store (known_wrong_table (rails_of d.old.store known) (truth_of d.old.store wanted.0))) }
     ensures makes { OnOk result (Makes d.old.store d.new.store (known_wrong_tables (rails_of d.old.store known) (truth_of d.old.store wanted.0))) }
     ensures nodes { IsErrOf result RungFault.Nodes
         → AreTooMany d.old.store (known_wrong_tables (rails_of d.old.store known) (truth_of d.old.store wanted.0)) }

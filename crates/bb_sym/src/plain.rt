@@ -1,5 +1,6 @@
-//! What checks with other orders of variables share: the cells of both nets, where bits differ, and blocks of variables
-//! quantified; and laws of what such calls make.
+//! What checks with other variable orders share: cells, differences and quantified blocks. Each is stated by what a
+//! point means for inputs and pins, not by the place of variables, so one proof serves both orders: inputs first here,
+//! pins first in `bb_input`.
 
 pub use crate::blocks::quantify_block;
 pub use crate::cells::{PlainCells, plain_cells};

@@ -1,4 +1,5 @@
-//! The first of some diagrams that is 1 somewhere, and the least point where it is.
+//! The first diagram that is 1 somewhere. Asking each for its least point needs no test before: a diagram that is
+//! nowhere 1 is the leaf 0, where the walk ends at once.
 
 ghost use Rattle.std.specs.Prelude.{◌≡◌, ◌<◌, ℕ, true, List, Bool, length, IfSome, IfNone};
 ghost use Rattle.bb_bits.specs.Truth.{truth_at};
@@ -10,7 +11,7 @@ ghost use Rattle.bb_sym.specs.Inside.Made.{ref_at, IsNowhereTrue};
 use bb_dd::{Diagrams, Ref};
 use bb_quant::least;
 
-/// The number of the first diagram that is 1 at some point; the least such point is written.
+/// `point` is written only where a diagram is found.
 pub(crate) fn first_true(d: &Diagrams, fs: &[Ref], point: &mut [bool]) -> Option<usize>
     requires fs { (j : ℕ) → j < length fs.now → IsRef d.now.store (ref_at fs.now j).0 }
     requires point { length point.old ≡ d.now.store.vars }

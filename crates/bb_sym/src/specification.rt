@@ -1,4 +1,6 @@
-//! The cells of the specification alone. Each check makes their functions among its own, so where these are too many, all would say so.
+//! A shortcut before further checks: each check makes the specification's cells anew, so if these alone exceed the
+//! budget, all checks do. It comes only after a check reported `Nodes`, and before another by BDDs; at the start,
+//! most pairs would pay for it in vain.
 
 ghost use Rattle.std.specs.Prelude.{◌≡◌, ◌≤◌, true, false, IfOk};
 ghost use Rattle.bb_bits.specs.Truth.{IsBeadOfAny};
@@ -13,7 +15,7 @@ use bb_net::Pair;
 use bb_uniq::laws;
 use std::alloc::Global;
 
-/// Whether the cells of the specification alone have more beads than `nodes`.
+/// True exactly where the cells alone have more than `nodes` beads, over the inputs only.
 pub fn specification_exceeds(
     alloc: Global,
     pair: &Pair,

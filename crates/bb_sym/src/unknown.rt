@@ -1,4 +1,5 @@
-//! Unknown boxes, over all vectors.
+//! The check by 0-1-X simulation over all vectors. It is the weakest and has the fewest variables: it loses every
+//! correlation between box outputs, and finds what is wrong without any.
 
 ghost use Rattle.std.specs.Prelude.{◌≡◌, ◌≤◌, ℕ, length, Some, IfOk, OnOk, IsErrOf, IfSome, IfNone};
 ghost use Rattle.bb_bits.specs.Truth.{IsBeadOfAny};
@@ -6,7 +7,7 @@ ghost use Rattle.bb_bits.specs.TruthSets.{HasMoreThan};
 ghost use Rattle.bb_net.specs.Conditions.{IsKnownWrong, MayBeRight, MayBeRightEverywhere};
 ghost use Rattle.bb_sym.specs.Functions.{mismatch, symbolic_functions};
 ghost use Rattle.bb_sym.specs.Finds.{FindsOutput};
-ghost use Rattle.bb_sym.specs.Inside.Made.{Makes, AreTooMany, StandForAll, StandForFirst};
+ghost use Rattle.bb_sym.specs.Inside.Made.{Makes, AreTooMany, RepresentAll, RepresentFirst};
 
 use crate::mismatches::{input_cells, known_wrong_outputs};
 use crate::searching::first_true;
@@ -17,7 +18,7 @@ use bb_net::Pair;
 use bb_uniq::laws;
 use std::alloc::Global;
 
-/// The first output that is known and wrong at some vector although the boxes are unknown, and the least such vector.
+/// The first output that is known and wrong at some vector, and the least such vector.
 ///
 /// # Errors
 ///
@@ -53,10 +54,9 @@ pub fn symbolic(
     }
 }
 
-/// Makes all functions of the check. The diagrams are, output by output, 1 where it is known and wrong.
 fn symbolic_diagrams(alloc: Global, d: &mut Diagrams, pair: &Pair) -> Result<Vec<Ref>, RungFault>
     requires vars { pair.now.imp.inputs ≡ d.old.store.vars }
-    ensures refs { IfOk result (λ refs. StandForFirst d.new.store (mismatch pair.now.spec pair.now.imp) (length pair.now.imp.outs) refs.items) }
+    ensures refs { IfOk result (λ refs. RepresentFirst d.new.store (mismatch pair.now.spec pair.now.imp) (length pair.now.imp.outs) refs.items) }
     ensures makes { OnOk result (Makes d.old.store d.new.store (symbolic_functions pair.now.spec pair.now.imp)) }
     ensures nodes { IsErrOf result RungFault.Nodes → AreTooMany d.old.store (symbolic_functions pair.now.spec pair.now.imp) }
 {

@@ -1,4 +1,5 @@
-//! The variables on which a diagram depends, by one walk that goes through each node once.
+//! The support of a diagram. A mark for each node makes the walk linear; without marks shared nodes would be walked
+//! once a path.
 
 ghost use Rattle.std.specs.Prelude.{◌≡◌, ◌<◌, ◌+◌, ◌≤◌, ℕ, true, false, length, slice_index_or, IfOk};
 ghost use Rattle.bb_uniq.specs.Inside.Nodes.{IsRef};
@@ -10,7 +11,8 @@ use bb_dd::{Diagrams, Ref, View};
 use bb_uniq::laws;
 use std::alloc::Global;
 
-/// For each of the first `count` variables whether it stands in a diagram. On the others the diagram does not depend.
+/// `marked[v]` is true where a node of the diagram has variable `v`, for the first `count` variables; on the others of
+/// these it does not depend.
 pub(crate) fn variables_of(
     alloc: Global,
     d: &Diagrams,
@@ -29,7 +31,7 @@ pub(crate) fn variables_of(
     Ok(marked)
 }
 
-/// Marks the variables of a diagram. A diagram that was seen has its variables marked.
+/// A seen diagram has all its variables marked, so the walk stops there.
 fn mark(d: &Diagrams, f: Ref, seen: &mut [bool], marked: &mut [bool])
     requires f { IsRef d.now.store f.0 }
     requires all { length seen.old ≡ length d.now.store.nodes + 2 }
@@ -56,7 +58,6 @@ fn mark(d: &Diagrams, f: Ref, seen: &mut [bool], marked: &mut [bool])
     seen[f.0 as usize] = true;
 }
 
-/// Marks a variable, if it is one of those that are asked for.
 fn set(marked: &mut [bool], var: u32)
     ensures len { length marked.new ≡ length marked.old }
     ensures own { var < length marked.old → slice_index_or marked.new var false ≡ true }

@@ -3,8 +3,8 @@ use Rattle.std.proofs.Common.{◌≡◌, ◌≢◌, ◌<◌, ℕ, Bool, true, fa
 use Rattle.std.specs.Prelude.{MatchBool}
 use Rattle.bb_net.specs.Netlists.{Netlist, IsNetlist}
 use Rattle.bb_net.specs.Values.{xor, bit_of, flat}
-use Rattle.bb_net.specs.Agreement.{out_bit, wanted_bit, SomeWrong, AllRight}
-use Rattle.bb_tern.specs.Inside.Lanes.{lane, bits_in, HasBits, wrong_at, TellsWrong}
+use Rattle.bb_net.specs.Equivalence.{out_bit, wanted_bit, SomeWrong, AllRight}
+use Rattle.bb_tern.specs.Inside.Lanes.{lane, bits_in, HasBits, wrong_at, ReportsWrong}
 
 -- what is left of a vector that was overwritten
 pub overwritten : (new old : List ℕ) (len : ℕ) → length new ≡ length old → len ≡ length old → take len (new ++ drop (length new) old) ≡ new
@@ -39,6 +39,6 @@ module _ (spec imp : Netlist) (kept : IsNetlist spec) (also : IsNetlist imp) (sa
   by_mark true some = (some.0, some.1, differ (wanted_bit spec x some.0) (out_bit imp (flat imp x []) some.0) (sym (at_output some.0 some.1) ∙ some.2))
   by_mark false none = λ j l. agree (wanted_bit spec x j) (out_bit imp (flat imp x []) j) (sym (at_output j l) ∙ none j l)
 
-  pub lane_tells : (word : ℕ) (mark : Bool) → mark ≡ lane word k → TellsWrong (bits_in wanted k) (λ place. Some (bits_in given k place)) spec.outs imp.outs (length imp.outs) word k →
+  pub lane_reports : (word : ℕ) (mark : Bool) → mark ≡ lane word k → ReportsWrong (bits_in wanted k) (λ place. Some (bits_in given k place)) spec.outs imp.outs (length imp.outs) word k →
       MatchBool mark (SomeWrong spec imp x (flat imp x [])) (AllRight spec imp x (flat imp x []))
-  lane_tells word mark e tells = by_mark mark (subst (λ b. MatchBool b Some-wrong None-wrong) (sym e) tells)
+  lane_reports word mark e reports = by_mark mark (subst (λ b. MatchBool b Some-wrong None-wrong) (sym e) reports)

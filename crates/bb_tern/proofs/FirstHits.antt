@@ -3,7 +3,7 @@ use Rattle.std.proofs.Common.{◌≡◌, ◌<◌, ◌≤◌, ◌+◌, ◌-◌, �
 use Rattle.std.proofs.lemmas.Bool.{cases_lt}
 use Rattle.std.proofs.lemmas.List.{length-take-le, get_or_default, length-map}
 use Rattle.bb_net.specs.Netlists.{Netlist}
-use Rattle.bb_net.specs.Agreement.{IsOutput}
+use Rattle.bb_net.specs.Equivalence.{IsOutput}
 use Rattle.bb_net.specs.Conditions.{MayBeRight, IsKnownWrong, MayBeRightAmong, IsFirstHit}
 use Rattle.bb_tern.specs.Inside.Lanes.{pattern_at, IsHitAt, NoneIsHit}
 
@@ -17,20 +17,20 @@ pub record IsChunk (rows chunk : List (List Bool)) (start : ℕ) : Type 0 where
   pub inside : start + length chunk ≤ length rows
 
 pub among_first : (spec imp : Netlist) (rows : List (List Bool)) (n : ℕ) → n ≤ length rows → NoneBelow spec imp rows n → MayBeRightAmong spec imp (take n rows)
-among_first spec imp rows n l none x stands o output =
+among_first spec imp rows n l none x occurs o output =
     let long = length-take-le n rows l in
-    let i : ℕ = stands.0 in
-    let below : i < n = omega (arith, stands.1, long) in
-    let is : pattern_at rows i ≡ x = get_or_default rows i [] x (omega (arith, below, l)) ∙ (sym (get_or-take n rows i x below) ∙ stands.2) in
+    let i : ℕ = occurs.0 in
+    let below : i < n = omega (arith, occurs.1, long) in
+    let is : pattern_at rows i ≡ x = get_or_default rows i [] x (omega (arith, below, l)) ∙ (sym (get_or-take n rows i x below) ∙ occurs.2) in
     subst (λ p. MayBeRight spec imp p o) is (none i below o output)
 
 pub none_in_chunk : (spec imp : Netlist) (rows chunk : List (List Bool)) (start : ℕ) → IsChunk rows chunk start → NoneBelow spec imp rows start → NoneIsHit spec imp chunk → NoneBelow spec imp rows (start + length chunk)
 none_in_chunk spec imp rows chunk start c none more i below o output = elim (cases_lt i start) [
   | inl before ↦ none i before o output
-  | inr behind ↦
+  | inr afterwards ↦
       let k : ℕ = i - start in
-      let at : start + k ≡ i = omega (arith, behind) in
-      let inside : k < length chunk = omega (arith, below, behind) in
+      let at : start + k ≡ i = omega (arith, afterwards) in
+      let inside : k < length chunk = omega (arith, below, afterwards) in
       subst (λ p. MayBeRight spec imp p o) (c.same k inside ∙ ap (pattern_at rows) at) (more k inside o output)
 ]
 
@@ -41,10 +41,10 @@ first_in_chunk spec imp rows chunk start k j c none hit =
       inside = omega (arith, hit.inside, c.inside);
       earlier = λ i l o output. elim (cases_lt i start) [
         | inl before ↦ none i before o output
-        | inr behind ↦
+        | inr afterwards ↦
             let m : ℕ = i - start in
-            let at : start + m ≡ i = omega (arith, behind) in
-            subst (λ p. MayBeRight spec imp p o) (c.same m (omega (arith, l, behind, hit.inside)) ∙ ap (pattern_at rows) at) (hit.earlier m (omega (arith, l, behind)) o output)
+            let at : start + m ≡ i = omega (arith, afterwards) in
+            subst (λ p. MayBeRight spec imp p o) (c.same m (omega (arith, l, afterwards, hit.inside)) ∙ ap (pattern_at rows) at) (hit.earlier m (omega (arith, l, afterwards)) o output)
       ];
       there = hit.there;
       wrong = subst (λ p. IsKnownWrong spec imp p j) row hit.wrong;
@@ -56,7 +56,7 @@ pub first_hit_is : (spec imp : Netlist) (rows : List (List Bool)) (n j : ℕ) (p
 first_hit_is spec imp rows n j pattern hit is = record {
   before = take n rows;
   after = drop (suc n) rows;
-  stands = sym (take-append-drop n rows) ∙ ap (λ rest. take n rows ++ rest) (drop-cons rows n [] hit.inside ∙ ap (λ p. p ∷ drop (suc n) rows) (sym is));
+  occurs = sym (take-append-drop n rows) ∙ ap (λ rest. take n rows ++ rest) (drop-cons rows n [] hit.inside ∙ ap (λ p. p ∷ drop (suc n) rows) (sym is));
   earlier = among_first spec imp rows n (omega (arith, hit.inside)) hit.earlier;
   there = hit.there;
   wrong = subst (λ p. IsKnownWrong spec imp p j) (sym is) hit.wrong;

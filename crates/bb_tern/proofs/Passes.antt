@@ -5,7 +5,7 @@ use Rattle.std.proofs.lemmas.Bool.{cases_eq}
 use Rattle.bb_net.specs.declared.cell.Cell.{Cell}
 use Rattle.bb_net.specs.Netlists.{ReadsBefore, cell_at}
 use Rattle.bb_tern.specs.declared.lanes.Known.{Known}
-use Rattle.bb_tern.specs.Inside.Lanes.{lane, word_at, known_at, Holds, GivesWord, GivesKnown, AreWords, AreKnowns, wrong_at, TellsWrong}
+use Rattle.bb_tern.specs.Inside.Lanes.{lane, word_at, known_at, Holds, GivesWord, GivesKnown, AreWords, AreKnowns, wrong_at, ReportsWrong}
 
 pub words_more : (cells : List Cell) (ins out : List ℕ) (place word : ℕ) → place < length cells → place < length out → ReadsBefore (length ins) [] place (cell_at cells place) →
     GivesWord ins out (cell_at cells place) word → AreWords cells ins out place → AreWords cells ins (set out place word) (place + 1)
@@ -31,10 +31,10 @@ knowns_more cells ins out place known inside room reads gives filled = λ k x va
     ]
 
 -- one output more
-pub tells_more : (bit : ℕ → Bool) (value : ℕ → Option Bool) (spec_outs imp_outs : List ℕ) (count lanes word more k : ℕ) → lane word k ≡ wrong_at bit value spec_outs imp_outs count → lane more k ≡ (lane lanes k || lane word k) →
-    TellsWrong bit value spec_outs imp_outs count lanes k → TellsWrong bit value spec_outs imp_outs (count + 1) more k
-tells_more bit value spec_outs imp_outs count lanes word more k is joined told =
-    subst (λ r. MatchBool r (Some-wrong (count + 1)) (None-wrong (count + 1))) (sym joined) (by_lanes (lane lanes k) (lane word k) is told)
+pub reports_more : (bit : ℕ → Bool) (value : ℕ → Option Bool) (spec_outs imp_outs : List ℕ) (count lanes word more k : ℕ) → lane word k ≡ wrong_at bit value spec_outs imp_outs count → lane more k ≡ (lane lanes k || lane word k) →
+    ReportsWrong bit value spec_outs imp_outs count lanes k → ReportsWrong bit value spec_outs imp_outs (count + 1) more k
+reports_more bit value spec_outs imp_outs count lanes word more k is joined reported =
+    subst (λ r. MatchBool r (Some-wrong (count + 1)) (None-wrong (count + 1))) (sym joined) (by_lanes (lane lanes k) (lane word k) is reported)
   where
     Some-wrong : ℕ → Type 0
     Some-wrong n = (j : ℕ) × (j < n) × (wrong_at bit value spec_outs imp_outs j ≡ true)

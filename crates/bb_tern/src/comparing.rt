@@ -1,9 +1,10 @@
-//! Two nets at many patterns in two values: at which of them some output differs.
+//! Two-valued comparison of two nets, for filled netlists. It returns all lanes that differ and not the first, since
+//! the search for samples wants many.
 
 ghost use Rattle.std.specs.Prelude.{◌≡◌, ◌<◌, ◌≤◌, ℕ, [], Some, MatchBool, length, map, vec_items, All, IfOk};
-ghost use Rattle.bb_net.specs.Agreement.{SomeWrong, AllRight};
+ghost use Rattle.bb_net.specs.Equivalence.{SomeWrong, AllRight};
 ghost use Rattle.bb_net.specs.Values.{bit_of, flat};
-ghost use Rattle.bb_tern.specs.Inside.Lanes.{lane, bits_in, pattern_at, HasBits, TellsWrong};
+ghost use Rattle.bb_tern.specs.Inside.Lanes.{lane, bits_in, pattern_at, HasBits, ReportsWrong};
 
 use crate::lanes::{or_word, xor_word};
 use crate::packing::pack;
@@ -12,7 +13,7 @@ use bb_bits::NoMemory;
 use bb_net::{Net, value_exists};
 use std::alloc::Global;
 
-/// For each of up to 64 patterns whether some output of the two nets differs there, where box outputs are 0.
+/// Entry `k` is for pattern `k`; at most 64. Box outputs count as 0.
 pub fn differ_at(
     alloc: Global,
     spec: &Net,
@@ -35,7 +36,7 @@ pub fn differ_at(
     Ok(marks)
 }
 
-/// The bits of the cells at up to 64 patterns, where box outputs are 0: a word for each cell, whose lowest bit is that at the first pattern.
+/// A word for each cell, its lowest bit at the first pattern; at most 64 patterns. Box outputs count as 0.
 pub fn words(alloc: Global, net: &Net, patterns: &[Vec<bool>]) -> Result<Vec<u64>, NoMemory>
     requires count { length patterns.now ≤ 64 }
     requires inputs { All (λ p. length p.items ≡ net.now.inputs) patterns.now }
@@ -51,12 +52,11 @@ pub fn words(alloc: Global, net: &Net, patterns: &[Vec<bool>]) -> Result<Vec<u64
     Ok(out)
 }
 
-// The lanes in which some output has another bit.
 fn differing_lanes(spec_outs: &[u32], imp_outs: &[u32], wanted: &[u64], given: &[u64]) -> u64
     requires same { length spec_outs.now ≡ length imp_outs.now }
     requires spec_cells { All (λ place. place < length wanted.now) spec_outs.now }
     requires imp_cells { All (λ place. place < length given.now) imp_outs.now }
-    ensures { (k : ℕ) → k < 64 → TellsWrong (bits_in wanted.now k) (λ place. Some (bits_in given.now k place)) spec_outs.now imp_outs.now (length imp_outs.now) result k }
+    ensures { (k : ℕ) → k < 64 → ReportsWrong (bits_in wanted.now k) (λ place. Some (bits_in given.now k place)) spec_outs.now imp_outs.now (length imp_outs.now) result k }
 {
     let mut lanes = 0;
     for (j, place) in imp_outs.iter().enumerate() {
@@ -66,7 +66,7 @@ fn differing_lanes(spec_outs: &[u32], imp_outs: &[u32], wanted: &[u64], given: &
     lanes
 }
 
-// For each of the first lanes whether a word has it.
+// Lanes beyond `count` have no pattern and are dropped.
 fn first_lanes(alloc: Global, word: u64, count: usize) -> Result<Vec<bool>, NoMemory>
     requires { count ≤ 64 }
     ensures len { IfOk result (λ marks. length marks.items ≡ count) }

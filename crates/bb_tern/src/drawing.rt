@@ -1,14 +1,16 @@
-//! The patterns of a simulation.
+//! The patterns of a simulation: corner patterns (all 0, all 1, a single 1, a single 0), then pseudo-random ones from a
+//! 64-bit xorshift register (Marsaglia 2003, shifts 13, 7 and 17). The seed fixes them, so a report is a function of
+//! the texts.
 
 ghost use Rattle.std.specs.Prelude.{◌≡◌, ◌+◌, ◌*◌, ◌≤◌, ◌<◌, ℕ, Bool, true, false, not, List, [], ◌∷◌, ◌++◌, length, map, replicate, vec_items, IfOk, OnOk};
 ghost use Rattle.std.specs.List.{range_with_len};
-ghost use Rattle.bb_tern.specs.Patterns.{next_state, state_after, drawn_bit, drawn_pattern, alone, patterns};
+ghost use Rattle.bb_tern.specs.Patterns.{next_state, state_after, drawn_bit, drawn_pattern, one_against_all, patterns};
 
 use bb_bits::NoMemory;
 use std::alloc::Global;
 
-/// The patterns for so many inputs: all 0; all 1; each input alone 1, in order; each alone 0; and then `drawn` ones, bit by
-/// bit in the order of the inputs, from a shift register that begins as `seed`. A seed of 0 draws zeros alone.
+/// All 0; all 1; each input alone 1, in order; each alone 0; then `drawn` ones, bit by bit in the order of the inputs,
+/// from a register that begins as `seed`. A seed of 0 draws zeros only.
 pub fn patterns(
     alloc: Global,
     inputs: u32,
@@ -28,14 +30,13 @@ pub fn patterns(
     Ok(all)
 }
 
-// Adds the patterns in which one input alone has a bit, in the order of the inputs.
 fn push_alone(
     alloc: Global,
     all: &mut Vec<Vec<bool>>,
     inputs: u32,
     bit: bool,
 ) -> Result<(), NoMemory>
-    ensures ok { OnOk result (map vec_items all.new.items ≡ map vec_items all.old.items ++ map (alone inputs bit (not bit)) (range_with_len 0 inputs)) }
+    ensures ok { OnOk result (map vec_items all.new.items ≡ map vec_items all.old.items ++ map (one_against_all inputs bit (not bit)) (range_with_len 0 inputs)) }
 {
     for i in 0..inputs {
         all.push(one_alone(alloc, inputs, i, bit)?)?;
@@ -43,7 +44,7 @@ fn push_alone(
     Ok(())
 }
 
-// Adds so many patterns that are drawn.
+// The register runs on over all patterns.
 fn push_drawn(
     alloc: Global,
     all: &mut Vec<Vec<bool>>,
@@ -60,27 +61,24 @@ fn push_drawn(
     Ok(())
 }
 
-// The pattern with one bit everywhere.
 fn constant(alloc: Global, inputs: u32, bit: bool) -> Result<Vec<bool>, NoMemory>
     ensures ok { IfOk result (λ pattern. pattern.items ≡ replicate inputs bit) }
 {
     vec![in alloc; bit; inputs as usize]
 }
 
-// The pattern in which one input alone has a bit.
 fn one_alone(alloc: Global, inputs: u32, i: u32, bit: bool) -> Result<Vec<bool>, NoMemory>
     requires { i < inputs }
-    ensures ok { IfOk result (λ pattern. pattern.items ≡ alone inputs bit (not bit) i) }
+    ensures ok { IfOk result (λ pattern. pattern.items ≡ one_against_all inputs bit (not bit) i) }
 {
     let mut pattern = constant(alloc, inputs, !bit)?;
     pattern[i as usize] = bit;
     Ok(pattern)
 }
 
-// The bit of a state that is drawn.
+// The highest bit of a state is drawn.
 const HIGHEST: u64 = 1 << 63;
 
-// The next state of the shift register.
 fn next(state: u64) -> u64
     ensures { result ≡ next_state state }
 {
@@ -91,7 +89,6 @@ fn next(state: u64) -> u64
     s
 }
 
-// The next pattern that is drawn.
 fn draw(alloc: Global, inputs: u32, state: &mut u64) -> Result<Vec<bool>, NoMemory>
     ensures ok { IfOk result (λ pattern. (seed n : ℕ) → state.old ≡ state_after seed n → pattern.items ≡ map (drawn_bit seed) (range_with_len n inputs)) }
     ensures state { IfOk result (λ pattern. (seed n : ℕ) → state.old ≡ state_after seed n → state.new ≡ state_after seed (n + inputs)) }

@@ -1,4 +1,5 @@
-//! Gates on words: what a gate gives in 64 patterns at once, a pattern in each lane.
+//! Gates on words of 64 lanes. A value in three values is two words, "known to be 1" and "known to be 0", so X is in
+//! neither and gates are plain word operations. Laws speak of single lanes; only this file knows of words.
 
 ghost use Rattle.std.specs.Prelude.{◌≡◌, ◌<◌, ◌^◌, ℕ, Bool, true, false, not, ◌&&◌, ◌||◌, if◌then◌else◌, Option, Some, None, List, [], length};
 ghost use Rattle.bb_net.specs.Netlists.{ReadsBefore};
@@ -8,7 +9,7 @@ ghost use Rattle.bb_tern.specs.Inside.Lanes.{lane, Holds, GivesWord, GivesKnown}
 
 use bb_net::Cell;
 
-/// A value in three values: the lanes in which it is known to be 1, and those in which it is known to be 0.
+/// `one` and `zero` share no lane; a lane in neither is X.
 #[derive(Clone, Copy, Debug, PartialEq, Eq)]
 pub struct Known {
     pub one: u64,
@@ -16,11 +17,10 @@ pub struct Known {
 }
 
 impl Known {
-    /// The value that is unknown in all lanes.
+    /// X in every lane.
     pub const UNKNOWN: Known = Known { one: 0, zero: 0 };
 }
 
-// The word that has a bit in all lanes.
 #[tactic(auto, using(crate::proofs::LaneLemmas::lane_ones, crate::proofs::LaneLemmas::lane_zero))]
 fn constant_word(bit: bool) -> u64
     ensures { (k : ℕ) → k < 64 → lane result k ≡ bit }
@@ -68,7 +68,6 @@ fn known_constant(bit: bool) -> Known
     known_word(constant_word(bit))
 }
 
-// A word of which all lanes are known.
 fn known_word(word: u64) -> Known
     ensures { (k : ℕ) → k < 64 → Holds result k (Some (lane word k)) }
 {
@@ -114,7 +113,7 @@ fn known_xor(a: Known, b: Known) -> Known
     }
 }
 
-// What the condition chooses, or what both branches have.
+// Also known where the condition is X and both branches agree.
 fn known_mux(c: Known, t: Known, e: Known) -> Known
     ensures { (k : ℕ) (p q r : Option Bool) → k < 64 → Holds c k p → Holds t k q → Holds e k r → Holds result k (mux3 p q r) }
 {
@@ -124,7 +123,6 @@ fn known_mux(c: Known, t: Known, e: Known) -> Known
     }
 }
 
-// The lanes of the branch that is chosen, and those that both branches have.
 fn chosen_word(c: Known, t: u64, e: u64) -> u64
     ensures { (k : ℕ) → k < 64 → lane result k ≡ (lane c.one k && lane t k || lane c.zero k && lane e k) || lane t k && lane e k }
 {
@@ -132,7 +130,7 @@ fn chosen_word(c: Known, t: u64, e: u64) -> u64
     or_word(chosen, and_word(t, e))
 }
 
-/// The bits of a cell whose operands are written, a box output being 0.
+/// `out` has all earlier cells. A box output is 0: filled netlists have none.
 pub fn cell_word(cell: Cell, ins: &[u64], out: &[u64]) -> u64
     requires { ReadsBefore (length ins.now) [] (length out.now) cell }
     ensures { GivesWord ins.now out.now cell result }
@@ -149,7 +147,7 @@ pub fn cell_word(cell: Cell, ins: &[u64], out: &[u64]) -> u64
     }
 }
 
-/// The values of a cell whose operands are written.
+/// `out` has all earlier cells. A box output is X.
 pub fn cell_known(cell: Cell, ins: &[u64], out: &[Known]) -> Known
     requires { ReadsBefore (length ins.now) [] (length out.now) cell }
     ensures { GivesKnown ins.now out.now cell result }

@@ -1,8 +1,8 @@
-//! Laws of patterns. Each function has a law as its contract and does nothing.
+//! A law of patterns, as the contract of an empty function: crates above call it and cite no proof of this one.
 
 ghost use Rattle.bb_tern.specs.Patterns.{PatternsAreVectors};
 
-/// Each pattern has a bit for each input.
+/// Each pattern has one bit an input, so it is a vector of the pair.
 pub fn patterns_are_vectors()
     ensures { PatternsAreVectors }
 {}

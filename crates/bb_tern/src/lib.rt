@@ -1,4 +1,5 @@
-//! Patterns, their simulation in three values, and that of two nets in two values.
+//! Simulation of 64 patterns at a time, a pattern in each bit of a word: in three values with the boxes unknown, and in
+//! two values for netlists without boxes. It refutes and never proves.
 #![tactic(auto)]
 
 mod comparing;

@@ -1,10 +1,10 @@
-//! Patterns as words: pattern k stands in lane k.
+//! Patterns turned into words once a pass, a transposition, so that gates work on whole words: pattern `k` is lane `k`.
 
 ghost use Rattle.std.specs.Prelude.{◌≡◌, ◌≢◌, ◌<◌, ◌≤◌, ℕ, true, length, map, All, vec_items};
 ghost use Rattle.bb_net.specs.Values.{bit_of};
 ghost use Rattle.bb_tern.specs.Inside.Lanes.{lane, pattern_at, HasPattern};
 
-/// Writes the word of each input.
+/// A word for each input; lanes without a pattern are 0.
 pub fn pack(patterns: &[Vec<bool>], ins: &mut [u64])
     requires count { length patterns.now ≤ 64 }
     requires inputs { All (λ p. length p.items ≡ length ins.old) patterns.now }
@@ -16,7 +16,6 @@ pub fn pack(patterns: &[Vec<bool>], ins: &mut [u64])
     }
 }
 
-// The bits of an input in all patterns.
 fn column(patterns: &[Vec<bool>], i: usize) -> u64
     requires count { length patterns.now ≤ 64 }
     requires inside { All (λ p. i < length p.items) patterns.now }
@@ -31,7 +30,6 @@ fn column(patterns: &[Vec<bool>], i: usize) -> u64
     word
 }
 
-// The word with one lane more.
 #[tactic(auto, using(crate::proofs::LaneLemmas::lane_set_same, crate::proofs::LaneLemmas::lane_set_other))]
 fn with_lane(word: u64, k: usize) -> u64
     requires { k < 64 }

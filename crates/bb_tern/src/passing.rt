@@ -1,14 +1,15 @@
-//! One pass: up to 64 patterns through both nets of a pair.
+//! One pass of up to 64 patterns through both nets, over buffers that the caller reuses. All outputs are folded into
+//! one word first; only where it is not 0 is the output looked for.
 
 ghost use Rattle.std.specs.Prelude.{◌≡◌, ◌<◌, ◌≤◌, ℕ, Bool, true, false, [], Option, length, map, vec_items, All, IfSome, IfNone};
 ghost use Rattle.bb_net.specs.Netlists.{ReadsBefore, cell_at};
-ghost use Rattle.bb_tern.specs.Inside.Lanes.{lane, Holds, AreWords, AreKnowns, is_known_wrong, TellsAll, FindsFirst, HasRoom, AreFilled, IsHitAt, NoneIsHit};
+ghost use Rattle.bb_tern.specs.Inside.Lanes.{lane, Holds, AreWords, AreKnowns, is_known_wrong, ReportsAll, FindsFirst, HasRoom, AreFilled, IsHitAt, NoneIsHit};
 
 use crate::lanes::{Known, and_word, cell_known, cell_word, not_word, or_word};
 use crate::packing::pack;
 use bb_net::{Cell, Pair, tern_exists, value_exists};
 
-// Writes the word of each cell in order.
+// In cell order, so operands are written before they are read.
 pub fn write_words(cells: &[Cell], ins: &[u64], out: &mut [u64])
     requires room { length out.old ≡ length cells.now }
     requires ordered { (place : ℕ) → place < length cells.now → ReadsBefore (length ins.now) [] place (cell_at cells.now place) }
@@ -20,7 +21,6 @@ pub fn write_words(cells: &[Cell], ins: &[u64], out: &mut [u64])
     }
 }
 
-// Writes the values of each cell in order.
 fn write_knowns(cells: &[Cell], ins: &[u64], out: &mut [Known])
     requires room { length out.old ≡ length cells.now }
     requires ordered { (place : ℕ) → place < length cells.now → ReadsBefore (length ins.now) [] place (cell_at cells.now place) }
@@ -32,7 +32,7 @@ fn write_knowns(cells: &[Cell], ins: &[u64], out: &mut [Known])
     }
 }
 
-// The lanes in which a value is known and is not the bit that is wanted.
+// X is never wrong.
 fn wrong_word(wanted: u64, known: Known) -> u64
     ensures { (k : ℕ) (bit : Bool) (value : Option Bool) → k < 64 → lane wanted k ≡ bit → Holds known k value → lane result k ≡ is_known_wrong bit value }
 {
@@ -40,12 +40,11 @@ fn wrong_word(wanted: u64, known: Known) -> u64
     or_word(wrong_one, and_word(known.zero, wanted))
 }
 
-// The lanes in which some output is wrong.
 fn wrong_lanes(spec_outs: &[u32], imp_outs: &[u32], wanted: &[u64], known: &[Known]) -> u64
     requires same { length spec_outs.now ≡ length imp_outs.now }
     requires spec_cells { All (λ place. place < length wanted.now) spec_outs.now }
     requires imp_cells { All (λ place. place < length known.now) imp_outs.now }
-    ensures { TellsAll spec_outs.now imp_outs.now wanted.now known.now result }
+    ensures { ReportsAll spec_outs.now imp_outs.now wanted.now known.now result }
 {
     let mut lanes = 0;
     for (j, place) in imp_outs.iter().enumerate() {
@@ -55,7 +54,6 @@ fn wrong_lanes(spec_outs: &[u32], imp_outs: &[u32], wanted: &[u64], known: &[Kno
     lanes
 }
 
-// Whether a word has a lane.
 pub fn has_lane(word: u64, k: usize) -> bool
     requires { k < 64 }
     ensures { result ≡ lane word k }
@@ -63,7 +61,6 @@ pub fn has_lane(word: u64, k: usize) -> bool
     word >> k & 1 == 1
 }
 
-// The first output that is wrong in a lane.
 fn first_wrong(
     spec_outs: &[u32],
     imp_outs: &[u32],
@@ -86,7 +83,7 @@ fn first_wrong(
     None
 }
 
-// Writes the words of all cells for these patterns.
+// The buffers may have old content: each cell is written before it is read.
 fn fill(
     pair: &Pair,
     patterns: &[Vec<bool>],
@@ -107,8 +104,7 @@ fn fill(
     write_knowns(pair.imp().cells(), ins, known);
 }
 
-/// The first pattern, by its number, at which some output is known and wrong, and the first such output there. The words of
-/// inputs and cells are written on the way.
+/// The lowest pattern number, then the first output there. Lanes beyond the last pattern are ignored.
 pub fn pass(
     pair: &Pair,
     patterns: &[Vec<bool>],

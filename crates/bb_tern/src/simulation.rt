@@ -1,4 +1,5 @@
-//! The first pattern at which an implementation is wrong whatever its boxes give.
+//! The check by patterns: a pattern at which an output is known and wrong although every box is unknown. Patterns go
+//! through in their order and the first pass with a hit ends it, so the answer is the first such pattern of the list.
 
 ghost use Rattle.std.specs.Prelude.{◌≡◌, length, map, vec_items, All, IfOk, IfSome, IfNone};
 ghost use Rattle.bb_net.specs.Conditions.{IsFirstHit, MayBeRightAmong};
@@ -10,18 +11,18 @@ use bb_bits::NoMemory;
 use bb_net::Pair;
 use std::alloc::Global;
 
-/// How many patterns go through the nets at once.
+/// One lane for each bit of a word.
 const LANES: usize = 64;
 
-/// A pattern and the number of an output, counted from 0, at which the implementation is known and wrong.
+/// A pattern, and the first output that is known and wrong there, counted from 0.
 #[derive(Debug, Drop)]
 pub struct Hit {
     pub pattern: Vec<bool>,
     pub output: u32,
 }
 
-/// The first of the patterns that shows a mistake: some output's value in three values is known and is not the specification's;
-/// and the first of these outputs. None where no pattern shows one. A pattern has a bit for each input of the pair, in order.
+/// The first of the patterns that shows an error, and the first such output; none where no pattern does. A pattern has
+/// a bit for each input of the pair, in order.
 pub fn simulate(alloc: Global, pair: &Pair, patterns: &[Vec<bool>]) -> Result<Option<Hit>, NoMemory>
     requires { All (λ p. length p.items ≡ pair.now.imp.inputs) patterns.now }
     ensures hit { IfOk result (λ found. IfSome found (λ h. IsFirstHit pair.now.spec pair.now.imp (map vec_items patterns.now) h.pattern.items h.output)) }
@@ -40,7 +41,6 @@ pub fn simulate(alloc: Global, pair: &Pair, patterns: &[Vec<bool>]) -> Result<Op
     }
 }
 
-// The number of the first pattern at which some output is known and wrong, and the first such output there.
 fn first_hit(
     pair: &Pair,
     patterns: &[Vec<bool>],

@@ -59,7 +59,7 @@ grown s more = record s { nodes = s.nodes ++ more }
 pub within-grown : (s : NodeStore) (more : List Node) (m r : ℕ) → IsWithin s m r → IsWithin (grown s more) m r
 within-grown s more m r w = subst (λ o. MatchOption o (r < 2) (λ node. s.vars ≤ node.var + m)) (sym (node_at-append s.nodes more r (ref_from_within s m r w))) w
 
--- what stands below a node is a leaf or a node
+-- what is below a node is a leaf or a node
 pub below_ref : (s : NodeStore) (v r : ℕ) → IsBelow s v r → IsRef s r
 below_ref s v r h = ref_by (node_at s.nodes r) refl h
   where

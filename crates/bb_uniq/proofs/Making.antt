@@ -9,7 +9,7 @@ use Rattle.bb_uniq.proofs.Given.{Given}
 use Rattle.bb_uniq.specs.declared.store.Node.{Node}
 use Rattle.bb_uniq.specs.Inside.Nodes.{NodeStore, node_at, IsRef, IsBelow, IsStore, IsNew, Gives, Same, Found, Made, with_node, view_of, view_by}
 use Rattle.bb_uniq.specs.declared.store.View.{View}
-use Rattle.bb_uniq.specs.Inside.Places.{IsAbsent, Stands, Before, Last}
+use Rattle.bb_uniq.specs.Inside.Places.{IsAbsent, IsNodeAt, Before, Last}
 use Rattle.std.proofs.lemmas.Option.{slice_get_within}
 use Rattle.bb_uniq.specs.Inside.Meaning.{truth_of, IsHeld, IsHeldWith, Keeps, Adds, IsTooMany, branch, ViewMeans, table_of}
 use Rattle.bb_uniq.proofs.Tables.{table, table-here, table-none, table-zero, ref_node, table-lifted, within_from_ref, within_from_below, node_ref, canonical, IsTruthTable-table}
@@ -51,7 +51,7 @@ new_bead_differs s h v m lo hi level lo_below hi_below new k =
     same_node : (a : Node) (v lo hi : ℕ) → a.var ≡ v → a.lo ≡ lo → a.hi ≡ hi → a ≡ record { var = v; lo = lo; hi = hi }
     same_node a v lo hi p q r = rw (← p, ← q, ← r) refl
 
--- a branch keeps its table where more nodes stand
+-- a branch keeps its table where more nodes are
 pub branch-kept : (old new : NodeStore) → Keeps old new → (v lo hi : ℕ) → IsRef old lo → IsRef old hi → branch new v lo hi ≡ branch old v lo hi
 branch-kept old new kept v lo hi lo_ref hi_ref =
     ap (λ n. chosen (variable n v) (truth_of new hi) (truth_of new lo)) kept.vars
@@ -61,9 +61,9 @@ branch-kept old new kept v lo hi lo_ref hi_ref =
 abbrev with_nodes : NodeStore → List Node → NodeStore
 with_nodes s nodes = record s { nodes = nodes }
 
-pub stands_within : (s : NodeStore) → IsStore s → (new : List Node) (node : Node) (k : ℕ) → Stands s.nodes new s.limit node k → k < s.limit
-stands_within s h new node k (Before same at) = let l = slice_get_within s.nodes k node at in omega (arith, l, h.held)
-stands_within s h new node k (Last absent room pushed place) = omega (arith, place, room)
+pub occurs_within : (s : NodeStore) → IsStore s → (new : List Node) (node : Node) (k : ℕ) → IsNodeAt s.nodes new s.limit node k → k < s.limit
+occurs_within s h new node k (Before same at) = let l = slice_get_within s.nodes k node at in omega (arith, l, h.held)
+occurs_within s h new node k (Last absent room pushed place) = omega (arith, place, room)
 
 absent_node : (nodes : List Node) (node : Node) → IsAbsent nodes node → (r : ℕ) → node_at nodes r ≡ Some node → ⊥
 absent_node nodes node absent zero e = absurd (let f : None ≡ Some node = e in cc)
@@ -73,16 +73,16 @@ absent_node nodes node absent (suc (suc k)) e = absent k e
 pub is_new : (s : NodeStore) (v lo hi : ℕ) → lo ≢ hi → IsAbsent s.nodes (record { var = v; lo = lo; hi = hi }) → IsNew s v lo hi
 is_new s v lo hi differ absent = (differ, absent_node s.nodes (record { var = v; lo = lo; hi = hi }) absent)
 
-gives_at : (s : NodeStore) (new : List Node) (v lo hi k : ℕ) → lo ≢ hi → Stands s.nodes new s.limit (record { var = v; lo = lo; hi = hi }) k → Gives s (with_nodes s new) v lo hi (k + 2)
+gives_at : (s : NodeStore) (new : List Node) (v lo hi k : ℕ) → lo ≢ hi → IsNodeAt s.nodes new s.limit (record { var = v; lo = lo; hi = hi }) k → Gives s (with_nodes s new) v lo hi (k + 2)
 gives_at s new v lo hi k differ (Before same at) =
     let e : k + 2 ≡ suc (suc k) = omega arith in
     Found differ (ap (with_nodes s) same) (ap (node_at s.nodes) e ∙ at)
 gives_at s new v lo hi k differ (Last absent room pushed place) = Made (is_new s v lo hi differ absent) room (ap (with_nodes s) pushed) (ap (λ i. i + 2) place)
 
 -- what follows the look-up of a node in a store that is seen as `now`
-pub gives : (s now : NodeStore) → s ≡ now → (new : List Node) (v lo hi k : ℕ) → lo ≢ hi → Stands s.nodes new s.limit (record { var = v; lo = lo; hi = hi }) k →
+pub gives : (s now : NodeStore) → s ≡ now → (new : List Node) (v lo hi k : ℕ) → lo ≢ hi → IsNodeAt s.nodes new s.limit (record { var = v; lo = lo; hi = hi }) k →
     Gives now (record { vars = s.vars; limit = s.limit; nodes = new }) v lo hi (k + 2)
-gives s now e new v lo hi k differ stands = subst (λ x. Gives x (with_nodes s new) v lo hi (k + 2)) e (gives_at s new v lo hi k differ stands)
+gives s now e new v lo hi k differ occurs = subst (λ x. Gives x (with_nodes s new) v lo hi (k + 2)) e (gives_at s new v lo hi k differ occurs)
 
 -- a store of no node
 pub IsStore-empty : (vars limit : ℕ) → IsStore (record { vars = vars; limit = limit; nodes = [] })
@@ -236,10 +236,10 @@ module _ (given : Given) where
       (IsStore-with_node old h v lo hi within lo_below hi_below fresh room, adds_made old h v lo hi within lo_below hi_below fresh room))
 
   pub makes : (s now : NodeStore) → s ≡ now → IsStore s → (new : List Node) (v lo hi k : ℕ) → v < now.vars → IsBelow now v lo → IsBelow now v hi → lo ≢ hi →
-      Stands s.nodes new s.limit (record { var = v; lo = lo; hi = hi }) k →
+      IsNodeAt s.nodes new s.limit (record { var = v; lo = lo; hi = hi }) k →
       IsStore (record { vars = s.vars; limit = s.limit; nodes = new }) × Adds now (record { vars = s.vars; limit = s.limit; nodes = new }) (branch now v lo hi) (k + 2)
-  makes s now e h new v lo hi k within lo_below hi_below differ stands =
-      adds_by_case now (with_nodes s new) (subst IsStore e h) v lo hi (k + 2) within lo_below hi_below (gives s now e new v lo hi k differ stands)
+  makes s now e h new v lo hi k within lo_below hi_below differ occurs =
+      adds_by_case now (with_nodes s new) (subst IsStore e h) v lo hi (k + 2) within lo_below hi_below (gives s now e new v lo hi k differ occurs)
 
   -- the same where both children are one
   pub makes_same : (s now : NodeStore) → s ≡ now → IsStore s → (v lo hi : ℕ) → v < now.vars → IsBelow now v lo → IsBelow now v hi → lo ≡ hi → IsStore now × Adds now now (branch now v lo hi) lo

@@ -43,30 +43,30 @@ mark_parts node k mark small e = (
 abbrev pub IsOther : List ℕ → List Node → Node → ℕ → Type 0
 IsOther places nodes node place = (at_place places place ≢ 0) × ((k : ℕ) → slice_get nodes k ≡ Some node → at_place places place ≢ mark_of node k)
 
--- where a probe went over such places alone, the node does not stand before its end
-pub stands_behind : (places : List ℕ) (nodes : List Node) (node : Node) (steps : ℕ) → ArePlaces places nodes → ((i : ℕ) → i < steps → IsOther places nodes node (place_after (length places) node i)) →
+-- where a probe went over such places alone, the node does not precede its end
+pub occurs_after : (places : List ℕ) (nodes : List Node) (node : Node) (steps : ℕ) → ArePlaces places nodes → ((i : ℕ) → i < steps → IsOther places nodes node (place_after (length places) node i)) →
     (k : ℕ) (at : slice_get nodes k ≡ Some node) → (met : IsMet places node k) → steps ≤ met.steps
-stands_behind places nodes node steps sound others k at met =
-    elim (cases_lt met.steps steps) [ inl before ↦ absurd ((others met.steps before).1 k at met.here) | inr behind ↦ behind ]
+occurs_after places nodes node steps sound others k at met =
+    elim (cases_lt met.steps steps) [ inl before ↦ absurd ((others met.steps before).1 k at met.here) | inr after ↦ after ]
 
 pub absent_at_free : (places : List ℕ) (nodes : List Node) (node : Node) (steps : ℕ) → ArePlaces places nodes → ((i : ℕ) → i < steps → IsOther places nodes node (place_after (length places) node i)) →
     at_place places (place_after (length places) node steps) ≡ 0 → IsAbsent nodes node
 absent_at_free places nodes node steps sound others free k at =
     let met = sound.met k node at in
-    let behind = stands_behind places nodes node steps sound others k at met in
+    let after = occurs_after places nodes node steps sound others k at met in
     elim (cases_eq steps met.steps) [
       | inl same ↦
           let here : at_place places (place_after (length places) node steps) ≡ mark_of node k = ap (λ i. at_place places (place_after (length places) node i)) same ∙ met.here in
           omega (arith, here, free)
-      | inr other ↦ met.before steps (omega (arith, behind, other)) free
+      | inr other ↦ met.before steps (omega (arith, after, other)) free
     ]
 
 pub absent_past_all : (places : List ℕ) (nodes : List Node) (node : Node) (steps : ℕ) → ArePlaces places nodes → ((i : ℕ) → i < steps → IsOther places nodes node (place_after (length places) node i)) →
     length places ≤ steps → IsAbsent nodes node
 absent_past_all places nodes node steps sound others all k at =
     let met = sound.met k node at in
-    let behind = stands_behind places nodes node steps sound others k at met in
-    omega (arith, behind, met.within, all)
+    let after = occurs_after places nodes node steps sound others k at met in
+    omega (arith, after, met.within, all)
 
 -- a probe comes to each place
 pub comes_to : (node : Node) (count place : ℕ) → place < count → (steps : ℕ) × (steps < count) × (place_after count node steps ≡ place)
@@ -78,9 +78,9 @@ comes_to node count place within =
       | inl before ↦
           let steps : ℕ = place + count - home in
           (steps, omega (arith, before, small), sym (mod-add-mod h count steps) ∙ (ap (λ n. n % count) (omega (arith, before, small)) ∙ (add-mod_right place count ∙ mod-eq_of_lt within)))
-      | inr behind ↦
+      | inr after ↦
           let steps : ℕ = place - home in
-          (steps, omega (arith, within), sym (mod-add-mod h count steps) ∙ (ap (λ n. n % count) (omega (arith, behind)) ∙ mod-eq_of_lt within))
+          (steps, omega (arith, within), sym (mod-add-mod h count steps) ∙ (ap (λ n. n % count) (omega (arith, after)) ∙ mod-eq_of_lt within))
     ]
 
 free_place : (places : List ℕ) → taken places < length places → (place : ℕ) × (place < length places) × (at_place places place ≡ 0)
@@ -146,7 +146,7 @@ module _ (places : List ℕ) (p m : ℕ) (within : p < length places) (free : at
         before = λ i l. taken_after node i (met.before i l);
       }
 
--- a new node whose mark stands at the first free place of its probe
+-- a new node whose mark is at the first free place of its probe
 pub ArePlaces-put : (places : List ℕ) (nodes : List Node) (node : Node) (steps : ℕ) → ArePlaces places nodes → steps < length places → 2 * (length nodes + 1) ≤ length places →
     ((i : ℕ) → i < steps → at_place places (place_after (length places) node i) ≢ 0) → at_place places (place_after (length places) node steps) ≡ 0 →
     ArePlaces (slice_set places (place_after (length places) node steps) (mark_of node (length nodes))) (nodes ++ node ∷ [])

@@ -91,7 +91,7 @@ module _ (given : Given) where
         hi_table = ap (λ i. table s i hi) (sym n) ∙ table-lifted s (suc v) m hi (within_from_below s m v hi level hi_below);
       }
 
-  -- what stands below a variable splits into itself
+  -- what is below a variable splits into itself
   pub splits_later : (s : NodeStore) (v m r : ℕ) → v + suc m ≡ s.vars → IsBelow s v r → AreCofactors s v m r r r
   splits_later s v m r level below =
       let n : suc v + m ≡ s.vars = omega (arith, level) in

@@ -97,7 +97,7 @@ below_from_within s m v r e h = match_weaker (node_at s.nodes r) (r < 2) (λ nod
 pub within_more : (s : NodeStore) (k m r : ℕ) → IsWithin s m r → IsWithin s (k + m) r
 within_more s k m r h = match_weaker (node_at s.nodes r) (r < 2) (λ node. s.vars ≤ node.var + m) (λ node. s.vars ≤ node.var + (k + m)) (λ node _ l. omega (arith, l)) h
 
--- at the variable of which m follow stands the node, or nothing depends on it
+-- at the variable of which m follow is the node, or nothing depends on it
 pub data Shape (s : NodeStore) (m r : ℕ) : Type 0 where
   Here : (node : Node) → node_at s.nodes r ≡ Some node → node.var + suc m ≡ s.vars → table s (suc m) r ≡ Halves (table s m node.lo) (table s m node.hi) →
       IsWithin s m node.lo → IsWithin s m node.hi → node.lo ≢ node.hi → Shape s m r

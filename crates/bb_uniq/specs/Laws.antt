@@ -1,5 +1,5 @@
--- What a reader expects of stores: of one store, of stores that grow, of the step of a recursion over cofactors, and of the
--- beads that a sequence of calls leaves.
+-- What a reader expects of stores: of one store, of stores that grow, of the step of a recursion over cofactors, and of
+-- the beads that a sequence of calls leaves.
 use Rattle.std.specs.Prelude.{◌≡◌, ◌≢◌, ◌<◌, ◌≤◌, ◌+◌, ◌==◌, ℕ, suc, Bool, false, if◌then◌else◌, List, [], ◌∷◌, length, slice_index_or, All, Contains}
 use Rattle.bb_bits.specs.Truth.{Truth, Halves, IsTruthTable, truth_at, lifted, constant, IsBeadOfAny}
 use Rattle.bb_bits.specs.TruthSets.{HasMoreThan, HasAtMost}
@@ -23,13 +23,13 @@ pub record StoreLaws : Type 0 where
   -- a point leads from a node to the child for its variable's value
   pub branch_at_point : (s : NodeStore) (v lo hi : ℕ) (point : List Bool) → v < s.vars → length point ≡ s.vars
       → truth_at (branch s v lo hi) point ≡ (if slice_index_or point v false then truth_at (truth_of s hi) point else truth_at (truth_of s lo) point)
-  -- Refs with one table are one Ref
+  -- Refs with the same table are the same Ref
   pub one_ref : (s : NodeStore) → IsStore s → (r q : ℕ) → IsRef s r → IsRef s q → truth_of s r ≡ truth_of s q → r ≡ q
-  -- what stands below a variable is a Ref, and its own variable is later; a Ref that is no leaf has a variable
+  -- what is below a variable is a Ref, and its own variable is later; a Ref that is no leaf has a variable
   pub below_is_ref : (s : NodeStore) (v r : ℕ) → IsBelow s v r → IsRef s r
   pub top_below : (s : NodeStore) (v r : ℕ) → v < s.vars → IsBelow s v r → v < top_of s r
   pub inner_top : (s : NodeStore) → IsStore s → (r : ℕ) → IsRef s r → 2 ≤ r → top_of s r < s.vars
-  -- a Ref whose table depends on later variables alone stands below
+  -- a Ref whose table depends only on later variables is below
   pub below_from_table : (s : NodeStore) → IsStore s → (v m r : ℕ) (t : Truth) → v + suc m ≡ s.vars → IsRef s r → truth_of s r ≡ lifted (suc v) t → IsBelow s v r
 
 -- stores that grow

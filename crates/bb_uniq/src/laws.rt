@@ -1,10 +1,10 @@
-//! Laws of stores. Each function has laws as its contract and does nothing.
+//! Laws of stores, as contracts of empty functions: crates above call a function and cite no proof of this one.
 
 ghost use Rattle.bb_uniq.specs.Laws.{StoreLaws, GrowthLaws, StepLaws, SequenceLaws};
 
 use bb_bits::truth;
 
-/// One store: its Refs, their tables and the variables at which they stand.
+/// One store: canonicity, and what a Ref means.
 pub fn stores()
     ensures { StoreLaws }
 {
@@ -13,7 +13,7 @@ pub fn stores()
     truth::sizes();
 }
 
-/// Stores that grow: what is kept stays kept.
+/// Growing stores: a Ref keeps its table, so recursions may hold Refs over further calls.
 pub fn growth()
     ensures { GrowthLaws }
 {
@@ -22,7 +22,7 @@ pub fn growth()
     truth::sizes();
 }
 
-/// The step of a recursion that makes a result from those of its cofactors.
+/// The induction step of each recursion over cofactors.
 pub fn steps()
     ensures { StepLaws }
 {
@@ -31,7 +31,7 @@ pub fn steps()
     truth::sizes();
 }
 
-/// The beads that a sequence of calls leaves are those of its results.
+/// What calls leave are the beads of their results, in whatever order.
 pub fn sequences()
     ensures { SequenceLaws }
 {

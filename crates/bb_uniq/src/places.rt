@@ -1,5 +1,7 @@
-//! The places of the nodes of a store: open addressing with linear probing (Knuth, The Art of Computer Programming, volume
-//! 3, section 6.4). Of the hash nothing is used but that a node has one.
+//! An index of nodes: open addressing with linear probing (Knuth, The Art of Computer Programming, volume 3, section
+//! 6.4), at most half full. Room for the limit is reserved once, so `Full` is exact and no insertion needs memory; its
+//! price is that this room is taken however small a design is. Nothing is proved of the hash but that it is a
+//! function, so it may be exchanged. Nothing is removed, so there are no tombstones.
 
 ghost use Rattle.std.specs.Prelude.{◌≡◌, ◌≢◌, ◌<◌, ◌≤◌, ◌+◌, ◌*◌, ◌/◌, ◌%◌, ◌^◌, ℕ, ◌∷◌, ◌++◌, [], true, length, replicate, slice_get, Some, IfSome, IfNone, IfOk, max, vec_capacity};
 ghost use Rattle.std.specs.Int.{IsPowerOfTwo};
@@ -11,20 +13,19 @@ use crate::store::Node;
 use bb_bits::NoMemory;
 use std::alloc::Global;
 
-/// So many numbers a mark can have. The bits above are of the hash, so that most marks of other nodes are told from the
-/// wanted one without a look at the node.
+/// 2^26 node numbers. The six bits above are of the hash: most other nodes on a probe are passed over without a look at
+/// them.
 const NUMBERS: u32 = 67_108_864;
 
-/// So many places are in use at first, or all where there are fewer: room that is not used is not touched.
+/// Unused room is not touched: places double within it.
 const FIRST_PLACES: usize = 1024;
 
-/// Nodes that compare as equal are one node.
 fn same_nodes()
     ensures same { (a b : Triple) → ⟦<Node as PartialEq>⟧.eq a b ≡ true → a ≡ b }
     ensures equal { (a : Triple) → ⟦<Node as PartialEq>⟧.eq a a ≡ true }
 {}
 
-/// The hash of a node.
+/// Multiplicative, one odd constant for each field, so that exchanged children hash differently.
 fn hash(node: Node) -> u64
     ensures { result ≡ hash_of node }
 {
@@ -34,7 +35,7 @@ fn hash(node: Node) -> u64
     var.wrapping_add(lo).wrapping_add(hi)
 }
 
-/// Where the probe of a node with this hash is after so many steps.
+/// Linear probing. `count` is a power of two, so the mask is the modulus.
 fn place(hash: u64, steps: usize, count: usize) -> usize
     requires count { IsPowerOfTwo count }
     requires steps { steps < 2 ^ 63 }
@@ -44,7 +45,7 @@ fn place(hash: u64, steps: usize, count: usize) -> usize
     ((hash >> 32) as usize + steps) & (count - 1)
 }
 
-/// The bits of the hash that stand in a mark.
+/// The top six bits; `place` uses lower ones, so the two are nearly independent.
 fn tag(hash: u64) -> u32
     ensures tag { result ≡ hash / 2 ^ 58 }
     ensures within { result < 64 }
@@ -52,7 +53,6 @@ fn tag(hash: u64) -> u32
     (hash >> 58) as u32
 }
 
-/// The number of the node where it has this mark.
 fn number_at(mark: u32, nodes: &[Node], node: Node, hash: u64) -> Option<usize>
     requires hash { hash ≡ hash_of node }
     requires limit { length nodes.now ≤ 50000000 }
@@ -71,7 +71,7 @@ fn number_at(mark: u32, nodes: &[Node], node: Node, hash: u64) -> Option<usize>
     None
 }
 
-/// The number of the node, if it is there.
+/// Ends at a free place: at least half of them are free.
 pub fn find(places: &[u32], nodes: &[Node], node: Node) -> Option<usize>
     requires limit { length nodes.now ≤ 50000000 }
     requires places { ArePlaces places.now nodes.now }
@@ -91,7 +91,7 @@ pub fn find(places: &[u32], nodes: &[Node], node: Node) -> Option<usize>
     None
 }
 
-/// Puts a node behind the others: its mark takes the first free place of its probe.
+/// The mark of node number `n` is `n + 1`, since 0 is a free place.
 pub fn put(places: &mut [u32], nodes: &[Node], node: Node)
     requires limit { length nodes.now < 50000000 }
     requires places { ArePlaces places.old nodes.now }
@@ -110,7 +110,7 @@ pub fn put(places: &mut [u32], nodes: &[Node], node: Node)
     unreachable!()
 }
 
-/// Puts all nodes into free places.
+/// Nodes in their order, so each is met before a free place on its probe.
 fn put_all(places: &mut [u32], nodes: &[Node])
     requires limit { length nodes.now ≤ 50000000 }
     requires power { IsPowerOfTwo (length places.old) }
@@ -124,7 +124,7 @@ fn put_all(places: &mut [u32], nodes: &[Node])
     }
 }
 
-/// Doubles the places within their room.
+/// All nodes are placed anew, since the mask changes.
 fn double(places: &mut Vec<u32>, nodes: &[Node])
     requires limit { length nodes.now ≤ 50000000 }
     requires places { ArePlaces places.old.items nodes.now }
@@ -141,7 +141,7 @@ fn double(places: &mut Vec<u32>, nodes: &[Node])
     }
 }
 
-/// Sees that half of the places are free behind one more node.
+/// At least half of the places stay free, which bounds the probes.
 pub fn make_room(places: &mut Vec<u32>, nodes: &[Node], limit: usize)
     requires limit { limit ≤ 50000000 }
     requires new { length nodes.now < limit }
@@ -156,8 +156,6 @@ pub fn make_room(places: &mut Vec<u32>, nodes: &[Node], limit: usize)
     }
 }
 
-/// How many places there are for so many nodes at the most: the least power of two that is at least twice as many, and at
-/// least 2.
 fn places_for(limit: usize) -> usize
     requires { limit ≤ 50000000 }
     ensures power { IsPowerOfTwo result }
@@ -168,7 +166,7 @@ fn places_for(limit: usize) -> usize
     (2 * limit).max(2).next_power_of_two()
 }
 
-/// Free places, with room for those of so many nodes.
+/// All room is reserved, and the first 1,024 places are in use.
 pub fn free_places(alloc: Global, limit: usize) -> Result<Vec<u32>, NoMemory>
     requires { limit ≤ 50000000 }
     ensures places { IfOk result (λ v. ArePlaces v.items []) }

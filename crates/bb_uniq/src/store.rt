@@ -1,8 +1,12 @@
+//! Reduced ordered BDD nodes as a list, with an index by content. That no node occurs twice is proved, since canonicity
+//! rests on it: `bb_strash`, where only time does, tests its index instead. A store never shrinks, so a Ref stays
+//! valid.
+
 ghost use Rattle.std.specs.Prelude.{◌≡◌, ◌<◌, ◌≤◌, ℕ, IfOk, OnErr, IsErrOf, length, [], vec_capacity};
 ghost use Rattle.bb_bits.specs.TruthSets.{HasSize};
 ghost use Rattle.bb_uniq.specs.Inside.Nodes.{NodeStore, IsRef, IsBelow, view_of, IsStore, IsNew, Gives};
 ghost use Rattle.bb_uniq.specs.Inside.Meaning.{IsHeld, Adds, IsTooMany, branch, truth_of, ViewMeans};
-ghost use Rattle.bb_uniq.specs.Inside.Places.{Stands, IsAbsent};
+ghost use Rattle.bb_uniq.specs.Inside.Places.{IsNodeAt, IsAbsent};
 ghost use Rattle.bb_uniq.specs.Inside.Probes.{ArePlaces, HasRoom};
 
 use crate::places::{find, free_places, make_room, put};
@@ -10,25 +14,25 @@ use bb_bits::{NoMemory, truth};
 use std::alloc::Global;
 use std::marker::Model;
 
-/// A diagram of a store: `Ref(0)` is false, `Ref(1)` is true, and the inner nodes follow.
+/// `Ref(0)` is false, `Ref(1)` is true, and inner node `n` is `Ref(n + 2)`.
 #[derive(Clone, Copy, Debug, PartialEq, Eq, Hash)]
 pub struct Ref(pub u32);
 
-/// What stands at a Ref. A node is `hi` where its variable is 1, else `lo`.
+/// A node is `hi` where its variable is 1, else `lo`.
 #[derive(Clone, Copy, Debug, PartialEq, Eq)]
 pub enum View {
     Leaf(bool),
     Node { var: u32, lo: Ref, hi: Ref },
 }
 
-/// Why a node is not made.
+/// Comes from `make` only: the store has its room from the start.
 #[derive(Clone, Copy, Debug, PartialEq, Eq)]
 pub enum StoreFault {
-    /// The node is new, and the store holds as many nodes as it may.
+    /// The node is new, and the store has as many as its limit. Want of memory never gives this.
     Full,
 }
 
-/// A node: its variable and the numbers of its children.
+/// Children are numbers of Refs.
 #[derive(Clone, Copy, Debug, PartialEq, Eq)]
 pub struct Node {
     pub var: u32,
@@ -36,7 +40,6 @@ pub struct Node {
     pub hi: u32,
 }
 
-/// The index of a node. Where it is new and there is room for it, it is put last.
 fn place_of(
     nodes: &mut Vec<Node>,
     places: &mut Vec<u32>,
@@ -48,7 +51,7 @@ fn place_of(
     requires node_room { limit ≤ vec_capacity nodes.old }
     requires places { ArePlaces places.old.items nodes.old.items }
     requires room { HasRoom limit (vec_capacity places.old) (length places.old.items) }
-    ensures ok { IfOk result (λ k. Stands nodes.old.items nodes.new.items limit node k) }
+    ensures ok { IfOk result (λ k. IsNodeAt nodes.old.items nodes.new.items limit node k) }
     ensures full { IsErrOf result StoreFault.Full → (limit ≤ length nodes.old.items) × IsAbsent nodes.old.items node }
     ensures err { OnErr result (nodes.new.items ≡ nodes.old.items) }
     ensures node_room { limit ≤ vec_capacity nodes.new }
@@ -68,7 +71,7 @@ fn place_of(
     Ok(number)
 }
 
-/// Nodes of reduced ordered decision diagrams, each held once.
+/// The invariant is that of a reduced ordered BDD: children have later variables and differ, and no node occurs twice.
 #[derive(Drop)]
 pub struct Store {
     vars: u32,
@@ -91,8 +94,7 @@ impl Model for Store {
 }
 
 impl Store {
-    /// A store of no inner node, over so many variables, for at most `limit` inner nodes. It takes the room of all of them, so
-    /// that no later call wants memory.
+    /// At most `limit` inner nodes, whose room is taken here, so that no later call wants memory.
     ///
     /// # Errors
     ///
@@ -113,14 +115,14 @@ impl Store {
         })
     }
 
-    /// How many variables there are.
+    /// At most 2,048.
     pub fn vars(&self) -> u32
         ensures vars { result ≡ self.now.vars }
     {
         self.vars
     }
 
-    /// How many inner nodes are held.
+    /// Without the two leaves.
     pub fn len(&self) -> u32
         ensures nodes { result ≡ length self.now.nodes }
         ensures beads { HasSize (IsHeld self.now) result }
@@ -131,8 +133,8 @@ impl Store {
         self.nodes.len() as u32
     }
 
-    /// What the store keeps: a child has a later variable than its node, the two children differ, any two nodes differ. So Refs
-    /// with one truth table are one Ref.
+    /// For proofs: children have later variables and differ, and nodes are distinct; so Refs with one truth table are
+    /// the same Ref.
     pub fn is_canonical(&self)
         ensures store { IsStore self.now }
         ensures refs { (r q : ℕ) → IsRef self.now r → IsRef self.now q → truth_of self.now r ≡ truth_of self.now q → r ≡ q }
@@ -140,7 +142,7 @@ impl Store {
         let _ = &self.nodes;
     }
 
-    /// What stands at a Ref. A leaf's table is its bit everywhere, a node's is the choice between its children's.
+    /// A leaf's table is its bit everywhere, a node's the choice between its children's.
     pub fn view(&self, r: Ref) -> View
         requires { IsRef self.now r.0 }
         ensures view { result ≡ view_of self.now r.0 }
@@ -160,8 +162,8 @@ impl Store {
         }
     }
 
-    /// The node "`hi` where `var` is 1, else `lo`". Where both are one it is that child; where the store has the node it is
-    /// that node; else the node is added.
+    /// The node "`hi` where `var` is 1, else `lo`", reduced: equal children give that child, and a node that exists is
+    /// shared.
     ///
     /// # Errors
     ///

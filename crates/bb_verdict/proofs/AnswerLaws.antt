@@ -2,30 +2,30 @@
 use Rattle.std.proofs.Common.{◌≡◌, ◌⊎◌, ℕ, Bool, true, false, if◌then◌else◌, List, ◌++◌, map, refl, sym, ap, subst, ◌∙◌, arith, inl, inr}
 use Rattle.std.specs.List.{AllZip, list_any}
 use Rattle.std.proofs.lemmas.List.Elements.{All-weaker}
-use Rattle.bb_agree.specs.Comparable.{FittingDesignsAreComparable}
-use Rattle.bb_agree.specs.DesignAgreement.{AreSpelled, FittingTablesAreOfBoxes, IsPairFor, IsTableOf, NoTablesNoContents, PairsHaveBoxOrders, SpelledContentsAgree, TablesSpellContents}
-use Rattle.bb_agree.specs.Laws.DesignRefusals.{PairsStandExactlyForFitting}
+use Rattle.bb_equiv.specs.Comparable.{FittingDesignsAreComparable}
+use Rattle.bb_equiv.specs.DesignEquivalence.{AreSpelled, FittingTablesAreOfBoxes, IsPairFor, IsTableOf, NoTablesNoContents, PairsHaveBoxOrders, SpelledContentsMakeEquivalent, TablesSpellContents}
+use Rattle.bb_equiv.specs.Laws.DesignRefusals.{PairsImplementExactlyFitting}
 use Rattle.bb_bits.specs.Tables.{TableBits}
-use Rattle.bb_cells.specs.BoxOrders.{IsBoxOrder}
-use Rattle.bb_cells.specs.Stands.{box_texts}
+use Rattle.bb_implements.specs.BoxOrders.{IsBoxOrder}
+use Rattle.bb_implements.specs.Implements.{box_texts}
 use Rattle.bb_design.specs.Hierarchy.{Design, Scope}
 use Rattle.bb_design.specs.Inside.Allowed.{IsAllowed}
 use Rattle.bb_net.specs.Kinds.{AreKinds, AreSharedCompletion, shown}
 use Rattle.bb_net.specs.Pairs.{NetPair, IsPair, box_key}
-use Rattle.bb_rungs.specs.Laws.AlikePairs.{AlikePairsAreLeftOpen, AlikePairsStayOpen, AlikePairsAreDecided}
-use Rattle.bb_rungs.specs.declared.line.Line.{Line}
-use Rattle.bb_rungs.specs.declared.verdict.Verdict.{Verdict}
-use Rattle.bb_rungs.specs.declared.verdict.Verdict.TheVariants as verdicts
-use Rattle.bb_rungs.specs.Laws.{ErrorsExcludeTables, ClimbsLeaveOpen, StayingOpenIsTold, DecidersDecide}
-use Rattle.bb_rungs.specs.LeftOpen.{LeavesOpen, StaysOpen}
-use Rattle.bb_rungs.specs.Reports.{EndsWithTables, report_text, status_of, verdict_of}
-use Rattle.bb_options.specs.Rungs.{asked_rungs}
-use Rattle.bb_rungs.specs.Rungs.{is_error, is_repair}
-use Rattle.bb_verdict.specs.declared.asked.Asked.{Asked}
-use Rattle.bb_verdict.specs.FilledTexts.{MayFollow, NoTablesFollow}
-use Rattle.bb_texts.specs.RefusalLines.{refusal_line}
+use Rattle.bb_checks.specs.Laws.IsomorphicPairs.{IsomorphicPairsAreLeftOpen, IsomorphicPairsStayOpen, IsomorphicPairsAreDecided}
+use Rattle.bb_checks.specs.declared.line.Line.{Line}
+use Rattle.bb_checks.specs.declared.verdict.Verdict.{Verdict}
+use Rattle.bb_checks.specs.declared.verdict.Verdict.TheVariants as verdicts
+use Rattle.bb_checks.specs.Laws.{ErrorsExcludeTables, ClimbsLeaveOpen, StayingOpenIsReported, DecidersDecide}
+use Rattle.bb_checks.specs.LeftOpen.{LeavesOpen, StaysOpen}
+use Rattle.bb_checks.specs.Reports.{EndsWithTables, report_text, status_of, verdict_of}
+use Rattle.bb_options.specs.Rungs.{requested_rungs}
+use Rattle.bb_checks.specs.Rungs.{is_error, is_repair}
+use Rattle.bb_verdict.specs.declared.requested.TextComparison.{TextComparison}
+use Rattle.bb_verdict.specs.FilledTexts.{MayFollowVerdict, NoTablesFollow}
+use Rattle.bb_frontend.specs.RefusalLines.{refusal_line}
 use Rattle.bb_verdict.specs.TextAnswers.{Refused, Judged, AnsweredFit, ErrorsRefute, OpenAnswersLeaveOpen, DecidedAreAnswered, StayingOpenAreAnswered, JudgedRefusalsAreFirst, RefusedAreAnsweredOnce}
-use Rattle.bb_verdict.specs.TextPairs.{AreDesignsOf, AreFinished, StandsForTexts, DesignsAreAllowed, RefusalsAreOne, NotPairAndRefusal, TextPairsAreAlike}
+use Rattle.bb_verdict.specs.TextPairs.{AreDesignsOf, AreFinished, ImplementsTexts, DesignsAreAllowed, RefusalsAreOne, NotPairAndRefusal, TextPairsAreIsomorphic}
 use Rattle.bb_verdict.proofs.FollowLaws.{nothing_unasked}
 use Rattle.bb_verdict.proofs.TextPairLaws.{are_read_as}
 
@@ -49,80 +49,80 @@ status_error lines e = by (list_any is_error lines) (list_any is_repair lines) e
     by false false e = absurd (omega (arith, e))
 
 -- what a report says whose verdict is that the design can be finished, with tables that agree
-module _ (allowed : DesignsAreAllowed) (none_behind : NoTablesFollow) (spell : TablesSpellContents) (agree : SpelledContentsAgree) (exactly : PairsStandExactlyForFitting)
+module _ (allowed : DesignsAreAllowed) (none_after : NoTablesFollow) (spell : TablesSpellContents) (agree : SpelledContentsMakeEquivalent) (exactly : PairsImplementExactlyFitting)
     (comparable : FittingDesignsAreComparable) (have_orders : PairsHaveBoxOrders) (of_boxes : FittingTablesAreOfBoxes) where
-  module _ (asked : Asked) (spec imp text : List ℕ) (p : NetPair) (lines : List Line) (s i : Design) (are : AreDesignsOf asked spec imp s i) (for : IsPairFor asked.care asked.options.shared s i p)
-      (rest : List ℕ) (follows : MayFollow asked.fill for.imp_net p.kinds lines rest) (whole : text ≡ report_text p asked.options lines ++ rest)
-      (tables : List TableBits) (complete : AreSharedCompletion p.spec p.imp p.kinds tables) (ends : EndsWithTables asked.options.shared (shown p.kinds p.boxes) (report_text p asked.options lines) tables) where
+  module _ (requested : TextComparison) (spec imp text : List ℕ) (p : NetPair) (lines : List Line) (s i : Design) (are : AreDesignsOf requested spec imp s i) (for : IsPairFor requested.care requested.options.shared s i p)
+      (rest : List ℕ) (follows : MayFollowVerdict requested.fill for.imp_net p.kinds lines rest) (whole : text ≡ report_text p requested.options lines ++ rest)
+      (tables : List TableBits) (complete : AreSharedCompletion p.spec p.imp p.kinds tables) (ends : EndsWithTables requested.options.shared (shown p.kinds p.boxes) (report_text p requested.options lines) tables) where
     abbrev shared : Bool
-    shared = asked.options.shared
+    shared = requested.options.shared
 
     pub s_allowed : IsAllowed s
-    s_allowed = allowed asked.spec_top spec s are.spec_design
+    s_allowed = allowed requested.spec_top spec s are.spec_design
 
     pub i_allowed : IsAllowed i
-    i_allowed = allowed asked.imp_top imp i are.imp_design
+    i_allowed = allowed requested.imp_top imp i are.imp_design
 
     abbrev pub order : (order : List Scope) × IsBoxOrder i order × (p.boxes ≡ map (box_texts i) order) × AreKinds (map (box_key shared) p.boxes) p.kinds
-    order = have_orders asked.care shared s i p i_allowed for
+    order = have_orders requested.care shared s i p i_allowed for
 
-    abbrev pub finished : AreFinished asked spec imp text
+    abbrev pub finished : AreFinished requested spec imp text
     finished =
-        let spelled = spell asked.care shared s i p s_allowed i_allowed for tables complete.fit in
+        let spelled = spell requested.care shared s i p s_allowed i_allowed for tables complete.fit in
         record {
           s = s;
           i = i;
-          reads = are_read_as asked spec imp s i are;
-          comparable = (comparable asked.care shared s i s_allowed i_allowed ((exactly asked.care shared s i s_allowed i_allowed).fit p for)).0;
+          reads = are_read_as requested spec imp s i are;
+          comparable = (comparable requested.care shared s i s_allowed i_allowed ((exactly requested.care shared s i s_allowed i_allowed).fit p for)).0;
           order = order.0;
           all = order.1.all;
           kinds = p.kinds;
           keyed = subst (λ l. AreKinds (map (box_key shared) l) p.kinds) order.2 order.3;
           tables = tables;
           shapes = subst (λ l. AllZip IsTableOf (shown p.kinds l) tables) order.2 (of_boxes p tables for.kept complete.fit);
-          report = report_text p asked.options lines;
+          report = report_text p requested.options lines;
           rest = rest;
           whole = whole;
-          lines = subst (λ l. EndsWithTables shared (shown p.kinds l) (report_text p asked.options lines) tables) order.2 ends;
-          no_more = none_behind asked.fill for.imp_net p.kinds lines rest for.imp_flat follows;
+          lines = subst (λ l. EndsWithTables shared (shown p.kinds l) (report_text p requested.options lines) tables) order.2 ends;
+          no_more = none_after requested.fill for.imp_net p.kinds lines rest for.imp_flat follows;
           alone = nothing_unasked follows;
           contents = (spelled.0, spelled.1, subst (λ l. AreSpelled l p.kinds tables spelled.0) order.2 spelled.2);
-          agree = λ contents fits spells. agree asked.care shared s i p s_allowed i_allowed for tables complete.fit complete.agree contents fits (subst (λ l. AreSpelled l p.kinds tables contents) (sym order.2) spells);
+          agree = λ contents fits spells. agree requested.care shared s i p s_allowed i_allowed for tables complete.fit complete.agree contents fits (subst (λ l. AreSpelled l p.kinds tables contents) (sym order.2) spells);
         }
 
-pub answered_fit : DesignsAreAllowed → PairsStandExactlyForFitting → AnsweredFit
-answered_fit allowed fitting asked spec imp status text (Refused r is s t) answered = absurd (answered s)
-answered_fit allowed fitting asked spec imp status text (Judged p lines s i are for climb same rest follows t) answered =
-    (s, i, are, (fitting asked.care asked.options.shared s i (allowed asked.spec_top spec s are.spec_design) (allowed asked.imp_top imp i are.imp_design)).fit p for)
+pub answered_fit : DesignsAreAllowed → PairsImplementExactlyFitting → AnsweredFit
+answered_fit allowed fitting requested spec imp status text (Refused r is s t) answered = absurd (answered s)
+answered_fit allowed fitting requested spec imp status text (Judged p lines s i are for climb same rest follows t) answered =
+    (s, i, are, (fitting requested.care requested.options.shared s i (allowed requested.spec_top spec s are.spec_design) (allowed requested.imp_top imp i are.imp_design)).fit p for)
 
-pub errors_refute : DesignsAreAllowed → ErrorsExcludeTables → NoTablesNoContents → PairsStandExactlyForFitting → FittingDesignsAreComparable → ErrorsRefute
-errors_refute allowed excludes exactly fitting comparable asked spec imp status text (Refused r is s t) one = absurd (omega (arith, s, one))
-errors_refute allowed excludes exactly fitting comparable asked spec imp status text (Judged p lines s i are for climb same rest follows t) one =
-    let none = excludes p asked.options lines for.kept climb (status_error lines (sym same ∙ one)) in
-    let good = allowed asked.spec_top spec s are.spec_design in
-    let also = allowed asked.imp_top imp i are.imp_design in
-    let fit = (fitting asked.care asked.options.shared s i good also).fit p for in
-    let can = comparable asked.care asked.options.shared s i good also fit in
+pub errors_refute : DesignsAreAllowed → ErrorsExcludeTables → NoTablesNoContents → PairsImplementExactlyFitting → FittingDesignsAreComparable → ErrorsRefute
+errors_refute allowed excludes exactly fitting comparable requested spec imp status text (Refused r is s t) one = absurd (omega (arith, s, one))
+errors_refute allowed excludes exactly fitting comparable requested spec imp status text (Judged p lines s i are for climb same rest follows t) one =
+    let none = excludes p requested.options lines for.kept climb (status_error lines (sym same ∙ one)) in
+    let good = allowed requested.spec_top spec s are.spec_design in
+    let also = allowed requested.imp_top imp i are.imp_design in
+    let fit = (fitting requested.care requested.options.shared s i good also).fit p for in
+    let can = comparable requested.care requested.options.shared s i good also fit in
     record {
       s = s;
       i = i;
-      reads = are_read_as asked spec imp s i are;
+      reads = are_read_as requested spec imp s i are;
       comparable = can.0;
       some = can.1;
-      none = (exactly asked.care asked.options.shared s i p good also for).0 none;
+      none = (exactly requested.care requested.options.shared s i p good also for).0 none;
     }
 
-pub is_pair : (asked : Asked) (spec imp : List ℕ) (p : NetPair) → StandsForTexts asked spec imp p → IsPair p
-is_pair asked spec imp p (s, i, are, for) = for.kept
+pub is_pair : (requested : TextComparison) (spec imp : List ℕ) (p : NetPair) → ImplementsTexts requested spec imp p → IsPair p
+is_pair requested spec imp p (s, i, are, for) = for.kept
 
-pub open_answers_leave_open : TextPairsAreAlike → AlikePairsAreLeftOpen → ClimbsLeaveOpen → OpenAnswersLeaveOpen
-open_answers_leave_open alike stays leave asked spec imp status text (Refused r is s t) three = absurd (omega (arith, s, three))
-open_answers_leave_open alike stays leave asked spec imp status text (Judged p lines s i are for climb same rest follows t) three =
-    let stands : StandsForTexts asked spec imp p = (s, i, are, for) in
-    let left = leave p asked.options lines climb (is_open (verdict_of lines) (sym same ∙ three)) in
+pub open_answers_leave_open : TextPairsAreIsomorphic → IsomorphicPairsAreLeftOpen → ClimbsLeaveOpen → OpenAnswersLeaveOpen
+open_answers_leave_open alike stays leave requested spec imp status text (Refused r is s t) three = absurd (omega (arith, s, three))
+open_answers_leave_open alike stays leave requested spec imp status text (Judged p lines s i are for climb same rest follows t) three =
+    let occurs : ImplementsTexts requested spec imp p = (s, i, are, for) in
+    let left = leave p requested.options lines climb (is_open (verdict_of lines) (sym same ∙ three)) in
     record {
-      pair = (p, stands);
-      left = λ q also. All-weaker (LeavesOpen p asked.options) (LeavesOpen q asked.options) (λ r. stays p q asked.options r (is_pair asked spec imp p stands) (is_pair asked spec imp q also) (alike asked spec imp p q stands also)) (asked_rungs asked.options) left;
+      pair = (p, occurs);
+      left = λ q also. All-weaker (LeavesOpen p requested.options) (LeavesOpen q requested.options) (λ r. stays p q requested.options r (is_pair requested spec imp p occurs) (is_pair requested spec imp q also) (alike requested spec imp p q occurs also)) (requested_rungs requested.options) left;
     }
 
 -- the verdict of a status that is not open
@@ -131,19 +131,19 @@ decided_status verdicts.Error not_open = inr refl
 decided_status verdicts.Repairable not_open = inl refl
 decided_status verdicts.Open not_open = absurd (not_open refl)
 
-pub decided_are_answered : NotPairAndRefusal → TextPairsAreAlike → AlikePairsAreDecided → DecidersDecide → DecidedAreAnswered
-decided_are_answered apart alike decided decide asked spec imp status text (Refused r is s t) (q, also, decides) = absurd (apart asked spec imp q r also is)
-decided_are_answered apart alike decided decide asked spec imp status text (Judged p lines s i are for climb same rest follows t) (q, also, decides) =
-    let stands : StandsForTexts asked spec imp p = (s, i, are, for) in
-    let so = decided q p asked.options decides.0 (is_pair asked spec imp q also) (is_pair asked spec imp p stands) (alike asked spec imp q p also stands) decides.2 in
-    subst (λ n. (n ≡ 0) ⊎ (n ≡ 1)) (sym same) (decided_status (verdict_of lines) (decide p asked.options lines climb (decides.0, decides.1, so)))
+pub decided_are_answered : NotPairAndRefusal → TextPairsAreIsomorphic → IsomorphicPairsAreDecided → DecidersDecide → DecidedAreAnswered
+decided_are_answered apart alike decided decide requested spec imp status text (Refused r is s t) (q, also, decides) = absurd (apart requested spec imp q r also is)
+decided_are_answered apart alike decided decide requested spec imp status text (Judged p lines s i are for climb same rest follows t) (q, also, decides) =
+    let occurs : ImplementsTexts requested spec imp p = (s, i, are, for) in
+    let so = decided q p requested.options decides.0 (is_pair requested spec imp q also) (is_pair requested spec imp p occurs) (alike requested spec imp q p also occurs) decides.2 in
+    subst (λ n. (n ≡ 0) ⊎ (n ≡ 1)) (sym same) (decided_status (verdict_of lines) (decide p requested.options lines climb (decides.0, decides.1, so)))
 
-pub staying_open_are_answered : NotPairAndRefusal → TextPairsAreAlike → AlikePairsStayOpen → StayingOpenIsTold → StayingOpenAreAnswered
-staying_open_are_answered apart alike stay told asked spec imp status text (Refused r is s t) (q, also, stays) = absurd (apart asked spec imp q r also is)
-staying_open_are_answered apart alike stay told asked spec imp status text (Judged p lines s i are for climb same rest follows t) (q, also, stays) =
-    let stands : StandsForTexts asked spec imp p = (s, i, are, for) in
-    let so = All-weaker (StaysOpen q asked.options) (StaysOpen p asked.options) (λ r. stay q p asked.options r (is_pair asked spec imp q also) (is_pair asked spec imp p stands) (alike asked spec imp q p also stands)) (asked_rungs asked.options) stays in
-    same ∙ ap status_of (told p asked.options lines climb so)
+pub staying_open_are_answered : NotPairAndRefusal → TextPairsAreIsomorphic → IsomorphicPairsStayOpen → StayingOpenIsReported → StayingOpenAreAnswered
+staying_open_are_answered apart alike stay reported requested spec imp status text (Refused r is s t) (q, also, stays) = absurd (apart requested spec imp q r also is)
+staying_open_are_answered apart alike stay reported requested spec imp status text (Judged p lines s i are for climb same rest follows t) (q, also, stays) =
+    let occurs : ImplementsTexts requested spec imp p = (s, i, are, for) in
+    let so = All-weaker (StaysOpen q requested.options) (StaysOpen p requested.options) (λ r. stay q p requested.options r (is_pair requested spec imp q also) (is_pair requested spec imp p occurs) (alike requested spec imp q p also occurs)) (requested_rungs requested.options) stays in
+    same ∙ ap status_of (reported p requested.options lines climb so)
 
 no_second : (v : Verdict) → status_of v ≡ 2 → ⊥
 no_second verdicts.Error e = omega (arith, e)
@@ -151,9 +151,9 @@ no_second verdicts.Repairable e = omega (arith, e)
 no_second verdicts.Open e = omega (arith, e)
 
 pub judged_refusals_are_first : JudgedRefusalsAreFirst
-judged_refusals_are_first asked spec imp status text (Refused refusal is s t) two = (refusal, is, t)
-judged_refusals_are_first asked spec imp status text (Judged p lines d i are for climb s rest follows t) two = absurd (no_second (verdict_of lines) (sym s ∙ two))
+judged_refusals_are_first requested spec imp status text (Refused refusal is s t) two = (refusal, is, t)
+judged_refusals_are_first requested spec imp status text (Judged p lines d i are for climb s rest follows t) two = absurd (no_second (verdict_of lines) (sym s ∙ two))
 
 pub refused_are_answered_once : RefusalsAreOne → NotPairAndRefusal → RefusedAreAnsweredOnce
-refused_are_answered_once one apart asked spec imp r status text is (Refused q also s t) = (s, t ∙ ap refusal_line (one asked spec imp q r also is))
-refused_are_answered_once one apart asked spec imp r status text is (Judged p lines s i are for climb same rest follows t) = absurd (apart asked spec imp p r (s, i, are, for) is)
+refused_are_answered_once one apart requested spec imp r status text is (Refused q also s t) = (s, t ∙ ap refusal_line (one requested spec imp q r also is))
+refused_are_answered_once one apart requested spec imp r status text is (Judged p lines s i are for climb same rest follows t) = absurd (apart requested spec imp p r (s, i, are, for) is)

@@ -2,28 +2,28 @@
 -- design is sound, has no box, fits the specification and agrees with it, and with the filled implementation.
 use Rattle.std.proofs.Common.{◌≡◌, ℕ, List, None, Option, Some, sym, subst}
 use Rattle.std.specs.Prelude.{codes}
-use Rattle.bb_agree.specs.Comparable.{FittingDesignsAreComparable}
-use Rattle.bb_agree.specs.DesignAgreement.{SpelledContentsHaveTables, TablesAgreeAsContents}
-use Rattle.bb_agree.specs.Laws.DesignRefusals.{PairsStandExactlyForFitting}
-use Rattle.bb_agree.specs.Runs.{AgreeingDesignsRunAlike}
+use Rattle.bb_equiv.specs.Comparable.{FittingDesignsAreComparable}
+use Rattle.bb_equiv.specs.DesignEquivalence.{SpelledContentsHaveTables, TablesMakeEquivalentAsContents}
+use Rattle.bb_equiv.specs.Laws.DesignRefusals.{PairsImplementExactlyFitting}
+use Rattle.bb_equiv.specs.Runs.{EquivalentDesignsRunTheSame}
 use Rattle.bb_bits.specs.Tables.{TableBits}
-use Rattle.bb_cells.specs.Laws.ContentTables.{TablesGiveOutputs, TablesHaveContents}
-use Rattle.bb_cells.specs.Laws.ListLaws.{StandingNetsGiveOutputs}
-use Rattle.bb_cells.specs.Laws.NamingLaws.{FollowedInputsAreOne}
+use Rattle.bb_implements.specs.Laws.ContentTables.{TablesGiveOutputs, TablesHaveContents}
+use Rattle.bb_implements.specs.Laws.ListLaws.{ImplementingNetsGiveOutputs}
+use Rattle.bb_implements.specs.Laws.NamingLaws.{FollowedInputsAreOne}
 use Rattle.bb_design.specs.Hierarchy.{top_of}
 use Rattle.bb_fill.specs.Answers as fill
 use Rattle.bb_fill.specs.Clashes.{AreNamesApart}
 use Rattle.bb_fill.specs.Filled.{filled_text}
 use Rattle.bb_fill.specs.Laws.{IsReady}
-use Rattle.bb_fill.specs.Sizes.{IsSmall}
+use Rattle.bb_fill.specs.Sizes.{IsSmallText}
 use Rattle.bb_match.specs.Refusals.{Box}
 use Rattle.bb_net.specs.Flats.{FlatNet, HaveClocks}
 use Rattle.bb_net.specs.Kinds.{spread}
 use Rattle.bb_parse.specs.Sources.{ReadsAs}
-use Rattle.bb_plain.specs.Laws.Designs.{filled_design}
-use Rattle.bb_plain.specs.Laws.{FilledDesignsAreCalledAlike, FilledDesignsAreSound, FilledDesignsHaveBits, FilledModulesAreSound, FilledModulesAreTops}
-use Rattle.bb_texts.specs.TextDesigns.{IsDesignOf}
-use Rattle.bb_written.specs.Laws.{FilledTextsAreRead}
+use Rattle.bb_readback.specs.Laws.Designs.{filled_design}
+use Rattle.bb_readback.specs.Laws.{FilledDesignsAreNamedTheSame, FilledDesignsAreSound, FilledDesignsHaveBits, FilledModulesAreSound, FilledModulesAreTops}
+use Rattle.bb_frontend.specs.TextDesigns.{IsDesignOf}
+use Rattle.bb_readback.specs.Laws.{FilledTextsAreRead}
 use Rattle.bb_verdict.specs.TextPairs.{DesignsAreAllowed, FilledTextsFinish}
 use Rattle.bb_verdict.proofs.FilledAgree.{filled_agrees, filled_same, fits_none}
 use Rattle.bb_verdict.proofs.FilledFit.{filled_fits}
@@ -37,22 +37,22 @@ pub record FillingLaws : Type 0 where
   pub faultless : FilledModulesAreSound
   pub tops : FilledModulesAreTops
   pub sound : FilledDesignsAreSound
-  pub called : FilledDesignsAreCalledAlike
+  pub called : FilledDesignsAreNamedTheSame
   pub bits : FilledDesignsHaveBits
-  -- of the pair and the designs for which it stands
-  pub fitting : PairsStandExactlyForFitting
+  -- of the pair and the designs for which it is
+  pub fitting : PairsImplementExactlyFitting
   pub comparable : FittingDesignsAreComparable
-  pub run : AgreeingDesignsRunAlike
-  pub as_contents : TablesAgreeAsContents
+  pub run : EquivalentDesignsRunTheSame
+  pub as_contents : TablesMakeEquivalentAsContents
   pub contents : TablesHaveContents
   pub outputs : TablesGiveOutputs
-  pub worlds : StandingNetsGiveOutputs
+  pub worlds : ImplementingNetsGiveOutputs
   pub one_input : FollowedInputsAreOne
   pub spread : TablesAreSpread
   pub spelled : SpelledContentsHaveTables
 
 -- a text is answered where no name clashes and it is not too large, and it is the one of the netlist
-answered : (f : FlatNet) (tables : List TableBits) (text : List ℕ) → fill.MayFill f tables (fill.Text text) → AreNamesApart f × IsSmall f tables × (text ≡ filled_text f tables)
+answered : (f : FlatNet) (tables : List TableBits) (text : List ℕ) → fill.IsFillAnswer f tables (fill.Text text) → AreNamesApart f × IsSmallText f tables × (text ≡ filled_text f tables)
 answered f tables text (fill.Clashes name clash is) = let no : fill.Text text ≡ fill.Clash name = is in absurd (cc no)
 answered f tables text (fill.IsLarge names large is) = let no : fill.Text text ≡ fill.TooLarge = is in absurd (cc no)
 answered f tables text (fill.IsFilled names small is) = (names, small, same text (filled_text f tables) is)
@@ -60,7 +60,7 @@ answered f tables text (fill.IsFilled names small is) = (names, small, same text
     same : (a b : List ℕ) → fill.Text a ≡ fill.Text b → a ≡ b
     same a b e = cc e
 
-module _ (laws : FillingLaws) (f : FlatNet) (tables : List TableBits) (ready : IsReady f tables) (clocks : HaveClocks f) (small : IsSmall f tables) (text : List ℕ) (is : text ≡ filled_text f tables) where
+module _ (laws : FillingLaws) (f : FlatNet) (tables : List TableBits) (ready : IsReady f tables) (clocks : HaveClocks f) (small : IsSmallText f tables) (text : List ℕ) (is : text ≡ filled_text f tables) where
   design_of : (name : Option (List ℕ)) → top_of (filled_design f tables).text name ≡ Some (filled_design f tables).top → IsDesignOf name text (filled_design f tables)
   design_of name top = record {
     reads = subst (λ t. ReadsAs t (filled_design f tables).text) (sym is) (laws.read f tables ready clocks);
@@ -70,13 +70,13 @@ module _ (laws : FillingLaws) (f : FlatNet) (tables : List TableBits) (ready : I
   }
 
 pub filled_texts_finish : FillingLaws → FilledTextsFinish
-filled_texts_finish laws asked spec imp s i are p pair tables completion text may =
+filled_texts_finish laws requested spec imp s i are p pair tables completion text may =
     let f = pair.imp_net in
     let all = spread p.kinds tables in
     let d = filled_design f all in
-    let s_allowed = laws.allowed asked.spec_top spec s are.spec_design in
-    let i_allowed = laws.allowed asked.imp_top imp i are.imp_design in
-    let fit = (laws.fitting asked.care asked.options.shared s i s_allowed i_allowed).fit p pair in
+    let s_allowed = laws.allowed requested.spec_top spec s are.spec_design in
+    let i_allowed = laws.allowed requested.imp_top imp i are.imp_design in
+    let fit = (laws.fitting requested.care requested.options.shared s i s_allowed i_allowed).fit p pair in
     let kept = kept_nets laws.spread s i p pair in
     let t = answered f all text may in
     let ready : IsReady f all = record { flat = pair.imp_flat; fit = kept.tables tables completion.fit; names = t.0 } in
@@ -84,9 +84,9 @@ filled_texts_finish laws asked spec imp s i are p pair tables completion text ma
     let unnamed = design_of laws f all ready kept.clocks t.1 text t.2 None (laws.tops f all).alone in
     let named = design_of laws f all ready kept.clocks t.1 text t.2 (Some (codes "filled")) (laws.tops f all).named in
     let d_allowed = laws.allowed None text d unnamed in
-    let fits = filled_fits i d f pair.imp_stands (laws.called f all ready kept.clocks t.1) laws.one_input sound.sound sound.complete asked.care s fit in
-    let comparable = (laws.comparable asked.care asked.options.shared s d s_allowed d_allowed fits).0 in
-    let agree = filled_agrees laws.outputs laws.worlds laws.as_contents laws.contents asked.care asked.options.shared s i p s_allowed i_allowed pair (fit Box) all ready.fit completion.agree d
+    let fits = filled_fits i d f pair.imp_implements (laws.called f all ready kept.clocks t.1) laws.one_input sound.sound sound.complete requested.care s fit in
+    let comparable = (laws.comparable requested.care requested.options.shared s d s_allowed d_allowed fits).0 in
+    let agree = filled_agrees laws.outputs laws.worlds laws.as_contents laws.contents requested.care requested.options.shared s i p s_allowed i_allowed pair (fit Box) all ready.fit completion.agree d
     (laws.bits f all ready kept.clocks t.1) in (
       record {
         d = d;
@@ -98,10 +98,10 @@ filled_texts_finish laws asked spec imp s i are p pair tables completion text ma
         comparable = comparable;
         agree = agree;
         same = λ contents fills.
-            filled_same laws.outputs laws.worlds laws.as_contents laws.contents asked.care asked.options.shared s i p s_allowed i_allowed pair (fit Box) all ready.fit completion.agree d
+            filled_same laws.outputs laws.worlds laws.as_contents laws.contents requested.care requested.options.shared s i p s_allowed i_allowed pair (fit Box) all ready.fit completion.agree d
             (laws.bits f all ready kept.clocks t.1) contents fills.0
-            (laws.spelled asked.care asked.options.shared s i p s_allowed i_allowed pair tables completion.fit contents fills.1);
+            (laws.spelled requested.care requested.options.shared s i p s_allowed i_allowed pair tables completion.fit contents fills.1);
       },
       ((s, d, record { spec_design = are.spec_design; imp_design = unnamed }, fits), (s, d, record { spec_design = are.spec_design; imp_design = named }, fits)),
-      (d, reads_as unnamed, own_texts d unnamed.sound, λ contents. laws.run asked.care s d contents s_allowed d_allowed comparable (fits_none d sound.complete contents) (agree contents)),
+      (d, reads_as unnamed, own_texts d unnamed.sound, λ contents. laws.run requested.care s d contents s_allowed d_allowed comparable (fits_none d sound.complete contents) (agree contents)),
     )

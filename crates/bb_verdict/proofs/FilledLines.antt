@@ -11,7 +11,7 @@ use Rattle.std.proofs.lemmas.List.Elements.{Contains-append_right, All-append, A
 use Rattle.bb_bits.specs.Earlier.{has_name}
 use Rattle.bb_bits.specs.Names.{IsPrintable}
 use Rattle.bb_bits.specs.Tables.{TableBits}
-use Rattle.bb_lists.proofs.Members.{all_from, contains_here}
+use Rattle.bb_lemmas.proofs.Members.{all_from, contains_here}
 use Rattle.bb_net.specs.CutPoints.{clock_text, register_texts}
 use Rattle.bb_net.specs.Flats.{FlatNet, IsFlat}
 use Rattle.bb_net.specs.Netlists.{box_at, cell_at}
@@ -19,20 +19,20 @@ use Rattle.bb_net.specs.declared.cell.Cell.{Cell}
 use Rattle.bb_net.specs.declared.cell.Cell.TheVariants as cells
 use Rattle.bb_net.specs.declared.flat.Reg.{Reg as Register}
 use Rattle.bb_fill.specs.Clashes.{IsClash, InputClashes, OutputClashes}
-use Rattle.bb_fill.specs.Filled.{cell_lines, filled_lines, filled_text, first_choice, lines_of_cells, next_word, output_lines, output_text, pin_bits, pin_words, register_line, register_lines}
-use Rattle.bb_fill.specs.Lines.{Line, Primitive, Not, And, Or, Xor, Buf, Module, Input, Output, Reg, Gate, Assign, Always, End, joined, line_text, primitive_text}
+use Rattle.bb_fill.specs.Filled.{cell_lines, filled_lines, filled_text, first_choice, lines_of_cells, next_word, output_lines, output_text, output_pin_words, pin_words, register_line, register_lines}
+use Rattle.bb_fill.specs.Lines.{Line, Primitive, Not, And, Or, Xor, Buf, Module, Input, Output, Reg, Gate, Assign, Always, End, with_commas, line_text, primitive_text}
 use Rattle.bb_fill.specs.Trees.{choice_nets, halved, tree_lines, tree_values}
-use Rattle.bb_fill.specs.Words.{Word, Bit, Named, CellNet, ChoiceNet, cell_word, greatest, leading, printed, stem_of, texts_of, word_at, word_text}
+use Rattle.bb_fill.specs.Words.{NetWord, Bit, Named, CellNet, ChoiceNet, cell_word, maximum, leading, printed, stem_of, texts_of, word_at, word_text}
 use Rattle.bb_verdict.proofs.LineBytes.{Goes, Quiet, chain, closes, decimal_quiet, nothing_quiet, quiet_printable, run_quiet, starts, within}
 
--- texts that are printed behind one another
+-- texts that are printed one after another
 
 commas_quiet : (texts : List (List ℕ)) → All Quiet texts → Quiet (flat_map (λ other. codes "," ++ other) texts)
 commas_quiet [] all = nothing_quiet
 commas_quiet (text ∷ texts) all =
     chain (chain (within (codes ",") (λ rest is. is)) (All-contains Quiet (text ∷ texts) text all (contains_here text texts))) (commas_quiet texts (λ k d lt. all (suc k) d (omega (arith, lt))))
 
-joined_quiet : (texts : List (List ℕ)) → All Quiet texts → Quiet (joined texts)
+joined_quiet : (texts : List (List ℕ)) → All Quiet texts → Quiet (with_commas texts)
 joined_quiet [] all = nothing_quiet
 joined_quiet (text ∷ texts) all = chain (All-contains Quiet (text ∷ texts) text all (contains_here text texts)) (commas_quiet texts (λ k d lt. all (suc k) d (omega (arith, lt))))
 
@@ -86,7 +86,7 @@ module _ (f : FlatNet) (flat : IsFlat f) where
 
   -- words
 
-  abbrev IsQuietWord : Word → Type 0
+  abbrev IsQuietWord : NetWord → Type 0
   IsQuietWord word = Quiet (word_text (stem_of f) word)
 
   bit_quiet : (b : Bool) → IsQuietWord (Bit b)
@@ -94,7 +94,7 @@ module _ (f : FlatNet) (flat : IsFlat f) where
   bit_quiet false = within (codes "1'b0") (λ rest is. is)
 
   stem_quiet : Quiet (stem_of f)
-  stem_quiet = run_quiet (greatest (map leading (texts_of f)) + 1)
+  stem_quiet = run_quiet (maximum (map leading (texts_of f)) + 1)
 
   cell_quiet : (number : ℕ) → IsQuietWord (CellNet number)
   cell_quiet number = chain stem_quiet (decimal_quiet number)
@@ -120,12 +120,12 @@ module _ (f : FlatNet) (flat : IsFlat f) where
   abbrev IsWhole : Line → Type 0
   IsWhole line = Goes true (line_text (stem_of f) line) true
 
-  gate_whole : (gate : Primitive) (out : Word) (ins : List Word) → IsQuietWord out → All IsQuietWord ins → IsWhole (Gate gate out ins)
+  gate_whole : (gate : Primitive) (out : NetWord) (ins : List NetWord) → IsQuietWord out → All IsQuietWord ins → IsWhole (Gate gate out ins)
   gate_whole gate out ins quiet all =
       let words = joined_quiet (map (word_text (stem_of f)) (out ∷ ins)) (All-map Quiet (word_text (stem_of f)) (out ∷ ins) (All-cons IsQuietWord out ins quiet all)) in
       chain (chain (chain (begins_apart gate) (within (codes "(") (λ rest is. is))) words) (closes (codes ");\n") (λ rest is. is))
 
-  assign_whole : (left condition high low : Word) → IsQuietWord left → IsQuietWord condition → IsQuietWord high → IsQuietWord low → IsWhole (Assign left condition high low)
+  assign_whole : (left condition high low : NetWord) → IsQuietWord left → IsQuietWord condition → IsQuietWord high → IsQuietWord low → IsWhole (Assign left condition high low)
   assign_whole left condition high low l c h o =
       let begin = chain (chain (starts (codes "assign ") (λ rest is. is)) l) (within (codes " = ") (λ rest is. is)) in
       let chosen = chain (chain (chain (chain begin c) (within (codes " ? ") (λ rest is. is))) h) (within (codes " : ") (λ rest is. is)) in
@@ -135,7 +135,7 @@ module _ (f : FlatNet) (flat : IsFlat f) where
   edge_quiet true = within (codes "negedge ") (λ rest is. is)
   edge_quiet false = within (codes "posedge ") (λ rest is. is)
 
-  always_whole : (falling : Bool) (clock name : List ℕ) (data_word : Word) → Quiet clock → Quiet name → IsQuietWord data_word → IsWhole (Always falling clock name data_word)
+  always_whole : (falling : Bool) (clock name : List ℕ) (data_word : NetWord) → Quiet clock → Quiet name → IsQuietWord data_word → IsWhole (Always falling clock name data_word)
   always_whole falling clock name data_word c n d =
       let begin = chain (chain (chain (starts (codes "always @(") (λ rest is. is)) (edge_quiet falling)) (printed_quiet clock c)) (within (codes ") ") (λ rest is. is)) in
       chain (chain (chain (chain begin (printed_quiet name n)) (within (codes " <= ") (λ rest is. is))) d) (closes (codes ";\n") (λ rest is. is))
@@ -154,7 +154,7 @@ module _ (f : FlatNet) (flat : IsFlat f) where
   choices_quiet : (number count : ℕ) → All IsQuietWord (choice_nets number count)
   choices_quiet number count = All-map IsQuietWord (λ i. ChoiceNet (number + i)) (range_with_len 0 count) (all_from _ (range_with_len 0 count) (λ i has. choice_quiet (number + i)))
 
-  halved_whole : (pin : Word) (number : ℕ) (values : List Word) → IsQuietWord pin → All IsQuietWord values → All IsWhole (halved pin number values)
+  halved_whole : (pin : NetWord) (number : ℕ) (values : List NetWord) → IsQuietWord pin → All IsQuietWord values → All IsWhole (halved pin number values)
   halved_whole pin number [] quiet all = All-nil IsWhole
   halved_whole pin number (value ∷ []) quiet all = All-nil IsWhole
   halved_whole pin number (low ∷ high ∷ values) quiet all =
@@ -162,14 +162,14 @@ module _ (f : FlatNet) (flat : IsFlat f) where
       (assign_whole (ChoiceNet number) pin high low (choice_quiet number) quiet (all 1 low (omega arith)) (all 0 low (omega arith)))
       (halved_whole pin (number + 1) values quiet (λ k d lt. all (suc (suc k)) d (omega (arith, lt))))
 
-  tree_whole : (pins : List Word) (number : ℕ) (values : List Word) → All IsQuietWord pins → All IsQuietWord values → All IsWhole (tree_lines pins number values)
+  tree_whole : (pins : List NetWord) (number : ℕ) (values : List NetWord) → All IsQuietWord pins → All IsQuietWord values → All IsWhole (tree_lines pins number values)
   tree_whole [] number values quiet all = All-nil IsWhole
   tree_whole (pin ∷ pins) number values quiet all =
       All-append IsWhole (halved pin number values) (tree_lines pins (number + length values / 2) (choice_nets number (length values / 2)))
       (halved_whole pin number values (quiet 0 pin (omega arith)) all)
       (tree_whole pins (number + length values / 2) (choice_nets number (length values / 2)) (λ k d lt. quiet (suc k) d (omega (arith, lt))) (choices_quiet number (length values / 2)))
 
-  tree_quiet : (pins : List Word) (number : ℕ) (values : List Word) → All IsQuietWord values → All IsQuietWord (tree_values pins number values)
+  tree_quiet : (pins : List NetWord) (number : ℕ) (values : List NetWord) → All IsQuietWord values → All IsQuietWord (tree_values pins number values)
   tree_quiet [] number values all = all
   tree_quiet (pin ∷ pins) number values all = tree_quiet pins (number + length values / 2) (choice_nets number (length values / 2)) (choices_quiet number (length values / 2))
 
@@ -184,7 +184,7 @@ module _ (f : FlatNet) (flat : IsFlat f) where
   pins_quiet : (b : ℕ) → All IsQuietWord (pin_words f b)
   pins_quiet b = all_reversed IsQuietWord (map (word_at f) (box_at f.net.boxes b).ins) (words_quiet (box_at f.net.boxes b).ins)
 
-  bits_quiet : (tables : List TableBits) (b p : ℕ) → All IsQuietWord (pin_bits tables b p)
+  bits_quiet : (tables : List TableBits) (b p : ℕ) → All IsQuietWord (output_pin_words tables b p)
   bits_quiet tables b p = All-map IsQuietWord Bit _ (all_from _ _ (λ bit has. bit_quiet bit))
 
   gate_one : (gate : Primitive) (number : ℕ) (ins : List ℕ) → All IsWhole (Gate gate (CellNet number) (map (word_at f) ins) ∷ [])
@@ -199,9 +199,9 @@ module _ (f : FlatNet) (flat : IsFlat f) where
   cell_whole tables k (cells.Xor a b) = gate_one Xor k (a ∷ b ∷ [])
   cell_whole tables k (cells.Mux c t e) = one _ (assign_whole (CellNet k) (word_at f c) (word_at f t) (word_at f e) (cell_quiet k) (at_quiet c) (at_quiet t) (at_quiet e))
   cell_whole tables k (cells.BoxOut b p) =
-      All-append IsWhole (tree_lines (pin_words f b) (first_choice f k) (pin_bits tables b p)) _
-      (tree_whole (pin_words f b) (first_choice f k) (pin_bits tables b p) (pins_quiet b) (bits_quiet tables b p))
-      (one _ (gate_whole Buf (CellNet k) (tree_values (pin_words f b) (first_choice f k) (pin_bits tables b p)) (cell_quiet k) (tree_quiet (pin_words f b) (first_choice f k) (pin_bits tables b p) (bits_quiet tables b p))))
+      All-append IsWhole (tree_lines (pin_words f b) (first_choice f k) (output_pin_words tables b p)) _
+      (tree_whole (pin_words f b) (first_choice f k) (output_pin_words tables b p) (pins_quiet b) (bits_quiet tables b p))
+      (one _ (gate_whole Buf (CellNet k) (tree_values (pin_words f b) (first_choice f k) (output_pin_words tables b p)) (cell_quiet k) (tree_quiet (pin_words f b) (first_choice f k) (output_pin_words tables b p) (bits_quiet tables b p))))
 
   registers_whole : (r : ℕ) (registers : List Register) → All (λ (q : Register). Quiet q.text) registers → All IsWhole (register_lines f r registers)
   registers_whole r [] all = All-nil IsWhole
@@ -244,5 +244,5 @@ module _ (f : FlatNet) (flat : IsFlat f) where
   -- a name that clashes
   pub clash_quiet : (name : List ℕ) → IsClash f name → Quiet name
   clash_quiet name (InputClashes first) =
-      All-contains Quiet f.ins name inputs_quiet (subst (λ all. Contains all name) (sym first.stands) (Contains-append_right first.before (name ∷ first.after) name (0, omega arith, refl)))
+      All-contains Quiet f.ins name inputs_quiet (subst (λ all. Contains all name) (sym first.occurs) (Contains-append_right first.before (name ∷ first.after) name (0, omega arith, refl)))
   clash_quiet name (OutputClashes o apart first same) = subst Quiet (sym same) (text_quiet f.outs outputs_quiet o)

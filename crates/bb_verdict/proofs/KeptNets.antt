@@ -4,7 +4,7 @@
 use Rattle.std.proofs.Common.{◌≡◌, ◌⊎◌, ◌<◌, ◌≤◌, ◌∙◌, ℕ, Bool, List, [], map, length, None, Option, Some, sym, ap, subst, inl, inr, arith}
 use Rattle.std.proofs.lemmas.Bool.{cases_lt}
 use Rattle.std.proofs.lemmas.List.{get_or-map, get_or_past, length-map}
-use Rattle.bb_agree.specs.DesignAgreement.{IsPairFor}
+use Rattle.bb_equiv.specs.DesignEquivalence.{IsPairFor}
 use Rattle.bb_bits.specs.Tables.{TableBits}
 use Rattle.bb_design.specs.Hierarchy.{Design}
 use Rattle.bb_match.specs.Pairing.{IsPairOf}

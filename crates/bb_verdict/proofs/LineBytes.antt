@@ -1,10 +1,10 @@
--- The lines of a text by their bytes: whether one begins with `t`, and bytes behind which a text goes on.
+-- The lines of a text by their bytes: whether one begins with `t`, and bytes after which a text goes on.
 use Rattle.std.proofs.Common.{◌≡◌, ◌≤◌, ◌∙◌, ℕ, zero, suc, ◌+◌, ◌/◌, ◌%◌, Bool, true, false, not, ◌&&◌, if◌then◌else◌, List, [], ◌∷◌, ◌++◌, replicate, append_assoc, refl, sym, ap, subst, inl, inr, arith, true≢false}
 use Rattle.std.specs.Prelude.{◌==◌, codes, decimal, nat_lt}
 use Rattle.std.specs.Fmt.{digits, digits_onto, digit_glyph}
 use Rattle.std.specs.List.{AllByRecursion}
 use Rattle.std.proofs.lemmas.List.{append-nil}
-use Rattle.bb_lists.proofs.Bits.{and_right}
+use Rattle.bb_lemmas.proofs.Bits.{and_right}
 use Rattle.bb_bits.specs.Names.{IsPrintable}
 use Rattle.bb_verdict.specs.FilledTexts.{HasNoLine}
 
@@ -13,12 +13,12 @@ abbrev pub begin_apart : Bool → List ℕ → Bool
 begin_apart begins [] = true
 begin_apart begins (byte ∷ bytes) = not (begins && (byte == 116)) && begin_apart (byte == 10) bytes
 
--- whether a line begins behind the bytes
-abbrev pub begins_behind : Bool → List ℕ → Bool
-begins_behind begins [] = begins
-begins_behind begins (byte ∷ bytes) = begins_behind (byte == 10) bytes
+-- whether a line begins after the bytes
+abbrev pub begins_after : Bool → List ℕ → Bool
+begins_after begins [] = begins
+begins_after begins (byte ∷ bytes) = begins_after (byte == 10) bytes
 
--- behind the bytes a text goes on, at the beginning of a line or not
+-- after the bytes a text goes on, at the beginning of a line or not
 pub record Goes (from : Bool) (text : List ℕ) (to : Bool) : Type 0 where
   pub on : (rest : List ℕ) → begin_apart to rest ≡ true → begin_apart from (text ++ rest) ≡ true
 
@@ -80,14 +80,14 @@ high_digit d = by (nat_lt d 10)
     by true = omega arith
     by false = omega arith
 
-digits_quiet : (k n : ℕ) (behind : List ℕ) → Quiet behind → Quiet (digits_onto k 10 false n behind)
-digits_quiet zero n behind quiet = quiet
-digits_quiet (suc k) n behind quiet =
-    let more = quiet_byte (digit_glyph false (n % 10)) behind (high_digit (n % 10)) quiet in
-    by (n / 10 == 0) more (digits_quiet k (n / 10) (digit_glyph false (n % 10) ∷ behind) more)
+digits_quiet : (k n : ℕ) (after : List ℕ) → Quiet after → Quiet (digits_onto k 10 false n after)
+digits_quiet zero n after quiet = quiet
+digits_quiet (suc k) n after quiet =
+    let more = quiet_byte (digit_glyph false (n % 10)) after (high_digit (n % 10)) quiet in
+    by (n / 10 == 0) more (digits_quiet k (n / 10) (digit_glyph false (n % 10) ∷ after) more)
   where
-    by : (b : Bool) → Quiet (digit_glyph false (n % 10) ∷ behind) → Quiet (digits_onto k 10 false (n / 10) (digit_glyph false (n % 10) ∷ behind))
-        → Quiet (if b then digit_glyph false (n % 10) ∷ behind else digits_onto k 10 false (n / 10) (digit_glyph false (n % 10) ∷ behind))
+    by : (b : Bool) → Quiet (digit_glyph false (n % 10) ∷ after) → Quiet (digits_onto k 10 false (n / 10) (digit_glyph false (n % 10) ∷ after))
+        → Quiet (if b then digit_glyph false (n % 10) ∷ after else digits_onto k 10 false (n / 10) (digit_glyph false (n % 10) ∷ after))
     by true more rest = more
     by false more rest = rest
 
@@ -97,15 +97,15 @@ decimal_quiet n = digits_quiet 64 n [] nothing_quiet
 
 -- a text in which no line begins so has none that begins as that of a table
 
-found : (begins : Bool) (before behind : List ℕ) → begins_behind begins before ≡ true → begin_apart begins (before ++ codes "table" ++ behind) ≡ true → ⊥
-found true [] behind at is = true≢false (sym is)
-found false [] behind at is = true≢false (sym at)
-found begins (byte ∷ before) behind at is = found (byte == 10) before behind at (and_right (not (begins && (byte == 116))) _ is)
+found : (begins : Bool) (before after : List ℕ) → begins_after begins before ≡ true → begin_apart begins (before ++ codes "table" ++ after) ≡ true → ⊥
+found true [] after at is = true≢false (sym is)
+found false [] after at is = true≢false (sym at)
+found begins (byte ∷ before) after at is = found (byte == 10) before after at (and_right (not (begins && (byte == 116))) _ is)
 
-behind_feed : (begins : Bool) (front : List ℕ) → begins_behind begins (front ++ codes "\n") ≡ true
-behind_feed begins [] = refl
-behind_feed begins (byte ∷ front) = behind_feed (byte == 10) front
+after_feed : (begins : Bool) (prefix : List ℕ) → begins_after begins (prefix ++ codes "\n") ≡ true
+after_feed begins [] = refl
+after_feed begins (byte ∷ prefix) = after_feed (byte == 10) prefix
 
 pub no_table_line : (text : List ℕ) → begin_apart true text ≡ true → HasNoLine (codes "table") text
-no_table_line text is before behind e (inl none) = found true before behind (ap (begins_behind true) none) (subst (λ z. begin_apart true z ≡ true) e is)
-no_table_line text is before behind e (inr (front, same)) = found true before behind (ap (begins_behind true) same ∙ behind_feed true front) (subst (λ z. begin_apart true z ≡ true) e is)
+no_table_line text is before after e (inl none) = found true before after (ap (begins_after true) none) (subst (λ z. begin_apart true z ≡ true) e is)
+no_table_line text is before after e (inr (prefix, same)) = found true before after (ap (begins_after true) same ∙ after_feed true prefix) (subst (λ z. begin_apart true z ≡ true) e is)

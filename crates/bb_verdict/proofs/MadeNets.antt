@@ -10,4 +10,4 @@ kept_or_not p true imp f same can = subst (λ z. IfSome z (CanBeFilled p)) (sym 
 kept_or_not p false imp f same can = subst (λ z. IfSome z (CanBeFilled p)) (sym same) tt
 
 pub made_can_be_filled : TablesAreSpread → MadeCanBeFilled
-made_can_be_filled spread asked spec imp made is = kept_or_not made.pair asked.fill made.imp is.pair.imp_net is.kept (kept_nets spread is.s is.i made.pair is.pair)
+made_can_be_filled spread requested spec imp made is = kept_or_not made.pair requested.fill made.imp is.pair.imp_net is.kept (kept_nets spread is.s is.i made.pair is.pair)

@@ -7,13 +7,13 @@ use Rattle.std.proofs.lemmas.List.Elements.{Contains-get_or}
 use Rattle.bb_net.specs.Pairs.{NetPair}
 use Rattle.bb_options.specs.declared.options.Options.{Options}
 use Rattle.bb_options.specs.declared.rung.Rung.{Rung}
-use Rattle.bb_options.specs.Rungs.{asked_rungs}
-use Rattle.bb_rungs.specs.declared.line.Line.{Line}
-use Rattle.bb_rungs.specs.declared.line.Said.{Said}
-use Rattle.bb_rungs.specs.declared.line.Said.TheVariants.{Error, Nothing, Repair, Nodes, Clauses, Wide}
-use Rattle.bb_rungs.specs.declared.verdict.Verdict.TheVariants as verdicts
-use Rattle.bb_rungs.specs.Reports.{line_text, report_text, status_of, verdict_line, verdict_of}
-use Rattle.bb_rungs.specs.Rungs.{Climbs, End, Step, Top, is_error, is_repair}
+use Rattle.bb_options.specs.Rungs.{requested_rungs}
+use Rattle.bb_checks.specs.declared.line.Line.{Line}
+use Rattle.bb_checks.specs.declared.line.CheckResult.{CheckResult}
+use Rattle.bb_checks.specs.declared.line.CheckResult.TheVariants.{Error, Nothing, Repair, Nodes, Clauses, Wide}
+use Rattle.bb_checks.specs.declared.verdict.Verdict.TheVariants as verdicts
+use Rattle.bb_checks.specs.Reports.{check_line_text, report_text, status_of, verdict_line, verdict_of}
+use Rattle.bb_checks.specs.Rungs.{Climbs, End, Step, Top, is_error, is_repair}
 use Rattle.bb_verdict.specs.OpenReports.{IsOpenLine, OpenAnswersAreReports}
 use Rattle.bb_verdict.specs.ShownMistakes.{check_line, no_verdict}
 use Rattle.bb_verdict.specs.TextAnswers.{Refused, Judged}
@@ -44,8 +44,8 @@ never_ends false true all bare clean e = true≢false clean
 never_ends false false all bare clean e = true≢false (sym e)
 
 module _ (p : NetPair) (o : Options) where
-  open_line : (r : Rung) (said : Said) → is_error (record { rung = r; said = said }) ≡ false → is_repair (record { rung = r; said = said }) ≡ false
-      → IsOpenLine r (line_text p o (record { rung = r; said = said }))
+  open_line : (r : Rung) (check_result : CheckResult) → is_error (record { rung = r; check_result = check_result }) ≡ false → is_repair (record { rung = r; check_result = check_result }) ≡ false
+      → IsOpenLine r (check_line_text p o (record { rung = r; check_result = check_result }))
   open_line r (Error evidence) error repair = absurd (true≢false error)
   open_line r Nothing error repair = (codes "none", Contains-get_or no_verdict 0 [] (omega arith), append-nil (check_line r (codes "none")))
   open_line r (Repair tables) error repair = absurd (true≢false repair)
@@ -53,7 +53,7 @@ module _ (p : NetPair) (o : Options) where
   open_line r Clauses error repair = (codes "clauses", Contains-get_or no_verdict 2 [] (omega arith), append-nil (check_line r (codes "clauses")))
   open_line r Wide error repair = (codes "wide", Contains-get_or no_verdict 3 [] (omega arith), append-nil (check_line r (codes "wide")))
 
-  open_lines : (rungs : List Rung) (lines : List Line) → Climbs p o rungs lines → None lines → AllZip IsOpenLine rungs (map (line_text p o) lines)
+  open_lines : (rungs : List Rung) (lines : List Line) → Climbs p o rungs lines → None lines → AllZip IsOpenLine rungs (map (check_line_text p o) lines)
   open_lines [] [] Top none = record {}
   open_lines [] (line ∷ more) climb none = elim climb [ ]
   open_lines (r ∷ rungs) [] climb none = elim climb [ ]
@@ -62,7 +62,7 @@ module _ (p : NetPair) (o : Options) where
   open_lines (r ∷ rungs) (line ∷ more) (Step at may ends rest) (errors, repairs) =
       let (error, no_errors) = neither (is_error line) (list_any is_error more) errors in
       let (repair, no_repairs) = neither (is_repair line) (list_any is_repair more) repairs in (
-        subst (λ z. IsOpenLine z (line_text p o line)) at (open_line line.rung line.said error repair),
+        subst (λ z. IsOpenLine z (check_line_text p o line)) at (open_line line.rung line.check_result error repair),
         open_lines rungs more rest (no_errors, no_repairs),
       )
 
@@ -70,13 +70,13 @@ never_both : (n : ℕ) → n ≡ 3 → n ≡ 0 → ⊥
 never_both n three zero = omega (arith, three, zero)
 
 pub open_answers_are_reports : OpenAnswersAreReports
-open_answers_are_reports asked spec imp status text (Refused r is two t) three = absurd (omega (arith, two, three))
-open_answers_are_reports asked spec imp status text (Judged p lines s i are for climb same rest follows t) three =
+open_answers_are_reports requested spec imp status text (Refused r is two t) three = absurd (omega (arith, two, three))
+open_answers_are_reports requested spec imp status text (Judged p lines s i are for climb same rest follows t) three =
     let is = sym same ∙ three in
     let bare = nothing_follows follows (λ repairable. never_both (status_of (verdict_of lines)) is (ap status_of repairable)) in
     record {
-      lines = map (line_text p asked.options) lines;
-      each = open_lines p asked.options (asked_rungs asked.options) lines climb (status_open lines is);
-      whole = t ∙ ap (λ z. report_text p asked.options lines ++ z) bare ∙ append-nil (report_text p asked.options lines)
-          ∙ ap₂ (λ texts verdict. texts ++ verdict_line verdict) (sym (joined (line_text p asked.options) lines)) (is_open (verdict_of lines) is);
+      lines = map (check_line_text p requested.options) lines;
+      each = open_lines p requested.options (requested_rungs requested.options) lines climb (status_open lines is);
+      whole = t ∙ ap (λ z. report_text p requested.options lines ++ z) bare ∙ append-nil (report_text p requested.options lines)
+          ∙ ap₂ (λ texts verdict. texts ++ verdict_line verdict) (sym (joined (check_line_text p requested.options) lines)) (is_open (verdict_of lines) is);
     }

@@ -1,3 +1,3 @@
--- Laws, and the words that laws alone need.
+-- Laws, and the definitions that laws alone need.
 pub mod SomeAnswers
 pub mod FilledNets

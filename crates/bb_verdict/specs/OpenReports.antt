@@ -1,10 +1,10 @@
--- A report that leaves the question open: for each check that is asked for, in their order, a line that says that it
--- found neither a mistake nor tables, and the line of the verdict.
+-- A report that leaves the question open: for each requested check, in their order, a line that says that it found
+-- neither an error nor tables, and the line of the verdict.
 use Rattle.std.specs.Prelude.{◌≡◌, ℕ, List, ◌++◌, Contains, codes}
 use Rattle.std.specs.List.{AllZip, flat_map}
 use Rattle.bb_options.specs.declared.rung.Rung.{Rung}
-use Rattle.bb_options.specs.Rungs.{asked_rungs}
-use Rattle.bb_verdict.specs.declared.asked.Asked.{Asked}
+use Rattle.bb_options.specs.Rungs.{requested_rungs}
+use Rattle.bb_verdict.specs.declared.requested.TextComparison.{TextComparison}
 use Rattle.bb_verdict.specs.ShownMistakes.{check_line, no_verdict}
 use Rattle.bb_verdict.specs.TextAnswers.{OfAnswers}
 
@@ -12,11 +12,11 @@ use Rattle.bb_verdict.specs.TextAnswers.{OfAnswers}
 abbrev pub IsOpenLine : Rung → List ℕ → Type 0
 IsOpenLine rung line = (result : List ℕ) × Contains no_verdict result × (line ≡ check_line rung result)
 
-pub record IsOpenReport (asked : Asked) (spec imp text : List ℕ) : Type 0 where
+pub record IsOpenReport (requested : TextComparison) (spec imp text : List ℕ) : Type 0 where
   pub lines : List (List ℕ)
-  pub each : AllZip IsOpenLine (asked_rungs asked.options) lines
+  pub each : AllZip IsOpenLine (requested_rungs requested.options) lines
   pub whole : text ≡ flat_map (λ line. line) lines ++ codes "verdict open\n"
 
 -- The law of it: status 3 comes with such a report.
 abbrev pub OpenAnswersAreReports : Type 0
-OpenAnswersAreReports = OfAnswers (λ asked spec imp status text. status ≡ 3 → IsOpenReport asked spec imp text)
+OpenAnswersAreReports = OfAnswers (λ requested spec imp status text. status ≡ 3 → IsOpenReport requested spec imp text)

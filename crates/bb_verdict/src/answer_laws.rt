@@ -1,14 +1,17 @@
-//! That two texts have an answer. The function has a law as its contract and does nothing.
+//! Any two texts have an answer, under one premise: the clauses over any distinguishing vectors of the pair, if they
+//! are within the budget and have no model, have a refutation of fewer than 2^63 steps. An answer holds its steps in a
+//! list in memory, which has no more entries, and a budget of clauses allows so many variables that no refutation is
+//! known to be that short. The premise is a definition of its own; that some refutation exists is a law without it.
 
 ghost use Rattle.bb_verdict.specs.Laws.SomeAnswers.{TextsAreJudged};
 
 use crate::text_laws::designs_are_allowed;
-use bb_agree::laws::{fit_or_refused, fitting_designs_have_pairs};
+use bb_checks::climbs_exist;
+use bb_equiv::laws::{fit_or_refused, fitting_designs_have_pairs};
 use bb_fill::answers_exist;
-use bb_rungs::climbs_exist;
-use bb_texts::texts_have_designs;
+use bb_frontend::texts_have_designs;
 
-/// Any two texts have a first refusal, or a pair that stands for them and lines of the checks that are asked for.
+/// Either a first refusal, or a pair of the two texts with results of all requested checks.
 pub fn texts_are_judged()
     ensures { TextsAreJudged }
 {

@@ -1,21 +1,24 @@
-//! The filled implementation, which follows the verdict that the design can be finished.
+//! The filled implementation after the verdict `repairable`. It comes last and on the same stream, since the program
+//! writes no file: everything up to the verdict is the same with and without `--fill`, and no line after it looks like
+//! that of a table, so a script that reads reports by their lines needs no change. Where no text can be printed, a line
+//! says why, and the status stays 0: the tables are in the report and make the designs equivalent, and only this form
+//! of them is missing.
 
 ghost use Rattle.std.specs.Prelude.{◌≡◌, ◌++◌, ℕ, true, List, OnOk};
 ghost use Rattle.bb_bits.specs.Tables.{TableBits};
-ghost use Rattle.bb_fill.specs.Answers.{Answer, MayFill};
+ghost use Rattle.bb_fill.specs.Answers.{Answer, IsFillAnswer};
 ghost use Rattle.bb_net.specs.Flats.{HaveClocks};
 ghost use Rattle.bb_net.specs.Kinds.{spread};
 ghost use Rattle.bb_net.specs.Values.{FitBoxes};
-ghost use Rattle.bb_rungs.specs.Reports.{GivesTables};
-ghost use Rattle.bb_verdict.specs.FilledTexts.{MayFollow, answer_text};
+ghost use Rattle.bb_checks.specs.Reports.{GivesTables};
+ghost use Rattle.bb_verdict.specs.FilledTexts.{MayFollowVerdict, answer_text};
 
 use bb_bits::{NoMemory, Table};
+use bb_checks::{Line, Verdict, given_tables, verdict_of};
 use bb_fill::{FillFault, fill};
 use bb_net::Flat;
-use bb_rungs::{Line, Verdict, given_tables, verdict_of};
 use std::alloc::Global;
 
-// Puts the filled netlist behind a text, or why there is none.
 fn put_filled(
     alloc: Global,
     text: &mut Vec<u8>,
@@ -25,7 +28,7 @@ fn put_filled(
 ) -> Result<(), NoMemory>
     requires clocks { HaveClocks imp.now }
     requires tables { FitBoxes (spread kinds.now tables.now) imp.now.net.boxes }
-    ensures put { OnOk result ((answer : Answer) × MayFill imp.now (spread kinds.now tables.now) answer
+    ensures put { OnOk result ((answer : Answer) × IsFillAnswer imp.now (spread kinds.now tables.now) answer
         × (text.new.items ≡ text.old.items ++ answer_text answer)) }
 {
     match fill(alloc, imp, tables, kinds) {
@@ -44,8 +47,7 @@ fn put_filled(
     Ok(())
 }
 
-/// Puts what follows the verdict of these checks behind a report: the filled implementation, or why there is none,
-/// where the design can be finished.
+/// Appends nothing unless the verdict is `repairable`.
 pub(crate) fn put_rest(
     alloc: Global,
     text: &mut Vec<u8>,
@@ -56,7 +58,7 @@ pub(crate) fn put_rest(
     requires clocks { HaveClocks imp.now }
     requires tables { (tables : List TableBits) → GivesTables lines.now tables
         → FitBoxes (spread kinds.now tables) imp.now.net.boxes }
-    ensures put { OnOk result ((rest : List ℕ) × MayFollow true imp.now kinds.now lines.now rest
+    ensures put { OnOk result ((rest : List ℕ) × MayFollowVerdict true imp.now kinds.now lines.now rest
         × (text.new.items ≡ text.old.items ++ rest)) }
 {
     match given_tables(lines) {

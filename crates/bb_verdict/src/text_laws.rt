@@ -1,9 +1,10 @@
-//! Laws of two texts: refusals are one, a refusal and a pair exclude each other, and what an answer says of the texts.
-//! Each function has a law as its contract and does nothing.
+//! Laws of two texts: at most one refusal, never a refusal and a pair, and the meaning of each answer. They are the
+//! bridge from netlists to texts: each lemma below speaks of designs or of netlists, and only here they are put
+//! together, so the top call cites these alone. Each function has a law as its contract and does nothing.
 
 ghost use Rattle.bb_verdict.specs.FilledTexts.{NoTablesFollow};
 ghost use Rattle.bb_verdict.specs.Inside.Made.{MadeCanBeFilled};
-ghost use Rattle.bb_verdict.specs.Laws.FilledNets.{FilledNetsStand};
+ghost use Rattle.bb_verdict.specs.Laws.FilledNets.{FilledNetsImplement};
 ghost use Rattle.bb_verdict.specs.OpenReports.{OpenAnswersAreReports};
 ghost use Rattle.bb_verdict.specs.ShownMistakes.{ErrorsAreShown};
 ghost use Rattle.bb_verdict.specs.TextAnswers.{AnsweredFit, ErrorsRefute, FillingOnlyAdds, RepairsFinish};
@@ -11,37 +12,37 @@ ghost use Rattle.bb_verdict.specs.TextAnswers.{OpenAnswersLeaveOpen, DecidedAreA
 ghost use Rattle.bb_verdict.specs.TextAnswers.{JudgedRefusalsAreFirst, RefusedAreAnsweredOnce, ReportsAreOne};
 ghost use Rattle.bb_verdict.specs.TextAnswers.{ReportsBeginAsOne, StatusesAreOne, StatusesNeverClash};
 ghost use Rattle.bb_verdict.specs.TextPairs.{DesignsAreAllowed, FilledTextsFinish, NotPairAndRefusal, RefusalsAreOne};
-ghost use Rattle.bb_verdict.specs.TextPairs.{TextPairsAreAlike};
+ghost use Rattle.bb_verdict.specs.TextPairs.{TextPairsAreIsomorphic};
 
-use bb_agree::laws::{
-    agreeing_designs_run_alike, design_refusals_are_one, failing_vectors_are_mistakes,
-    fitting_designs_are_comparable, fitting_tables_are_of_boxes, no_tables_no_contents,
-    not_fit_and_refused, pairs_are_named, pairs_for_designs_are_alike, pairs_have_box_orders,
-    pairs_stand_exactly_for_fitting, spelled_contents_agree, spelled_contents_have_tables,
-    tables_agree_as_contents, tables_spell_contents, wrong_outputs_are_mistakes,
-    wrong_vectors_are_mistakes,
+use bb_checks::{
+    climbs_leave_open, deciders_decide, errors_exclude_tables, found_vectors_are_mistakes,
+    given_tables_make_equivalent, isomorphic_pairs_are_decided, isomorphic_pairs_are_left_open,
+    isomorphic_pairs_have_one_report, left_open_stays_open, repairs_make_equivalent,
+    staying_open_is_reported, tables_are_given_once,
 };
-use bb_cells::list_laws::standing_nets_give_outputs;
-use bb_cells::naming_laws::followed_inputs_are_one;
-use bb_cells::table_laws::{tables_give_outputs, tables_have_contents};
 use bb_design::laws::sound_texts_are_allowed;
+use bb_equiv::laws::{
+    design_refusals_are_one, equivalent_designs_run_the_same, failing_vectors_are_mistakes,
+    fitting_designs_are_comparable, fitting_tables_are_of_boxes, no_tables_no_contents,
+    not_fit_and_refused, pairs_are_named, pairs_for_designs_are_isomorphic, pairs_have_box_orders,
+    pairs_implement_exactly_fitting, spelled_contents_have_tables,
+    spelled_contents_make_equivalent, tables_make_equivalent_as_contents, tables_spell_contents,
+    wrong_outputs_are_mistakes, wrong_vectors_are_mistakes,
+};
 use bb_expand::refutations_show_vectors;
 use bb_fill::answers_exist;
+use bb_frontend::texts_have_designs;
+use bb_implements::list_laws::implementing_nets_give_outputs;
+use bb_implements::naming_laws::followed_inputs_are_one;
+use bb_implements::table_laws::{tables_give_outputs, tables_have_contents};
 use bb_net::tables_are_spread;
 use bb_parse::laws::sources_are_formed;
-use bb_plain::{
-    filled_designs_are_called_alike, filled_designs_are_sound, filled_designs_have_bits,
-    filled_modules_are_sound, filled_modules_are_tops,
+use bb_readback::{
+    filled_designs_are_named_the_same, filled_designs_are_sound, filled_designs_have_bits,
+    filled_modules_are_sound, filled_modules_are_tops, filled_texts_are_read,
 };
-use bb_rungs::{
-    alike_pairs_are_decided, alike_pairs_are_left_open, alike_reports_are_one, climbs_leave_open,
-    deciders_decide, errors_exclude_tables, found_vectors_are_mistakes, given_tables_agree,
-    left_open_stays_open, repairs_agree, staying_open_is_told, tables_are_given_once,
-};
-use bb_texts::texts_have_designs;
-use bb_written::filled_texts_are_read;
 
-/// The design of a text is one of which the laws of designs speak.
+/// The designs of texts meet the preconditions of laws of designs, since the reader promises what those need.
 pub fn designs_are_allowed()
     ensures { DesignsAreAllowed }
 {
@@ -49,7 +50,7 @@ pub fn designs_are_allowed()
     sound_texts_are_allowed();
 }
 
-/// Two texts have at most one first refusal.
+/// The refusal is a function of the two texts: all flat netlists of one design name everything alike, in one order.
 pub fn refusals_are_one()
     ensures { RefusalsAreOne }
 {
@@ -58,34 +59,34 @@ pub fn refusals_are_one()
     design_refusals_are_one();
 }
 
-/// No pair stands for two texts that have a refusal.
+/// The two outcomes exclude each other: texts with a refusal have no pair.
 pub fn no_pair_and_refusal()
     ensures { NotPairAndRefusal }
 {
     designs_are_allowed();
     texts_have_designs();
-    pairs_stand_exactly_for_fitting();
+    pairs_implement_exactly_fitting();
     not_fit_and_refused();
 }
 
-/// Pairs that stand for two texts are alike.
-pub fn text_pairs_are_alike()
-    ensures { TextPairsAreAlike }
+/// Several pairs may be made of two texts, with cells in different orders; they are isomorphic.
+pub fn text_pairs_are_isomorphic()
+    ensures { TextPairsAreIsomorphic }
 {
     designs_are_allowed();
     texts_have_designs();
-    pairs_for_designs_are_alike();
+    pairs_for_designs_are_isomorphic();
 }
 
-/// What is kept of two texts may be filled.
+/// What `pair_of` keeps meets the preconditions of filling.
 pub(crate) fn made_can_be_filled()
     ensures { MadeCanBeFilled }
 {
     tables_are_spread();
 }
 
-/// The text of a netlist of the implementation that is filled with tables that agree finishes the design, passes as
-/// an implementation and runs as the specification does.
+/// The filled text finishes the design: it is equivalent where that is requested, passes as an implementation, and runs
+/// as the specification does.
 pub fn filled_texts_finish()
     ensures { FilledTextsFinish }
 {
@@ -94,24 +95,24 @@ pub fn filled_texts_finish()
     filled_modules_are_sound();
     filled_modules_are_tops();
     filled_designs_are_sound();
-    filled_designs_are_called_alike();
+    filled_designs_are_named_the_same();
     filled_designs_have_bits();
-    pairs_stand_exactly_for_fitting();
+    pairs_implement_exactly_fitting();
     fitting_designs_are_comparable();
-    agreeing_designs_run_alike();
-    tables_agree_as_contents();
+    equivalent_designs_run_the_same();
+    tables_make_equivalent_as_contents();
     tables_have_contents();
     tables_give_outputs();
-    standing_nets_give_outputs();
+    implementing_nets_give_outputs();
     followed_inputs_are_one();
     tables_are_spread();
     spelled_contents_have_tables();
 }
 
-/// A flat netlist that stands for the filled design is called as the netlist that was filled, has no box, and has the
-/// bits that the other has with the tables in its boxes.
-pub fn filled_nets_stand()
-    ensures { FilledNetsStand }
+/// Each flat netlist of the filled text has the names of the netlist that was filled, no box, and its bits with the
+/// tables in its boxes. That there is one is not said.
+pub fn filled_nets_implement()
+    ensures { FilledNetsImplement }
 {
     filled_texts_are_read();
     sources_are_formed();
@@ -119,78 +120,78 @@ pub fn filled_nets_stand()
     filled_modules_are_tops();
     filled_designs_are_sound();
     sound_texts_are_allowed();
-    filled_designs_are_called_alike();
+    filled_designs_are_named_the_same();
     filled_designs_have_bits();
     tables_give_outputs();
-    standing_nets_give_outputs();
+    implementing_nets_give_outputs();
     followed_inputs_are_one();
 }
 
-/// Behind the verdict no line begins as that of a table.
+/// So the tables of a report are those before its verdict, also with a filled implementation after it.
 pub fn no_tables_follow()
     ensures { NoTablesFollow }
 {}
 
-/// Up to the verdict an answer is the one without the filled implementation.
+/// An answer without the filled implementation is a prefix of one with it.
 pub fn filling_only_adds()
     ensures { FillingOnlyAdds }
 {
     answers_exist();
 }
 
-/// What is answered to two texts is meant so, and comes where it is due.
+/// One law for each status, in both directions: the status means this, and comes where this holds.
 pub fn answers_are_meant()
-    // What is not refused fits.
+    // A status other than 2 means that the texts fit.
     ensures fit { AnsweredFit }
-    // An error is told only where no contents agree, and its vectors show mistakes; tables only where all that they
-    // spell agree, so that the two run alike, whatever events come. Where it is asked for, the filled implementation
-    // follows, which passes as one, or why there is none.
+    // Errors are reported only where no contents make the designs equivalent, and their vectors show it. Tables are
+    // reported only where all contents that they spell do, so that the two designs run alike whatever events come;
+    // where it is requested, the filled implementation follows, or why there is none.
     ensures errors { ErrorsRefute }
     ensures shown { ErrorsAreShown }
     ensures repairs { RepairsFinish }
-    // The question is left open only where each check that is asked for leaves it open; where it stays open with each,
-    // it is, and where one decides, it is not.
+    // An open answer means that each requested check leaves the question open; where it stays open with each, the
+    // answer is open, and where one decides, it is not.
     ensures opens { OpenAnswersLeaveOpen }
     ensures open_reports { OpenAnswersAreReports }
     ensures stays_open { StayingOpenAreAnswered }
     ensures decided { DecidedAreAnswered }
-    // Status 2 tells the first refusal, and where there is one, its line is the only answer.
+    // Status 2 comes with the first refusal, and where there is a refusal, its line is the only answer.
     ensures refusals { JudgedRefusalsAreFirst }
     ensures refused { RefusedAreAnsweredOnce }
 {
     designs_are_allowed();
     refusals_are_one();
     no_pair_and_refusal();
-    text_pairs_are_alike();
+    text_pairs_are_isomorphic();
     errors_exclude_tables();
     no_tables_no_contents();
     found_vectors_are_mistakes();
-    given_tables_agree();
+    given_tables_make_equivalent();
     wrong_outputs_are_mistakes();
     wrong_vectors_are_mistakes();
     pairs_are_named();
     failing_vectors_are_mistakes();
     refutations_show_vectors();
-    repairs_agree();
+    repairs_make_equivalent();
     tables_are_given_once();
     no_tables_follow();
     filled_texts_finish();
     tables_spell_contents();
-    spelled_contents_agree();
-    pairs_stand_exactly_for_fitting();
+    spelled_contents_make_equivalent();
+    pairs_implement_exactly_fitting();
     fitting_designs_are_comparable();
-    agreeing_designs_run_alike();
+    equivalent_designs_run_the_same();
     pairs_have_box_orders();
     fitting_tables_are_of_boxes();
-    alike_pairs_are_left_open();
+    isomorphic_pairs_are_left_open();
     climbs_leave_open();
-    staying_open_is_told();
-    alike_pairs_are_decided();
+    staying_open_is_reported();
+    isomorphic_pairs_are_decided();
     deciders_decide();
 }
 
-/// Two texts have one status, whichever pair stands for them, unless they are left open and the answer may depend on
-/// the search; and there too none is 0 where another is 1.
+/// The status does not depend on which pair is made, unless the answer is open and may depend on the counterexample
+/// search; and there too 0 and 1 never contradict each other.
 pub fn statuses_are_one()
     ensures one { StatusesAreOne }
     ensures clash { StatusesNeverClash }
@@ -201,12 +202,12 @@ pub fn statuses_are_one()
     answers_are_meant();
 }
 
-/// Two texts have one report, whichever pair stands for them, but for what stands behind the line of the expansion, and
-/// but for this line where it may depend on the search; the lines before it are the same there too.
+/// Nor does the report, but for the details of the expansion, and its line where it may depend on the search. The lines
+/// before it are the same in any case. Any correct tables will do, so the expansion's are free.
 pub fn reports_are_one()
     ensures one { ReportsAreOne }
     ensures begin { ReportsBeginAsOne }
 {
-    text_pairs_are_alike();
-    alike_reports_are_one();
+    text_pairs_are_isomorphic();
+    isomorphic_pairs_have_one_report();
 }

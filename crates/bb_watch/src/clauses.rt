@@ -1,5 +1,6 @@
-//! The clauses by their numbers: the given ones, and behind them those that were added. Both lists stay where they
-//! are, so that each clause is held once.
+//! Two lists of clauses under one numbering: the given ones first, then those that were added. Both are borrowed, so
+//! that the solver and the checker of additions read given clauses where their caller has them, and no clause is held
+//! twice.
 
 ghost use Rattle.std.specs.Prelude.{◌≡◌, ◌<◌, ◌++◌, length, slice_get, Some};
 ghost use Rattle.bb_cnf.specs.Clauses.{lists_of};
@@ -8,7 +9,7 @@ use bb_cnf::Lit;
 use smallvec::SmallVec;
 use std::marker::Model;
 
-/// The given clauses and those that were added.
+/// A view of two lists; numbers count from 0.
 #[derive(Drop)]
 pub struct Clauses<'a> {
     given: &'a [SmallVec<Lit, 4>],
@@ -25,7 +26,7 @@ impl<'a> Model for Clauses<'a> {
     ghost view = { λ c. lists_of c.given.now ++ lists_of c.added.now };
 }
 
-/// The literals of the clause of this number.
+/// Numbers count from 0. A call of its own, so that a lone list can be read by the same promise.
 #[inline]
 pub fn clause_at<'a>(clauses: &'a [SmallVec<Lit, 4>], number: usize) -> &'a [Lit]
     requires { number < length clauses.now }
@@ -35,7 +36,7 @@ pub fn clause_at<'a>(clauses: &'a [SmallVec<Lit, 4>], number: usize) -> &'a [Lit
 }
 
 impl<'a> Clauses<'a> {
-    /// The added clauses have the numbers behind those of the given ones.
+    /// The added clauses are numbered after the given ones.
     #[inline]
     pub fn new(given: &'a [SmallVec<Lit, 4>], added: &'a [SmallVec<Lit, 4>]) -> Clauses<'a>
         ensures { result ≡ lists_of given.entry.now ++ lists_of added.entry.now }
@@ -43,7 +44,7 @@ impl<'a> Clauses<'a> {
         Clauses { given, added }
     }
 
-    /// How many clauses there are.
+    /// Counts both lists.
     #[inline]
     pub fn len(&self) -> usize
         ensures { result ≡ length self.now }
@@ -51,7 +52,7 @@ impl<'a> Clauses<'a> {
         self.given.len() + self.added.len()
     }
 
-    /// The literals of the clause of this number.
+    /// Numbers count from 0, through both lists.
     #[inline]
     pub fn at(&self, number: usize) -> &'a [Lit]
         requires { number < length self.now }

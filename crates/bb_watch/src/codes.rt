@@ -1,17 +1,18 @@
-//! Literals as numbers, by which a mark says whether a literal is false. A literal and its negation may both be: an addition to a
-//! proof makes all its literals false.
+//! Literals as numbers, which index marks and lists. Marks say which literals are false. A literal and its negation may
+//! both be false, since an addition to a proof makes all its literals false; so one mark a literal, and not one value a
+//! variable.
 
 use bb_cnf::Lit;
 
-/// Twice the literal's variable, and one more where it is negated.
+/// Twice the variable, and one more where the literal is negated, so that the lowest bit negates.
 #[derive(Clone, Copy, Debug, PartialEq, Eq)]
 pub(crate) struct Code(pub(crate) u32);
 
 impl Code {
-    /// No literal: there is no variable 0.
+    /// No literal, since variables count from 1. It ends a copy and is never marked.
     pub(crate) const NOTHING: Code = Code(0);
 
-    /// No literal either.
+    /// A second value that is no literal: it differs from `NOTHING`, which ends a copy.
     pub(crate) const OTHER: Code = Code(1);
 
     pub(crate) fn of(lit: Lit) -> Code {
@@ -37,7 +38,7 @@ pub(crate) fn is_true(marks: &[bool], code: Code) -> bool {
     is_false(marks, code.negation()) && !is_false(marks, code)
 }
 
-/// Says of a literal whether it is false.
+/// Codes beyond the marks are passed over.
 #[inline(always)]
 pub(crate) fn mark(marks: &mut [bool], code: Code, is_false: bool) {
     if (code.0 as usize) < marks.len() {

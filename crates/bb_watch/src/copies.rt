@@ -1,11 +1,13 @@
-//! Copies of clauses in one list: half as long as the clauses, and found without a look at these.
+//! Copies of all clauses in one list of 32-bit codes. The clauses themselves are lists of eight-byte literals with an
+//! allocation for each longer one; a copy is half as long, and neighbours in memory are visited together. It is the
+//! only copy that is made of given clauses.
 
 use crate::NoMemory;
 use crate::codes::{Code, is_false, is_true};
 use bb_cnf::Lit;
 use std::alloc::Global;
 
-/// How many literals of a clause are left that are not false; more, too, where one is true.
+/// The literals that are not false. `More` also where one of them is true: nothing comes of such a clause.
 #[derive(Clone, Copy, Debug)]
 pub(crate) enum Left {
     None,
@@ -13,21 +15,20 @@ pub(crate) enum Left {
     More,
 }
 
-/// The codes of each clause's literals, and `NOTHING` behind them.
+/// Each clause ends with `NOTHING`, so a place suffices to find it and no length is kept.
 #[derive(Drop)]
 pub(crate) struct Copies {
     codes: Vec<Code>,
 }
 
 impl Copies {
-    /// There are none.
     pub(crate) fn new(alloc: Global) -> Copies {
         Copies {
             codes: Vec::new(alloc),
         }
     }
 
-    /// Copies a clause. The answer is where its copy begins.
+    /// The place at which the copy begins, by which lists name it.
     pub(crate) fn add(&mut self, clause: &[Lit]) -> Result<u32, NoMemory> {
         let place = u32::try_from(self.codes.len()).unwrap_or(u32::MAX);
         for lit in clause {
@@ -37,7 +38,7 @@ impl Copies {
         Ok(place)
     }
 
-    /// The first literal of the clause at a place that is not false, but not this one.
+    /// The first literal that is not false and is not `but`, or none.
     #[inline(always)]
     pub(crate) fn not_false(&self, place: u32, marks: &[bool], but: Code) -> Option<Code> {
         // `NOTHING` is not marked, and so ends the clause.
@@ -53,7 +54,6 @@ impl Copies {
         None
     }
 
-    /// What is left of the clause at a place.
     pub(crate) fn left(&self, place: u32, marks: &[bool]) -> Left {
         match self.not_false(place, marks, Code::OTHER) {
             None => Left::None,

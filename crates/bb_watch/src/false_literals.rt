@@ -1,24 +1,25 @@
-//! The literals that are false, in the order in which they became so.
+//! The false literals in the order in which they became so, each with the clause that implied it. All room is taken
+//! when variables are added, so the inner loop of propagation neither allocates nor fails.
 
 use crate::NoMemory;
 use crate::codes::{Code, mark};
 use crate::propagator::Found;
 use std::alloc::Global;
 
-// A literal that is false, and the clause whose other literals were.
+// `found` names the clause whose other literals were false.
 #[derive(Clone, Copy, Debug)]
 struct Fall {
     code: Code,
     found: Found,
 }
 
-// How many literals there are with variables up to this one, and with none.
+// Both signs of each variable, and of variable 0, which is none.
 fn literals(vars: u32) -> usize {
     2 * (vars as usize + 1)
 }
 
-/// A mark for each literal by its code, and the list of those that are false. It has room for each literal once, so that none
-/// is passed over for want of memory.
+/// Room for each literal once is taken beforehand, so that `add` neither fails nor passes over a literal for lack of
+/// memory.
 #[derive(Drop)]
 pub(crate) struct FalseLiterals {
     marks: Vec<bool>,
@@ -26,7 +27,6 @@ pub(crate) struct FalseLiterals {
 }
 
 impl FalseLiterals {
-    /// None is false.
     pub(crate) fn new(alloc: Global, vars: u32) -> Result<FalseLiterals, NoMemory> {
         Ok(FalseLiterals {
             marks: vec![in alloc; false; literals(vars)]?,
@@ -34,14 +34,13 @@ impl FalseLiterals {
         })
     }
 
-    /// There are variables up to this one.
+    /// Keeps room for each literal once.
     pub(crate) fn widen(&mut self, vars: u32) -> Result<(), NoMemory> {
         let count = literals(vars);
         self.falls.reserve(count.saturating_sub(self.falls.len()))?;
         self.marks.resize(count, false)
     }
 
-    /// How many are false.
     #[inline]
     pub(crate) fn len(&self) -> usize {
         self.falls.len()
@@ -52,7 +51,6 @@ impl FalseLiterals {
         &self.marks
     }
 
-    /// The literal that became false at this place.
     #[inline]
     pub(crate) fn code(&self, place: usize) -> Code {
         match self.falls.get(place) {
@@ -61,14 +59,14 @@ impl FalseLiterals {
         }
     }
 
-    /// The clause by which a literal became false at this place.
+    /// A place beyond the list has none.
     #[inline]
     pub(crate) fn found(&self, place: usize) -> Option<Found> {
         let fall = self.falls.get(place)?;
         Some(fall.found)
     }
 
-    /// One more literal is false, which was not.
+    /// The literal is not false yet, so the room suffices.
     #[inline]
     pub(crate) fn add(&mut self, code: Code, found: Found) {
         if self.falls.push(Fall { code, found }).is_ok() {
@@ -76,14 +74,12 @@ impl FalseLiterals {
         }
     }
 
-    // Takes the last one back.
     fn pop(&mut self) {
         if let Some(last) = self.falls.pop() {
             mark(&mut self.marks, last.code, false);
         }
     }
 
-    /// Takes back all from this place on.
     pub(crate) fn take_back(&mut self, place: usize) {
         for _ in place..self.falls.len() {
             self.pop();

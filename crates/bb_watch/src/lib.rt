@@ -1,5 +1,7 @@
-//! Two lists of clauses as one, and propagation by two watched literals a clause. Of what propagation finds nothing is
-//! promised but that a call ends and reads no place that is not there: who propagates by it looks at each clause himself.
+//! Propagation by two watched literals a clause (Moskewicz et al., Chaff, 2001), for the solver and for the checker of
+//! additions. Its results are hints: it is promised only that a call ends and reads no place that is not there, and
+//! each caller examines a clause that it names. So the lists need no invariant and no proof, and a mistake in them
+//! would cost time and no answer.
 #![tactic(auto)]
 
 mod clauses;

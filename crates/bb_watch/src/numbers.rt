@@ -1,6 +1,7 @@
-//! Numbers at places that may not be there.
+//! Reads and writes of lists at places that may not exist. Places in watch lists are not proved to be in range; a read
+//! of 0 or a lost write is a wrong hint, which costs time and no answer, where an index out of range would be an error.
 
-/// The number at a place, and 0 where there is none.
+/// 0 where the place does not exist.
 #[inline]
 pub fn read(numbers: &[u32], place: u32) -> u32 {
     match numbers.get(place as usize) {
@@ -9,7 +10,7 @@ pub fn read(numbers: &[u32], place: u32) -> u32 {
     }
 }
 
-/// Sets the number at a place, if there is one.
+/// Nothing happens where the place does not exist.
 #[inline]
 pub fn write(numbers: &mut [u32], place: u32, number: u32) {
     if (place as usize) < numbers.len() {

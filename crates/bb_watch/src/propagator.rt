@@ -1,5 +1,7 @@
-//! Propagation over copies of clauses. What it finds are hints, which come one after another: who takes one looks at the
-//! clause itself.
+//! Runs unit propagation ahead of its caller's trail, over copies of the clauses, until a clause is false or nothing is
+//! left. What it found is handed out one by one: the caller examines the clause that is named and puts the literal on
+//! its own trail, or takes the propagator back. Running ahead keeps the inner loop on compact data, and the proved code
+//! out of it.
 
 use crate::NoMemory;
 use crate::codes::Code;
@@ -9,28 +11,29 @@ use crate::watch_lists::{Last, Watches};
 use bb_cnf::Lit;
 use std::alloc::Global;
 
-/// Clauses are of two kinds, each with numbers of its own. Those of the second are looked at where nothing comes of the first.
+/// Two sets of clauses with numbers of their own, so that one can grow without renumbering the other. The second is
+/// visited only where the first has no consequence left.
 #[derive(Clone, Copy, Debug)]
 pub enum Side {
     First,
     Second,
 }
 
-/// A clause of which something comes.
+/// A clause that is false or has one literal left, if the watches are right.
 #[derive(Clone, Copy, Debug)]
 pub struct Found {
     pub side: Side,
     pub number: u32,
 }
 
-// No clause: the literal became false from without.
+// The caller made the literal false.
 const NO_CLAUSE: Found = Found {
     side: Side::First,
     number: u32::MAX,
 };
 
-/// The clauses that are watched, the literals that are false, among them those of which nobody was told yet, and a clause
-/// that is false then.
+/// The false literals include those that were found ahead and not handed out yet. `conflict` is a clause that is false
+/// with all of them.
 #[derive(Drop)]
 pub struct Propagator {
     copies: Copies,
@@ -41,7 +44,7 @@ pub struct Propagator {
 }
 
 impl Propagator {
-    /// No clause is watched, and no literal is false. There is room for so many clauses of each kind.
+    /// Room for `first` and `second` clauses.
     pub fn new(
         alloc: Global,
         vars: u32,
@@ -57,7 +60,7 @@ impl Propagator {
         })
     }
 
-    /// There are variables up to this one.
+    /// For variables up to `vars`; never fewer than before.
     pub fn widen(&mut self, vars: u32) -> Result<(), NoMemory> {
         self.first.widen(vars)?;
         self.second.widen(vars)?;
@@ -71,7 +74,7 @@ impl Propagator {
         }
     }
 
-    /// Watches two literals of the next clause of a kind.
+    /// The clause gets the next number of its side.
     pub fn watch(
         &mut self,
         side: Side,
@@ -84,28 +87,30 @@ impl Propagator {
             .add(copy, Code::of(first), Code::of(second))
     }
 
-    /// The clause of this number of the second kind is the next one of the first kind too.
+    /// Both sides watch the same copy, so a clause on both is held once.
     pub fn watch_again(&mut self, number: u32, first: Lit, second: Lit) -> Result<(), NoMemory> {
         let copy = self.second.copy(number);
         self.first.add(copy, Code::of(first), Code::of(second))
     }
 
-    /// The clause of this number is watched no more.
+    /// Its watches are dropped when their lists are next walked: to find them at once would need a list in both
+    /// directions.
     pub fn forget(&mut self, side: Side, number: u32) {
         self.watches_mut(side).forget(number);
     }
 
-    /// How many literals are false.
+    /// Includes literals that were found ahead of the caller's trail.
     pub fn len(&self) -> usize {
         self.falses.len()
     }
 
-    /// One more literal is false.
+    /// A literal that the caller made false. It must not be false yet.
     pub fn make_false(&mut self, lit: Lit) {
         self.falses.add(Code::of(lit), NO_CLAUSE);
     }
 
-    /// Only so many literals are false.
+    /// Back to the first `place` literals. Watches need no repair: two literals that were not false then are not false
+    /// now.
     pub fn take_back(&mut self, place: usize) {
         self.first.taken_back(place);
         self.second.taken_back(place);
@@ -113,7 +118,6 @@ impl Propagator {
         self.conflict = None;
     }
 
-    // The clause of which something comes next.
     fn find(&mut self) -> Option<(Side, Last)> {
         if let Some(last) = self.first.find(&self.copies, &self.falses) {
             return Some((Side::First, last));
@@ -122,7 +126,7 @@ impl Propagator {
         Some((Side::Second, last))
     }
 
-    // Goes on until nothing is left, or a clause is false.
+    // Each round makes a literal false or ends, so the number of literals bounds the rounds.
     fn run(&mut self) {
         for _ in 0..self.falses.marks().len().saturating_add(1) {
             let Some((side, last)) = self.find() else {
@@ -139,7 +143,8 @@ impl Propagator {
         }
     }
 
-    /// The clause of which something comes where so many literals are false: the first ones of these.
+    /// The clause that implied the literal at `place`, or the false clause where nothing was found after `place`. The
+    /// propagator runs only where its lead is used up.
     pub fn next(&mut self, place: usize) -> Option<Found> {
         if place >= self.falses.len() && self.conflict.is_none() {
             self.run();

@@ -1,4 +1,7 @@
-//! For each literal the list of the clauses that watch it.
+//! Watch lists as linked lists in one array, not a vector a literal: no proof needs their order, moving a watch
+//! allocates nothing, and memory is two nodes a clause however the literals are distributed. A visit looks first at the
+//! other watched literal, which is in the neighbouring node, and only then at the clause, as solvers do with blocking
+//! literals.
 
 use crate::NoMemory;
 use crate::codes::{Code, is_false, is_true};
@@ -7,7 +10,7 @@ use crate::false_literals::FalseLiterals;
 use crate::numbers::{read, write};
 use std::alloc::Global;
 
-// The literal that it watches, and the next node on the list of this literal.
+// `next` is a node on the list of the same literal.
 #[derive(Clone, Copy, Debug)]
 struct Node {
     next: u32,
@@ -19,45 +22,45 @@ const NONE: Node = Node {
     watched: Code::NOTHING,
 };
 
-/// A clause that has one literal left that is not false, or none.
+/// `left` is the one literal that is not false; none where the clause is false.
 #[derive(Clone, Copy, Debug)]
 pub(crate) struct Last {
     pub(crate) number: u32,
     pub(crate) left: Option<Code>,
 }
 
-/// The nodes of the clause of number n are 2n + 2 and 2n + 3, beside each other in memory, since a visit to one looks at
-/// the other. Each is on the list of the literal that it watches: one begins with a head, and goes on by `next`; 0 ends
-/// it.
+/// The nodes of the clause of number n are 2n + 2 and 2n + 3, beside each other in memory, since a visit to one looks
+/// at the other. Each is on the list of the literal that it watches: a list begins with a head and goes on by `next`; 0
+/// ends it.
 #[derive(Drop)]
 pub(crate) struct Watches {
     heads: Vec<u32>,
     nodes: Vec<Node>,
-    // Where the copy of each clause begins, and how many clauses were looked at once.
+    // Where the copy of each clause begins, and how many clauses had their first look: a clause may be unit or false
+    // before any literal on it becomes false.
     copies: Vec<u32>,
     looked_at: u32,
-    // The place of the false literal whose list comes next, and whether it was not begun yet.
+    // The false literal whose list is walked, by its place, and whether the walk is still to begin.
     place: usize,
     is_new: bool,
-    // The node on this list that comes next, 0 at its end, and the one before it, 0 where it is the first.
+    // The next node of that walk, 0 at the end, and the node before it, 0 where it is the first.
     node: u32,
     before: u32,
 }
 
-// The clause's other node.
+// Nodes of one clause differ in the lowest bit.
 #[inline(always)]
 fn other_node(node: u32) -> u32 {
     node ^ 1
 }
 
-// The number of the clause of a node.
 #[inline(always)]
 fn clause_of(node: u32) -> u32 {
     node.saturating_sub(2) / 2
 }
 
 impl Watches {
-    /// No clause is watched. There is room for so many.
+    /// The first two nodes belong to no clause, so that 0 can end a list.
     pub(crate) fn new(alloc: Global, vars: u32, clauses: usize) -> Result<Watches, NoMemory> {
         let size = 2 * (vars as usize + 1);
         let mut nodes = Vec::with_capacity(alloc, clauses.saturating_mul(2).saturating_add(2))?;
@@ -75,12 +78,10 @@ impl Watches {
         })
     }
 
-    /// There are variables up to this one.
     pub(crate) fn widen(&mut self, vars: u32) -> Result<(), NoMemory> {
         self.heads.resize(2 * (vars as usize + 1), 0)
     }
 
-    // A new node for the literal.
     fn add_node(&mut self, watched: Code) -> Result<(), NoMemory> {
         let node = u32::try_from(self.nodes.len()).unwrap_or(0);
         let next = read(&self.heads, watched.0);
@@ -89,14 +90,14 @@ impl Watches {
         Ok(())
     }
 
-    /// Watches two literals of the next clause, whose copy begins at a place.
+    /// The clause gets the next number. `copy` is where its copy begins.
     pub(crate) fn add(&mut self, copy: u32, first: Code, second: Code) -> Result<(), NoMemory> {
         self.copies.push(copy)?;
         self.add_node(first)?;
         self.add_node(second)
     }
 
-    /// Where the copy of a clause begins.
+    /// A place beyond all copies where there is no such clause.
     pub(crate) fn copy(&self, number: u32) -> u32 {
         match self.copies.get(number as usize) {
             Some(place) => *place,
@@ -104,7 +105,7 @@ impl Watches {
         }
     }
 
-    /// Of the false literals only so many are left.
+    /// The next walk begins at the head of a list: `node` and `before` may be of a list that is walked no more.
     pub(crate) fn taken_back(&mut self, place: usize) {
         self.place = self.place.min(place);
         self.is_new = true;
@@ -138,14 +139,13 @@ impl Watches {
         }
     }
 
-    // Goes on to the next node of the list.
     #[inline(always)]
     fn go_on(&mut self) {
         self.before = self.node;
         self.node = self.at(self.node).next;
     }
 
-    // Takes the node from the list of the literal.
+    // `before` stays, and the next node takes the place of this one.
     #[inline(always)]
     fn take_out(&mut self, from: Code) {
         let after = self.at(self.node).next;
@@ -157,7 +157,6 @@ impl Watches {
         self.node = after;
     }
 
-    // Takes the node from the list of the one literal to that of the other.
     #[inline(always)]
     fn take_to(&mut self, from: Code, to: Code) {
         let node = self.node;
@@ -167,14 +166,15 @@ impl Watches {
         write(&mut self.heads, to.0, node);
     }
 
-    /// The nodes of this clause leave their lists when they are met there.
+    /// The nodes leave their lists when a walk meets them.
     pub(crate) fn forget(&mut self, number: u32) {
         let node = number.saturating_mul(2).saturating_add(2);
         self.set_watched(node, Code::NOTHING);
         self.set_watched(other_node(node), Code::NOTHING);
     }
 
-    // Looks at the clause of the node, of which one literal became false.
+    // One of the two watched literals, `from`, became false. Where another literal is not false, the watch moves to it;
+    // otherwise the other watched literal is implied, or the clause is false.
     #[inline(always)]
     fn look(&mut self, copies: &Copies, marks: &[bool], from: Code) -> Option<Last> {
         let other = self.at(other_node(self.node)).watched;
@@ -204,7 +204,6 @@ impl Watches {
         }
     }
 
-    // Looks at the clauses on the list of a literal that became false.
     fn visit(&mut self, copies: &Copies, marks: &[bool], from: Code) -> Option<Last> {
         if self.is_new {
             self.is_new = false;
@@ -222,7 +221,7 @@ impl Watches {
         None
     }
 
-    // Looks once at each clause that was not looked at before.
+    // Clauses may be added while literals are false, and no later event would lead to such a clause.
     fn first_look(&mut self, copies: &Copies, marks: &[bool]) -> Option<Last> {
         for place in self.looked_at as usize..self.copies.len() {
             let number = self.looked_at;
@@ -239,7 +238,7 @@ impl Watches {
         None
     }
 
-    // Goes on along the false literals.
+    // The walk over lists is breadth first, in the order in which literals became false.
     fn follow(&mut self, copies: &Copies, falses: &FalseLiterals) -> Option<Last> {
         for place in self.place..falses.len() {
             self.place = place;
@@ -252,7 +251,7 @@ impl Watches {
         None
     }
 
-    /// The next clause that has one literal left or none.
+    /// New clauses come first: they may be unit by themselves.
     pub(crate) fn find(&mut self, copies: &Copies, falses: &FalseLiterals) -> Option<Last> {
         match self.first_look(copies, falses.marks()) {
             None => self.follow(copies, falses),

@@ -8,13 +8,13 @@ use Rattle.bb_net.specs.declared.cell.Cell.{Cell}
 use Rattle.bb_net.specs.declared.cell.Cell.TheVariants.{Const}
 use Rattle.std.specs.Prelude.{false}
 use Rattle.bb_net.specs.Netlists.{Netlist, cell_at}
-use Rattle.bb_word.specs.Gates.{Made, behind}
+use Rattle.bb_word.specs.Gates.{Made, after}
 use Rattle.bb_word.specs.Laws.Formulas.{Formula, cell_formula}
 use Rattle.bb_word.specs.Inside.Adding.{Meets, with_cells, nothing, ahead, Adds}
 use Rattle.bb_word.specs.Laws.MapLaws.{made_same}
 
-pub meets_front : (cells more : List Cell) (part : ℕ → Formula) → Meets (cells ++ more) part → Meets cells part
-meets_front cells more part meets place below =
+pub meets_prefix : (cells more : List Cell) (part : ℕ → Formula) → Meets (cells ++ more) part → Meets cells part
+meets_prefix cells more part meets place below =
     meets place (omega (arith, length-append cells more)) ∙ ap (cell_formula part) (get_or_append_left cells more (Const false) place below)
 
 pub meets_new : (cells more : List Cell) (part : ℕ → Formula) → Meets (cells ++ more) part → (k : ℕ) → k < length more → part (length cells + k) ≡ cell_formula part (cell_at more k)
@@ -50,13 +50,13 @@ Adds-step old now new places more added circuit rest rest' before is there next 
       grown = grown;
       there = All-append (λ p. p < length new.cells) places more (subst (λ n. All (λ p. p < length n.cells) places) (sym is) (below_more now added places before.there)) there;
       made = λ part meets.
-          let front : Meets now.cells part = meets_front now.cells added part (subst (λ n. Meets n.cells part) is meets) in
+          let prefix : Meets now.cells part = meets_prefix now.cells added part (subst (λ n. Meets n.cells part) is meets) in
           let e = next part meets in
           let b : map part (places ++ more) ++ (rest' part).bits ≡ map part places ++ (rest part).bits =
           ap (λ l. l ++ (rest' part).bits) (map-append part places more) ∙ append_assoc (map part places) (map part more) (rest' part).bits ∙ ap (λ z. map part places ++ z.bits) (sym e) in
           let c : map (cell_formula part) (before.more ++ added) ++ (rest' part).cells ≡ map (cell_formula part) before.more ++ (rest part).cells =
           ap (λ l. l ++ (rest' part).cells) (map-append (cell_formula part) before.more added) ∙ append_assoc (map (cell_formula part) before.more) (map (cell_formula part) added) (rest' part).cells ∙ ap (λ z. map (cell_formula part) before.more ++ z.cells) (sym e) in
-          made_same _ _ b c ∙ before.made part front;
+          made_same _ _ b c ∙ before.made part prefix;
     }
 
 -- the rest is bits that have their places and need no more cells
@@ -71,19 +71,19 @@ Adds-bits old now places circuit adds part meets = sym (append-nil (map part pla
 pub Adds-cells : (old now : Netlist) (places : List ℕ) (circuit : (ℕ → Formula) → Made Formula) → (adds : Adds old now places circuit nothing) → (part : ℕ → Formula) → Meets now.cells part → map (cell_formula part) adds.more ≡ (circuit part).cells
 Adds-cells old now places circuit adds part meets = sym (append-nil (map (cell_formula part) adds.more)) ∙ ap (λ z. z.cells) (adds.made part meets)
 
--- one circuit behind another
+-- one circuit after another
 pub Adds-chain : (old mid new : Netlist) (first second : List ℕ) (one other whole : (ℕ → Formula) → Made Formula)
     → Adds old mid first one nothing → Adds mid new second other nothing
-    → ((part : ℕ → Formula) → Meets new.cells part → map part first ≡ (one part).bits → behind (one part).cells (other part) ≡ whole part)
+    → ((part : ℕ → Formula) → Meets new.cells part → map part first ≡ (one part).bits → after (one part).cells (other part) ≡ whole part)
     → Adds old new second whole nothing
 Adds-chain old mid new first second one other whole a b joins = record {
   more = a.more ++ b.more;
   grown = b.grown ∙ ap (λ n. with_cells n b.more) a.grown ∙ with_cells-more old a.more b.more;
   there = b.there;
   made = λ part meets.
-      let front : Meets mid.cells part = meets_front mid.cells b.more part (subst (λ n. Meets n.cells part) b.grown meets) in
+      let prefix : Meets mid.cells part = meets_prefix mid.cells b.more part (subst (λ n. Meets n.cells part) b.grown meets) in
       let bits : map part second ++ [] ≡ (other part).bits = append-nil (map part second) ∙ Adds-bits mid new second other b part meets in
       let cells : map (cell_formula part) (a.more ++ b.more) ++ [] ≡ (one part).cells ++ (other part).cells =
-      append-nil (map (cell_formula part) (a.more ++ b.more)) ∙ map-append (cell_formula part) a.more b.more ∙ ap₂ (λ p q. p ++ q) (Adds-cells old mid first one a part front) (Adds-cells mid new second other b part meets) in
-      made_same _ _ bits cells ∙ joins part meets (Adds-bits old mid first one a part front);
+      append-nil (map (cell_formula part) (a.more ++ b.more)) ∙ map-append (cell_formula part) a.more b.more ∙ ap₂ (λ p q. p ++ q) (Adds-cells old mid first one a part prefix) (Adds-cells mid new second other b part meets) in
+      made_same _ _ bits cells ∙ joins part meets (Adds-bits old mid first one a part prefix);
 }

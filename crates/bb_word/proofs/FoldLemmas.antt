@@ -5,18 +5,18 @@ use Rattle.std.proofs.lemmas.List.{reverse-reverse, reverse-append}
 use Rattle.std.proofs.lemmas.Grind.{common_steps}
 use Rattle.bb_bits.specs.Bits.{xor}
 use Rattle.bb_word.specs.Gates.{bits}
-use Rattle.bb_word.specs.Circuits.{joined, joined_all}
+use Rattle.bb_word.specs.Circuits.{accumulated, joined_all}
 use Rattle.bb_word.specs.Folds.{is_odd, fold_bit, fold_circuit}
 use Rattle.bb_ast.specs.declared.operators.FoldOp.{FoldOp}
 use Rattle.bb_ast.specs.declared.operators.FoldOp.TheVariants as ops
 
-pub joined_any : (b : Bool) (xs : List Bool) → (joined ◌||◌ b xs).bits ≡ (b || list_any (λ x. x) xs) ∷ []
+pub joined_any : (b : Bool) (xs : List Bool) → (accumulated ◌||◌ b xs).bits ≡ (b || list_any (λ x. x) xs) ∷ []
 joined_any true [] = refl
 joined_any false [] = refl
 joined_any true (x ∷ xs) = joined_any true xs
 joined_any false (x ∷ xs) = joined_any x xs
 
-pub joined_every : (b : Bool) (xs : List Bool) → (joined ◌&&◌ b xs).bits ≡ (b && list_all (λ x. x) xs) ∷ []
+pub joined_every : (b : Bool) (xs : List Bool) → (accumulated ◌&&◌ b xs).bits ≡ (b && list_all (λ x. x) xs) ∷ []
 joined_every true [] = refl
 joined_every false [] = refl
 joined_every true (x ∷ xs) = joined_every x xs
@@ -35,7 +35,7 @@ odd-step true false xs = refl
 odd-step false true xs = ap is_odd (sym (count-one xs))
 odd-step false false xs = refl
 
-pub joined_odd : (b : Bool) (xs : List Bool) → (joined xor b xs).bits ≡ xor b (is_odd (count_by (λ x. x) xs)) ∷ []
+pub joined_odd : (b : Bool) (xs : List Bool) → (accumulated xor b xs).bits ≡ xor b (is_odd (count_by (λ x. x) xs)) ∷ []
 joined_odd true [] = refl
 joined_odd false [] = refl
 joined_odd b (x ∷ xs) = joined_odd (xor b x) xs ∙ ap (λ z. z ∷ []) (odd-step b x xs)

@@ -4,7 +4,7 @@ use Rattle.std.specs.Prelude.{All}
 use Rattle.std.specs.List.{range_with_len}
 use Rattle.std.proofs.lemmas.List.{append-nil, length-reverse}
 use Rattle.std.proofs.lemmas.List.FromFn.{length-range_with_len, get_or-range_with_len}
-use Rattle.bb_lists.proofs.Maps.{reverse-map}
+use Rattle.bb_lemmas.proofs.Maps.{reverse-map}
 use Rattle.bb_net.specs.Netlists.{Netlist, IsNetlist, with_out}
 use Rattle.bb_net.specs.Values.{bit_of, flat}
 use Rattle.bb_ast.specs.declared.operators.FoldOp.{FoldOp}

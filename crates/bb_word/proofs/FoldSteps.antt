@@ -2,11 +2,11 @@
 use Rattle.std.proofs.Common.{◌≡◌, ◌∙◌, ◌-◌, ◌<◌, ℕ, List, [], ◌∷◌, map, length, get_or, reverse, refl, ap, arith}
 use Rattle.std.specs.Prelude.{All}
 use Rattle.std.proofs.lemmas.List.{length-reverse, get_or-reverse}
-use Rattle.bb_lists.proofs.Maps.{reverse-map}
+use Rattle.bb_lemmas.proofs.Maps.{reverse-map}
 use Rattle.bb_net.specs.declared.cell.Cell.TheVariants as cell
 use Rattle.bb_net.specs.Netlists.{Netlist}
 use Rattle.bb_word.specs.declared.joint.Joint.{Joint}
-use Rattle.bb_word.specs.Gates.{Made, behind}
+use Rattle.bb_word.specs.Gates.{Made, after}
 use Rattle.bb_word.specs.Circuits.{folded, inverted, joined_all}
 use Rattle.bb_word.specs.Laws.Formulas.{Formula, formulas}
 use Rattle.bb_word.specs.Inside.Adding.{with_cells, nothing, Adds, joint_gate, joint_none}
@@ -36,7 +36,7 @@ IsInverted old mid new place last circuit first grown at =
     let turn = IsComplemented-step (place ∷ []) mid mid new [] 0 place last (omega arith) refl grown at (IsComplemented-start (place ∷ []) mid) in
     let second = IsComplemented-end (place ∷ []) mid new (last ∷ []) 1 (omega arith) turn in
     Adds-chain old mid new (place ∷ []) (last ∷ []) circuit (λ part. both_complements (map part (place ∷ []))) (λ part. inverted formulas (circuit part)) first second
-    (λ part meets bits. ap (λ l. behind (circuit part).cells (both_complements l)) bits)
+    (λ part meets bits. ap (λ l. after (circuit part).cells (both_complements l)) bits)
 
 pub first_there : (n place : ℕ) → All (λ p. p < n) (place ∷ []) → place < n
 first_there n place all = all 0 0 (omega arith)

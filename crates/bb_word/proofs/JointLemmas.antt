@@ -6,7 +6,7 @@ use Rattle.std.proofs.lemmas.List.Elements.{All-nil, All-cons}
 use Rattle.bb_net.specs.Netlists.{Netlist}
 use Rattle.bb_word.specs.declared.joint.Joint.{Joint}
 use Rattle.bb_word.specs.declared.joint.Joint.TheVariants as joints
-use Rattle.bb_word.specs.Circuits.{joined, joined_all}
+use Rattle.bb_word.specs.Circuits.{accumulated, joined_all}
 use Rattle.bb_word.specs.Laws.Formulas.{Formula, formulas, cell_formula}
 use Rattle.bb_word.specs.Inside.Adding.{Meets, with_cells, nothing, Adds, joint_gate, joint_none, joint_cell}
 use Rattle.bb_word.specs.Laws.MapLaws.{made_same}
@@ -14,7 +14,7 @@ use Rattle.bb_word.proofs.AddingLemmas.{meets_new, Adds-start, Adds-step, Adds-e
 
 -- the first bits are joined
 pub record IsReduced (joint : Joint) (bits : List ℕ) (old now : Netlist) (so_far i : ℕ) : Type 0 where
-  pub made : Adds old now [] (λ part. joined_all (joint_gate formulas joint) (joint_none formulas joint) (map part bits)) (λ part. joined (joint_gate formulas joint) (part so_far) (map part (drop i bits)))
+  pub made : Adds old now [] (λ part. joined_all (joint_gate formulas joint) (joint_none formulas joint) (map part bits)) (λ part. accumulated (joint_gate formulas joint) (part so_far) (map part (drop i bits)))
   pub there : so_far < length now.cells
   pub count : length now.cells + 1 ≡ length old.cells + i
   pub some : 1 ≤ i
@@ -27,7 +27,7 @@ joint_formula joints.Differ a b part = refl
 pub IsReduced-start : (joint : Joint) (bits : List ℕ) (old : Netlist) (first : ℕ) → 1 ≤ length bits → first ≡ get_or bits 0 0 → All (λ bit. bit < length old.cells) bits → IsReduced joint bits old old first 1
 IsReduced-start joint [] old first some is all = absurd (omega arith)
 IsReduced-start joint (b ∷ bits) old first some is all = record {
-  made = subst (λ f. Adds old old [] (λ part. joined_all (joint_gate formulas joint) (joint_none formulas joint) (map part (b ∷ bits))) (λ part. joined (joint_gate formulas joint) (part f) (map part bits))) (sym is) (Adds-start old (λ part. joined_all (joint_gate formulas joint) (joint_none formulas joint) (map part (b ∷ bits))));
+  made = subst (λ f. Adds old old [] (λ part. joined_all (joint_gate formulas joint) (joint_none formulas joint) (map part (b ∷ bits))) (λ part. accumulated (joint_gate formulas joint) (part f) (map part bits))) (sym is) (Adds-start old (λ part. joined_all (joint_gate formulas joint) (joint_none formulas joint) (map part (b ∷ bits))));
   there = omega (arith, is, all 0 0 (omega arith));
   count = refl;
   some = omega arith;
@@ -39,14 +39,14 @@ IsReduced-step joint bits old now new so_far i bit place below is grown at befor
     let added = joint_cell joint so_far bit ∷ [] in
     let long : length new.cells ≡ length now.cells + 1 = ap (λ n. length n.cells) grown ∙ length-append now.cells added in
     record {
-      made = Adds-step old now new [] [] added (λ part. joined_all op (joint_none formulas joint) (map part bits)) (λ part. joined op (part so_far) (map part (drop i bits))) (λ part. joined op (part place) (map part (drop (i + 1) bits))) before.made grown (All-nil (λ p. p < length new.cells))
+      made = Adds-step old now new [] [] added (λ part. joined_all op (joint_none formulas joint) (map part bits)) (λ part. accumulated op (part so_far) (map part (drop i bits))) (λ part. accumulated op (part place) (map part (drop (i + 1) bits))) before.made grown (All-nil (λ p. p < length new.cells))
           (λ part meets.
           let more : drop i bits ≡ bit ∷ drop (i + 1) bits = drop_more bits i 0 below ∙ ap (λ b. b ∷ drop (i + 1) bits) (sym is) in
           let f : part place ≡ op (part so_far) (part bit) =
           ap part (at ∙ (let z : length now.cells ≡ length now.cells + 0 = omega arith in z)) ∙ meets_new now.cells added part (subst (λ n. Meets n.cells part) grown meets) 0 (omega arith) ∙ joint_formula joint so_far bit part in
-          let opened : joined op (part so_far) (map part (drop i bits)) ≡ joined op (part so_far) (part bit ∷ map part (drop (i + 1) bits)) = ap (λ l. joined op (part so_far) (map part l)) more in
-          opened ∙ made_same _ _ (ap (λ z. (joined op z (map part (drop (i + 1) bits))).bits) (sym f))
-          (ap (λ z. op (part so_far) (part bit) ∷ (joined op z (map part (drop (i + 1) bits))).cells) (sym f) ∙ ap (λ z. z ∷ (joined op (part place) (map part (drop (i + 1) bits))).cells) (sym (joint_formula joint so_far bit part))));
+          let opened : accumulated op (part so_far) (map part (drop i bits)) ≡ accumulated op (part so_far) (part bit ∷ map part (drop (i + 1) bits)) = ap (λ l. accumulated op (part so_far) (map part l)) more in
+          opened ∙ made_same _ _ (ap (λ z. (accumulated op z (map part (drop (i + 1) bits))).bits) (sym f))
+          (ap (λ z. op (part so_far) (part bit) ∷ (accumulated op z (map part (drop (i + 1) bits))).cells) (sym f) ∙ ap (λ z. z ∷ (accumulated op (part place) (map part (drop (i + 1) bits))).cells) (sym (joint_formula joint so_far bit part))));
       there = omega (arith, long, at);
       count = omega (arith, long, before.count);
       some = omega arith;
@@ -57,5 +57,5 @@ IsReduced-end joint bits old now so_far i past done =
     let op = joint_gate formulas joint in
     let none = drop_all i bits past in
     Adds-end old now [] (so_far ∷ []) (λ part. joined_all op (joint_none formulas joint) (map part bits))
-    (subst (λ l. Adds old now [] (λ part. joined_all op (joint_none formulas joint) (map part bits)) (λ part. joined op (part so_far) (map part l))) none done.made)
+    (subst (λ l. Adds old now [] (λ part. joined_all op (joint_none formulas joint) (map part bits)) (λ part. accumulated op (part so_far) (map part l))) none done.made)
     (All-cons (λ p. p < length now.cells) so_far [] done.there (All-nil (λ p. p < length now.cells)))

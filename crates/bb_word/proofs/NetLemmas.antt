@@ -7,7 +7,7 @@ use Rattle.std.proofs.lemmas.List.{length-append, get_or_append_left, get_or-app
 use Rattle.std.proofs.lemmas.List.Elements.{All-head, All-tail}
 use Rattle.std.proofs.lemmas.List.FromFn.{length-map-range_with_len, get_or-map-range_with_len}
 use Rattle.std.proofs.Math.Seq.{drop-append_seam}
-use Rattle.bb_lists.proofs.Maps.{reverse-map}
+use Rattle.bb_lemmas.proofs.Maps.{reverse-map}
 use Rattle.bb_net.specs.declared.cell.Cell.{Cell}
 use Rattle.bb_net.specs.declared.cell.Cell.TheVariants as cell
 use Rattle.bb_net.specs.Netlists.{Netlist, cell_at, first_cells, IsNetlist}
@@ -36,9 +36,9 @@ inputs_part n more part meets k (suc count) fits =
     let here : k < n = omega arith in
     let place = suc (suc k) in
     let inside : place < length (first_cells n ++ more) = omega (arith, length-append (first_cells n) more, length-first n) in
-    let front : cell_at (first_cells n ++ more) place ≡ cell.Input k =
+    let prefix : cell_at (first_cells n ++ more) place ≡ cell.Input k =
     get_or_append_left (first_cells n) more (cell.Const false) place (omega (arith, length-first n)) ∙ get_or-map-range_with_len cell.Input 0 n k k (cell.Const false) here (omega arith) in
-    let at : part (2 + k) ≡ Input k = ap part (let e : 2 + k ≡ place = omega arith in e) ∙ meets place inside ∙ ap (cell_formula part) front in
+    let at : part (2 + k) ≡ Input k = ap part (let e : 2 + k ≡ place = omega arith in e) ∙ meets place inside ∙ ap (cell_formula part) prefix in
     let rest = ap (λ j. map part (range_with_len j count)) (let e : 2 + k + 1 ≡ 2 + (k + 1) = omega arith in e) ∙ inputs_part n more part meets (k + 1) count (omega arith) in
     ap₂ (λ x l. x ∷ l) at rest
 
@@ -76,16 +76,16 @@ bits_from : (x : List Bool) (k count : ℕ) → map (formula_bit x) (inputs_from
 bits_from x k zero = refl
 bits_from x k (suc count) = ap (λ l. get_or x k false ∷ l) (bits_from x (k + 1) count)
 
-bits_within : (front a behind : List Bool) (k : ℕ) → k ≡ length front → map (λ i. get_or (front ++ (a ++ behind)) i false) (range_with_len k (length a)) ≡ a
-bits_within front [] behind k at = refl
-bits_within front (b ∷ a) behind k at =
-    let here : get_or (front ++ ((b ∷ a) ++ behind)) k false ≡ b = ap (λ i. get_or (front ++ ((b ∷ a) ++ behind)) i false) (let e : k ≡ length front + 0 = omega (arith, at) in e) ∙ get_or-append-add front ((b ∷ a) ++ behind) 0 false in
-    let moved = ap (λ l. map (λ i. get_or l i false) (range_with_len (k + 1) (length a))) (sym (append_assoc front (b ∷ []) (a ++ behind))) in
-    ap₂ (λ c l. c ∷ l) here (moved ∙ bits_within (front ++ b ∷ []) a behind (k + 1) (omega (arith, at, length-append front (b ∷ []))))
+bits_within : (prefix a after : List Bool) (k : ℕ) → k ≡ length prefix → map (λ i. get_or (prefix ++ (a ++ after)) i false) (range_with_len k (length a)) ≡ a
+bits_within prefix [] after k at = refl
+bits_within prefix (b ∷ a) after k at =
+    let here : get_or (prefix ++ ((b ∷ a) ++ after)) k false ≡ b = ap (λ i. get_or (prefix ++ ((b ∷ a) ++ after)) i false) (let e : k ≡ length prefix + 0 = omega (arith, at) in e) ∙ get_or-append-add prefix ((b ∷ a) ++ after) 0 false in
+    let moved = ap (λ l. map (λ i. get_or l i false) (range_with_len (k + 1) (length a))) (sym (append_assoc prefix (b ∷ []) (a ++ after))) in
+    ap₂ (λ c l. c ∷ l) here (moved ∙ bits_within (prefix ++ b ∷ []) a after (k + 1) (omega (arith, at, length-append prefix (b ∷ []))))
 
-pub input_bits : (front a behind : List Bool) (k count : ℕ) → k ≡ length front → count ≡ length a → map (formula_bit (front ++ (a ++ behind))) (reverse (inputs_from k count)) ≡ reverse a
-input_bits front a behind k count at long =
-    reverse-map (formula_bit (front ++ (a ++ behind))) (inputs_from k count) ∙ ap reverse (bits_from (front ++ (a ++ behind)) k count ∙ ap (λ n. map (λ i. get_or (front ++ (a ++ behind)) i false) (range_with_len k n)) long ∙ bits_within front a behind k at)
+pub input_bits : (prefix a after : List Bool) (k count : ℕ) → k ≡ length prefix → count ≡ length a → map (formula_bit (prefix ++ (a ++ after))) (reverse (inputs_from k count)) ≡ reverse a
+input_bits prefix a after k count at long =
+    reverse-map (formula_bit (prefix ++ (a ++ after))) (inputs_from k count) ∙ ap reverse (bits_from (prefix ++ (a ++ after)) k count ∙ ap (λ n. map (λ i. get_or (prefix ++ (a ++ after)) i false) (range_with_len k n)) long ∙ bits_within prefix a after k at)
 
 pub range_more : (a n j : ℕ) → a + n ≡ j → range_with_len a (n + 1) ≡ range_with_len a n ++ j ∷ []
 range_more a zero j is = ap (λ k. k ∷ []) (let e : a ≡ j = omega (arith, is) in e)

@@ -5,7 +5,7 @@ use Rattle.std.specs.List.{list_all}
 use Rattle.std.proofs.lemmas.Bool.Decides.{nat_tests}
 use Rattle.bb_word.proofs.FoldLemmas.{all_every, list_all-reverse}
 use Rattle.bb_word.specs.Gates.{bits}
-use Rattle.bb_word.specs.Circuits.{less, alike, equal}
+use Rattle.bb_word.specs.Circuits.{less, equal_bits, equal}
 use Rattle.bb_word.specs.Meanings.{truth}
 use Rattle.bb_word.proofs.NumberLemmas.{number_up}
 
@@ -34,10 +34,10 @@ less_number l (false ∷ xs) (false ∷ ys) same = less_number l xs ys (omega (a
 less_number l (true ∷ xs) (false ∷ ys) same = less_number false xs ys (omega (arith, same)) ∙ ap (λ b. b ∷ []) (step_high (number_up xs) (number_up ys) (truth l) (truth-small l))
 less_number l (false ∷ xs) (true ∷ ys) same = less_number true xs ys (omega (arith, same)) ∙ ap (λ b. b ∷ []) (step_low (number_up xs) (number_up ys) (truth l) (truth-small l))
 
-pub length-alike : (xs ys : List Bool) → length xs ≡ length ys → length (alike bits xs ys).bits ≡ length xs
-length-alike [] ys same = refl
-length-alike (x ∷ xs) [] same = absurd (omega (arith, same))
-length-alike (x ∷ xs) (y ∷ ys) same = ap suc (length-alike xs ys (omega (arith, same)))
+pub length-equal_bits : (xs ys : List Bool) → length xs ≡ length ys → length (equal_bits bits xs ys).bits ≡ length xs
+length-equal_bits [] ys same = refl
+length-equal_bits (x ∷ xs) [] same = absurd (omega (arith, same))
+length-equal_bits (x ∷ xs) (y ∷ ys) same = ap suc (length-equal_bits xs ys (omega (arith, same)))
 
 equal_low : (m n : ℕ) (b : Bool) → nat_eq m n ≡ nat_eq (truth b + 2 * m) (truth b + 2 * n)
 equal_low m n true = grind (arith, nat_tests)
@@ -50,17 +50,17 @@ equal_apart' : (m n : ℕ) → false ≡ nat_eq (0 + 2 * m) (1 + 2 * n)
 equal_apart' m n = grind (arith, nat_tests)
 
 -- all bits are alike where the numbers are equal
-pub alike_number : (xs ys : List Bool) → length xs ≡ length ys → list_all (λ x. x) (alike bits xs ys).bits ≡ nat_eq (number_up xs) (number_up ys)
-alike_number [] [] same = refl
-alike_number [] (y ∷ ys) same = absurd (omega (arith, same))
-alike_number (x ∷ xs) [] same = absurd (omega (arith, same))
-alike_number (true ∷ xs) (true ∷ ys) same = alike_number xs ys (omega (arith, same)) ∙ equal_low (number_up xs) (number_up ys) true
-alike_number (false ∷ xs) (false ∷ ys) same = alike_number xs ys (omega (arith, same)) ∙ equal_low (number_up xs) (number_up ys) false
-alike_number (true ∷ xs) (false ∷ ys) same = equal_apart (number_up xs) (number_up ys)
-alike_number (false ∷ xs) (true ∷ ys) same = equal_apart' (number_up xs) (number_up ys)
+pub equality_number : (xs ys : List Bool) → length xs ≡ length ys → list_all (λ x. x) (equal_bits bits xs ys).bits ≡ nat_eq (number_up xs) (number_up ys)
+equality_number [] [] same = refl
+equality_number [] (y ∷ ys) same = absurd (omega (arith, same))
+equality_number (x ∷ xs) [] same = absurd (omega (arith, same))
+equality_number (true ∷ xs) (true ∷ ys) same = equality_number xs ys (omega (arith, same)) ∙ equal_low (number_up xs) (number_up ys) true
+equality_number (false ∷ xs) (false ∷ ys) same = equality_number xs ys (omega (arith, same)) ∙ equal_low (number_up xs) (number_up ys) false
+equality_number (true ∷ xs) (false ∷ ys) same = equal_apart (number_up xs) (number_up ys)
+equality_number (false ∷ xs) (true ∷ ys) same = equal_apart' (number_up xs) (number_up ys)
 
 -- whether the words are equal is whether their numbers are
 pub equal_number : (xs ys : List Bool) → length xs ≡ length ys → (equal bits xs ys).bits ≡ nat_eq (number_up xs) (number_up ys) ∷ []
 equal_number xs ys same =
-    let zs = (alike bits xs ys).bits in
-    all_every (reverse zs) ∙ ap (λ b. b ∷ []) (list_all-reverse zs ∙ alike_number xs ys same)
+    let zs = (equal_bits bits xs ys).bits in
+    all_every (reverse zs) ∙ ap (λ b. b ∷ []) (list_all-reverse zs ∙ equality_number xs ys same)

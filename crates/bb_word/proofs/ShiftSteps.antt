@@ -8,7 +8,7 @@ use Rattle.bb_net.specs.declared.cell.Cell.TheVariants as cell
 use Rattle.bb_net.specs.Netlists.{Netlist}
 use Rattle.bb_word.specs.declared.shifts.Direction.{Direction}
 use Rattle.bb_word.specs.declared.shifts.Direction.TheVariants as ways
-use Rattle.bb_word.specs.Gates.{Made, behind, bits}
+use Rattle.bb_word.specs.Gates.{Made, after, bits}
 use Rattle.bb_word.specs.Circuits.{choices, shifted}
 use Rattle.bb_word.specs.Laws.Formulas.{Formula, Mux, formulas}
 use Rattle.bb_word.specs.Inside.Adding.{with_cells, nothing, Adds, HasConstants}
@@ -103,8 +103,8 @@ IsShifted-step d bits amount old now new current slice stage distance next i cho
           let st : choices formulas (part choice) (mv n (map part slice)) (map part slice) ≡ choices formulas (part choice) (mv distance (map part slice)) (map part slice) = ap (λ l. choices formulas (part choice) l (map part slice)) near in
           let rest = map part (drop (i + 1) amount) in
           ap₂ (λ a c. shifted formulas mv n a c) (parts_more part amount i choice below is) (ap (map part) (sym same))
-          ∙ ap (λ s. behind s (shifted formulas mv (n + n) rest s)) st
-          ∙ ap₂ (λ c s. behind c (shifted formulas mv (n + n) rest s)) (sym (Adds-cells now new stage one adds part meets)) (sym (Adds-bits now new stage one adds part meets)));
+          ∙ ap (λ s. after s (shifted formulas mv (n + n) rest s)) st
+          ∙ ap₂ (λ c s. after c (shifted formulas mv (n + n) rest s)) (sym (Adds-cells now new stage one adds part meets)) (sym (Adds-bits now new stage one adds part meets)));
       there = adds.there;
       long = wide ∙ short;
       count = omega (arith, grown, short, before.count);

@@ -5,7 +5,7 @@ use Rattle.std.proofs.lemmas.List.{length-append, drop_all}
 use Rattle.std.proofs.lemmas.List.Elements.{All-nil, All-cons}
 use Rattle.bb_net.specs.declared.cell.Cell.TheVariants as cell
 use Rattle.bb_net.specs.Netlists.{Netlist}
-use Rattle.bb_word.specs.Gates.{Made, behind}
+use Rattle.bb_word.specs.Gates.{Made, after}
 use Rattle.bb_word.specs.Circuits.{complements, sum, difference}
 use Rattle.bb_word.specs.Laws.Formulas.{Formula, Xor, And, Or, Not, formulas}
 use Rattle.bb_word.specs.Inside.Adding.{with_cells, nothing, ahead, Adds, digit_cells, HasConstants}
@@ -84,4 +84,4 @@ IsDifference old mid new left right inverses slice places same has first second 
     Adds-chain old mid new inverses places (λ part. both_complements (map part right)) (λ part. sum formulas (part 1) (map part left) (map part slice)) (λ part. difference formulas (map part left) (map part right)) first second
     (λ part meets bits.
     let one = part_one new.cells part (Adds-constants mid new places (λ p. sum formulas (p 1) (map p left) (map p slice)) nothing (Adds-constants old mid inverses (λ p. both_complements (map p right)) nothing has first) second) meets in
-    ap₂ (λ o l. behind (complements formulas (map part right)) (sum formulas o (map part left) l)) one (ap (map part) same ∙ bits))
+    ap₂ (λ o l. after (complements formulas (map part right)) (sum formulas o (map part left) l)) one (ap (map part) same ∙ bits))

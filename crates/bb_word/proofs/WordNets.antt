@@ -4,7 +4,7 @@ use Rattle.std.specs.List.{range_with_len}
 use Rattle.std.proofs.Math.Path.{ap₂}
 use Rattle.std.proofs.lemmas.List.{append-nil, length-map, length-replicate, take_more}
 use Rattle.bb_bits.specs.Numbers.{number_of}
-use Rattle.bb_lists.proofs.Maps.{reverse-map}
+use Rattle.bb_lemmas.proofs.Maps.{reverse-map}
 use Rattle.bb_net.specs.Netlists.{Netlist, IsNetlist}
 use Rattle.bb_net.specs.Values.{bit_of, flat}
 use Rattle.bb_ast.specs.declared.operators.WordOp.{WordOp}

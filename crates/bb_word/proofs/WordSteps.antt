@@ -1,9 +1,9 @@
--- Operators on two words, one circuit behind the other.
+-- Operators on two words, one circuit after the other.
 use Rattle.std.proofs.Common.{◌≡◌, ◌∙◌, ℕ, List, [], ◌∷◌, ◌++◌, map, sym, ap, subst, append_assoc}
 use Rattle.bb_net.specs.Netlists.{Netlist}
 use Rattle.bb_word.specs.declared.joint.Joint.{Joint}
 use Rattle.bb_word.specs.declared.joint.Joint.TheVariants as joints
-use Rattle.bb_word.specs.Gates.{Made, behind}
+use Rattle.bb_word.specs.Gates.{Made, after}
 use Rattle.bb_word.specs.Circuits.{sum, folded, joined_all, truths}
 use Rattle.bb_word.specs.Laws.Formulas.{Formula, formulas}
 use Rattle.bb_word.specs.Inside.Adding.{nothing, Adds, HasConstants, joint_gate, joint_none}
@@ -33,8 +33,8 @@ IsTruth joint old mid last new left right both a b place pair first second third
     let one : (ℕ → Formula) → Made Formula = λ part. folded formulas.either formulas.zero (map part left) in
     let two : (ℕ → Formula) → Made Formula = λ part. folded formulas.either formulas.zero (map part right) in
     let end : (ℕ → Formula) → Made Formula = λ part. joined_all op (joint_none formulas joint) (map part both) in
-    let rest : (ℕ → Formula) → Made Formula = λ part. behind (two part).cells (joined_all op formulas.zero (part a ∷ (two part).bits)) in
-    let back = Adds-chain mid last new (b ∷ []) (place ∷ []) two end rest second third (λ part meets bits. ap (λ l. behind (two part).cells (joined_all op (joint_none formulas joint) l)) (ap (map part) pair ∙ ap (λ l. part a ∷ l) bits)) in
+    let rest : (ℕ → Formula) → Made Formula = λ part. after (two part).cells (joined_all op formulas.zero (part a ∷ (two part).bits)) in
+    let back = Adds-chain mid last new (b ∷ []) (place ∷ []) two end rest second third (λ part meets bits. ap (λ l. after (two part).cells (joined_all op (joint_none formulas joint) l)) (ap (map part) pair ∙ ap (λ l. part a ∷ l) bits)) in
     Adds-chain old mid new (a ∷ []) (place ∷ []) one rest (λ part. truths formulas op (map part left) (map part right)) first back
     (λ part meets bits.
     let whole = ap (λ l. joined_all op formulas.zero (l ++ (two part).bits)) bits in

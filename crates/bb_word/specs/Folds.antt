@@ -15,7 +15,7 @@ fold_circuit g ops.NotAny xs = inverted g (folded g.either g.zero xs)
 fold_circuit g ops.Odd xs = folded g.differ g.zero xs
 fold_circuit g ops.NotOdd xs = inverted g (folded g.differ g.zero xs)
 
--- how many cells they make of so many bits
+-- how many cells they make of w bits
 abbrev pub fold_cells : FoldOp → ℕ → ℕ
 fold_cells ops.None w = (w - 1) + 1
 fold_cells ops.All w = w - 1

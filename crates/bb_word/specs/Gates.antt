@@ -30,8 +30,8 @@ pub record Made (A : Type 0) : Type 0 where
   pub cells : List A
 
 -- with more cells made before
-abbrev pub behind : {A : Type 0} → List A → Made A → Made A
-behind cells made = record { bits = made.bits; cells = cells ++ made.cells }
+abbrev pub after : {A : Type 0} → List A → Made A → Made A
+after cells made = record { bits = made.bits; cells = cells ++ made.cells }
 
 -- with a further bit below and the cells made for it
 abbrev pub above : {A : Type 0} → A → List A → Made A → Made A

@@ -10,7 +10,7 @@ use Rattle.bb_ast.specs.declared.operators.WordOp.TheVariants as ops
 abbrev pub truth : Bool → ℕ
 truth b = if b then 1 else 0
 
--- how many bits the result has, where the left operand has so many
+-- how many bits the result has, by the number of bits of the left operand
 abbrev pub word_width : WordOp → ℕ → ℕ
 word_width ops.Plus left = left
 word_width ops.Minus left = left

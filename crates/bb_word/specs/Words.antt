@@ -19,7 +19,7 @@ word_circuit g ops.Right xs ys = shifted g (down g.zero) 1 ys xs
 word_circuit g ops.Both xs ys = truths g g.both xs ys
 word_circuit g ops.Either xs ys = truths g g.either xs ys
 
--- how many cells they make of operands with so many bits
+-- how many cells they make, by the numbers of bits of both operands
 abbrev pub word_cells : WordOp → ℕ → ℕ → ℕ
 word_cells ops.Plus left right = 5 * left
 word_cells ops.Minus left right = 6 * left
@@ -49,7 +49,7 @@ HaveOneWidth ops.Right left right = Unit {0}
 HaveOneWidth ops.Both left right = Unit {0}
 HaveOneWidth ops.Either left right = Unit {0}
 
--- what a netlist of an operator asks: operands have one bit or more, and one width where they need it
+-- what a netlist of an operator requires: operands have one bit or more, and one width where they need it
 pub record AreWidths (op : WordOp) (left right : ℕ) : Type 0 where
   pub some_left : 1 ≤ left
   pub some_right : 1 ≤ right

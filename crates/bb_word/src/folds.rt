@@ -1,4 +1,6 @@
-//! Reductions. Words stand with their least significant bit first.
+//! Reductions (IEEE 1364-2005, 5.1.11) and `!` (5.1.9), as chains of gates from the most significant bit on. In this
+//! crate words have their least significant bit first, as carries go. On no bits the definitions give a constant, so
+//! that the laws need no premise on widths; no text has such a word.
 
 ghost use Rattle.std.specs.Prelude.{◌≡◌, ◌+◌, ◌-◌, ◌<◌, ◌≤◌, ◌^◌, ◌∷◌, [], All, length, map, IfOk, OnOk};
 ghost use Rattle.bb_word.specs.Circuits.{folded, inverted, truths};
@@ -13,7 +15,7 @@ use bb_bits::NoMemory;
 use bb_net::Net;
 use std::alloc::Global;
 
-/// Adds a gate over all bits, from the most significant one on.
+/// From the most significant bit on: the definition fixes the order, since a cell is known by its formula.
 pub(crate) fn add_folded(
     alloc: Global,
     net: &mut Net,
@@ -31,7 +33,6 @@ pub(crate) fn add_folded(
     reduce(net, joint, &highest_first)
 }
 
-/// Adds the same and a complement.
 fn add_inverted(alloc: Global, net: &mut Net, joint: Joint, bits: &[u32]) -> Result<u32, NoMemory>
     requires some { 1 ≤ length bits.now }
     requires room { length net.old.cells + length bits.now < 2 ^ 32 }
@@ -43,7 +44,7 @@ fn add_inverted(alloc: Global, net: &mut Net, joint: Joint, bits: &[u32]) -> Res
     add_complement(net, place)
 }
 
-/// Adds a reduction.
+/// `!` is the complement of "some bit is 1", as `~|` is.
 pub(crate) fn add_fold(
     alloc: Global,
     net: &mut Net,

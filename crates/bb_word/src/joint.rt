@@ -1,4 +1,5 @@
-//! Gates of two operands.
+//! Gates of two operands. One enumeration for and, or and exclusive or lets a chain of gates be written and proved
+//! once.
 
 ghost use Rattle.std.specs.Prelude.{◌≡◌, ◌+◌, ◌-◌, ◌<◌, ◌≤◌, ◌^◌, ◌∷◌, [], All, length, map, IfOk, OnOk};
 ghost use Rattle.bb_word.specs.Circuits.{joined_all};
@@ -8,7 +9,6 @@ ghost use Rattle.bb_word.specs.Inside.Adding.{Adds, nothing, with_cells, joint_c
 use bb_bits::NoMemory;
 use bb_net::{Cell, Net};
 
-/// A gate of two operands: and, or, exclusive or.
 #[derive(Clone, Copy)]
 pub(crate) enum Joint {
     Both,
@@ -16,7 +16,6 @@ pub(crate) enum Joint {
     Differ,
 }
 
-/// Adds such a gate.
 pub(crate) fn add_gate(net: &mut Net, joint: Joint, a: u32, b: u32) -> Result<u32, NoMemory>
     requires room { length net.old.cells + 1 < 2 ^ 32 }
     requires left { a < length net.old.cells }
@@ -31,7 +30,8 @@ pub(crate) fn add_gate(net: &mut Net, joint: Joint, a: u32, b: u32) -> Result<u3
     }
 }
 
-/// Adds a gate between what there is so far and each further bit, from the first one on.
+/// A chain and not a tree, though both take one cell less than there are bits: a chain is a fold over the list, as the
+/// definition is.
 pub(crate) fn reduce(net: &mut Net, joint: Joint, bits: &[u32]) -> Result<u32, NoMemory>
     requires some { 1 ≤ length bits.now }
     requires room { length net.old.cells + length bits.now < 2 ^ 32 }

@@ -1,4 +1,6 @@
-//! Netlists of one operator.
+//! Netlists of one operator. Their inputs and outputs have the most significant bit first, as values of expressions do,
+//! while circuits start at the least significant one; words are turned round here, once for the operands and once for
+//! the result.
 
 ghost use Rattle.std.specs.Prelude.{◌≡◌, ◌+◌, ◌<◌, ◌≤◌, ◌^◌, ◌++◌, ◌∷◌, [], Bool, List, All, length, map, reverse, IfOk, OnOk};
 ghost use Rattle.std.specs.List.{range_with_len};
@@ -18,7 +20,7 @@ use bb_bits::{NoMemory, number_doubles};
 use bb_net::{Net, value_is_unique};
 use std::alloc::Global;
 
-/// The places of the bits of a word whose most significant bit is at a place, the least significant one first.
+/// `first` is the place of the most significant bit; the result has the least significant bit first.
 fn operand(alloc: Global, first: u32, width: u32) -> Result<Vec<u32>, NoMemory>
     requires { first + width < 2 ^ 32 }
     ensures { IfOk result (λ places. places.items ≡ reverse (range_with_len first width)) }
@@ -31,7 +33,6 @@ fn operand(alloc: Global, first: u32, width: u32) -> Result<Vec<u32>, NoMemory>
     Ok(places)
 }
 
-/// Adds outputs at these places.
 fn add_outs(net: &mut Net, places: &[u32]) -> Result<(), NoMemory>
     requires there { All (λ place. place < length net.old.cells) places.now }
     ensures ok { OnOk result (net.new ≡ with_outs net.old places.now) }
@@ -42,11 +43,12 @@ fn add_outs(net: &mut Net, places: &[u32]) -> Result<(), NoMemory>
     Ok(())
 }
 
-/// The netlist of an operator on two words: its inputs are the bits of the left word and then of the right one, and its outputs are
-/// those of the result, the most significant bit of each word first.
+/// Inputs are the bits of the left word and then of the right one, and outputs those of the result, the most
+/// significant bit of each word first.
 ///
-/// Widths are from 1 to 65,536, and both are equal but for `<<`, `>>`, `&&` and `||`. There are at most 2,000,000 cells of the
-/// operator. A sum, a difference and a shift have the width of the left word, and every other result has one bit.
+/// Widths are from 1 to 65,536, and both are equal except for `<<`, `>>`, `&&` and `||`; the operator has at most
+/// 2,000,000 cells. A sum, a difference and a shift have the width of the left word, and every other result has one
+/// bit.
 pub fn word(alloc: Global, op: WordOp, left: u32, right: u32) -> Result<Net, NoMemory>
     requires widths { AreWidths op left right }
     requires few_left { left ≤ 65536 }
@@ -69,10 +71,9 @@ pub fn word(alloc: Global, op: WordOp, left: u32, right: u32) -> Result<Net, NoM
     Ok(net)
 }
 
-/// The netlist of a reduction of a word: its inputs are the bits of the word, the most significant one first, and its output is the
-/// result.
+/// Inputs are the bits of the word, the most significant first, and the only output is the result.
 ///
-/// The width is from 1 to 65,536. Behind the constants and the inputs its cells are those of the circuit.
+/// The width is from 1 to 65,536. After the constants and the inputs, the cells are those of the circuit, in its order.
 pub fn fold(alloc: Global, op: FoldOp, width: u32) -> Result<Net, NoMemory>
     requires some { 1 ≤ width }
     requires few { width ≤ 65536 }

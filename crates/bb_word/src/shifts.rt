@@ -1,4 +1,5 @@
-//! Shifts by stages. Words stand with their least significant bit first.
+//! Shifts by an amount that is a word (IEEE 1364-2005, 5.1.12), as a logarithmic shifter: one stage of choices for each
+//! bit of the amount, and not one row for each distance.
 
 ghost use Rattle.std.specs.Prelude.{◌≡◌, ◌+◌, ◌*◌, ◌<◌, ◌≤◌, ◌^◌, ◌∷◌, [], min, All, length, map, IfOk, OnOk};
 ghost use Rattle.bb_net.specs.declared.cell.Cell.TheVariants.{Mux};
@@ -11,14 +12,14 @@ use bb_bits::NoMemory;
 use bb_net::{Cell, Net};
 use std::alloc::Global;
 
-/// Where the bits of a shift go: to more significant places, or to less significant ones.
+/// `Up` is `<<`, to more significant places.
 #[derive(Clone, Copy)]
 pub(crate) enum Direction {
     Up,
     Down,
 }
 
-/// The places of the bits so many places below, or of the constant 0.
+/// Place 0 is the constant 0, which comes in at the low end.
 #[tactic(auto, using(crate::proofs::MoveLemmas::near))]
 fn moved_up(alloc: Global, bits: &[u32], distance: usize) -> Result<Vec<u32>, NoMemory>
     requires near { distance ≤ length bits.now }
@@ -29,7 +30,7 @@ fn moved_up(alloc: Global, bits: &[u32], distance: usize) -> Result<Vec<u32>, No
     Ok(moved)
 }
 
-/// The places of the bits so many places above, or of the constant 0.
+/// Place 0 comes in at the high end.
 #[tactic(auto, using(crate::proofs::MoveLemmas::near))]
 fn moved_down(alloc: Global, bits: &[u32], distance: usize) -> Result<Vec<u32>, NoMemory>
     requires near { distance ≤ length bits.now }
@@ -41,7 +42,6 @@ fn moved_down(alloc: Global, bits: &[u32], distance: usize) -> Result<Vec<u32>, 
     Ok(moved)
 }
 
-/// The places of the bits so many places away, or of the constant 0.
 fn moved_word(
     alloc: Global,
     direction: Direction,
@@ -57,7 +57,7 @@ fn moved_word(
     }
 }
 
-/// The distance of the next stage, which is not past the width.
+/// Stops at the width, where everything is shifted out: an amount may have more bits than any distance that matters.
 fn doubled(distance: usize, width: usize) -> usize
     requires { distance ≤ 65536 }
     ensures { result ≡ min width (2 * distance) }
@@ -69,7 +69,6 @@ fn doubled(distance: usize, width: usize) -> usize
     }
 }
 
-/// Adds a choice: the second where the first is 1, else the third.
 fn add_choice(net: &mut Net, choice: u32, a: u32, b: u32) -> Result<u32, NoMemory>
     requires room { length net.old.cells + 1 < 2 ^ 32 }
     requires choice { choice < length net.old.cells }
@@ -81,7 +80,6 @@ fn add_choice(net: &mut Net, choice: u32, a: u32, b: u32) -> Result<u32, NoMemor
     net.push(Cell::Mux(choice, a, b))
 }
 
-/// Adds a choice between each two bits.
 fn add_choices(
     alloc: Global,
     net: &mut Net,
@@ -106,7 +104,6 @@ fn add_choices(
     Ok(places)
 }
 
-/// Adds one stage: the bits moved by a distance where the choice is 1, else as they are.
 fn add_stage(
     alloc: Global,
     net: &mut Net,
@@ -129,7 +126,8 @@ fn add_stage(
     add_choices(alloc, net, choice, &moved, bits)
 }
 
-/// Adds a shift: a stage for each bit of the amount, by a distance that doubles from 1 until it is the width.
+/// The amount's least significant bit comes first and moves by 1; each further one moves by twice as much, up to the
+/// width.
 pub(crate) fn add_shift(
     alloc: Global,
     net: &mut Net,

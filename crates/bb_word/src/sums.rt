@@ -1,4 +1,5 @@
-//! Complements, sums and differences. Words stand with their least significant bit first.
+//! Complements, sums and differences (IEEE 1364-2005, 5.1.5), by a ripple-carry adder of five gates for each bit. Every
+//! bit makes the same cells, so the carry out of the last one is a cell that nothing reads.
 
 ghost use Rattle.std.specs.Prelude.{◌≡◌, ◌+◌, ◌*◌, ◌<◌, ◌^◌, ◌∷◌, [], All, length, map, IfOk, OnOk};
 ghost use Rattle.bb_net.specs.declared.cell.Cell.TheVariants.{Not};
@@ -10,14 +11,12 @@ use bb_bits::NoMemory;
 use bb_net::{Cell, Net};
 use std::alloc::Global;
 
-/// The places of one bit of a sum and of the carry that goes on.
 #[derive(Clone, Copy)]
 struct Digit {
     sum: u32,
     carry: u32,
 }
 
-/// Adds a complement.
 pub(crate) fn add_complement(net: &mut Net, a: u32) -> Result<u32, NoMemory>
     requires room { length net.old.cells + 1 < 2 ^ 32 }
     requires there { a < length net.old.cells }
@@ -27,7 +26,6 @@ pub(crate) fn add_complement(net: &mut Net, a: u32) -> Result<u32, NoMemory>
     net.push(Cell::Not(a))
 }
 
-/// Adds a complement of each bit.
 pub(crate) fn add_complements(
     alloc: Global,
     net: &mut Net,
@@ -48,7 +46,7 @@ pub(crate) fn add_complements(
     Ok(places)
 }
 
-/// Adds one bit of a sum.
+/// A full adder. `differ` is shared between sum and carry, which makes five gates of six.
 fn add_digit(net: &mut Net, a: u32, b: u32, c: u32) -> Result<Digit, NoMemory>
     requires room { length net.old.cells + 5 < 2 ^ 32 }
     requires left { a < length net.old.cells }
@@ -66,7 +64,6 @@ fn add_digit(net: &mut Net, a: u32, b: u32, c: u32) -> Result<Digit, NoMemory>
     Ok(Digit { sum, carry })
 }
 
-/// Adds the sum of two words and a carry.
 pub(crate) fn add_sum(
     alloc: Global,
     net: &mut Net,
@@ -92,7 +89,7 @@ pub(crate) fn add_sum(
     Ok(places)
 }
 
-/// Adds the difference of two words.
+/// In two's complement: the complement of the right word and a carry in of 1, so the adder serves for both.
 pub(crate) fn add_difference(
     alloc: Global,
     net: &mut Net,

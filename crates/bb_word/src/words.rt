@@ -1,4 +1,5 @@
-//! Operators on two words. Words stand with their least significant bit first.
+//! One operator on two words. The six comparisons come from two circuits: `>` and `<=` exchange their operands, and
+//! `<=`, `>=` and `!=` add one complement.
 
 ghost use Rattle.std.specs.Prelude.{◌≡◌, ◌+◌, ◌-◌, ◌*◌, ◌<◌, ◌≤◌, ◌^◌, ◌∷◌, [], All, length, map, IfOk, OnOk};
 ghost use Rattle.bb_word.specs.Circuits.{sum, inverted, less, equal, truths};
@@ -16,7 +17,7 @@ use bb_bits::NoMemory;
 use bb_net::Net;
 use std::alloc::Global;
 
-/// Adds a gate between whether some bit of the left word is 1 and whether some bit of the right word is.
+/// `&&` and `||` (IEEE 1364-2005, 5.1.9): each word is true if some bit is 1, so widths need not be equal.
 fn add_truths(
     alloc: Global,
     net: &mut Net,
@@ -37,7 +38,6 @@ fn add_truths(
     reduce(net, joint, &[first, second])
 }
 
-/// Adds whether the left word is not less.
 fn add_not_less(net: &mut Net, left: &[u32], right: &[u32]) -> Result<u32, NoMemory>
     requires same { length left.now ≡ length right.now }
     requires room { length net.old.cells + 2 * length left.now + 1 < 2 ^ 32 }
@@ -52,7 +52,6 @@ fn add_not_less(net: &mut Net, left: &[u32], right: &[u32]) -> Result<u32, NoMem
     Ok(place)
 }
 
-/// Adds whether two words are not equal.
 fn add_unequal(alloc: Global, net: &mut Net, left: &[u32], right: &[u32]) -> Result<u32, NoMemory>
     requires same { length left.now ≡ length right.now }
     requires some { 1 ≤ length left.now }
@@ -67,7 +66,6 @@ fn add_unequal(alloc: Global, net: &mut Net, left: &[u32], right: &[u32]) -> Res
     Ok(place)
 }
 
-/// The list of one place.
 fn alone(alloc: Global, place: u32) -> Result<Vec<u32>, NoMemory>
     ensures { IfOk result (λ places. places.items ≡ place ∷ []) }
 {
@@ -76,7 +74,6 @@ fn alone(alloc: Global, place: u32) -> Result<Vec<u32>, NoMemory>
     Ok(places)
 }
 
-/// Adds the sum of two words.
 fn add_plain_sum(
     alloc: Global,
     net: &mut Net,
@@ -94,7 +91,6 @@ fn add_plain_sum(
     add_sum(alloc, net, 0, left, right)
 }
 
-/// Adds an operator on two words.
 #[tactic(auto, using(crate::proofs::WordSteps::one_place))]
 pub(crate) fn add_word(
     alloc: Global,

@@ -1,7 +1,7 @@
--- Well-formed syntax. Names are printable, nothing is a run, a level or a list of no parts, operators on words stand together where
--- they are of one level of precedence, sized numbers have 1 to 128 bits,
--- other numbers are below 2 ^ 31, left sides are what may be assigned, and a clock is a net or one bit of a net. What a text
--- reads as is well formed; how deep it nests, and which names of a header are declared there, is not said here.
+-- Well-formed syntax. Names are printable, nothing is a run, a level or a list of no parts, operators on words are in
+-- one expression only where they are of one level of precedence, sized numbers have 1 to 128 bits, other numbers are
+-- below 2 ^ 31, left sides are what may be assigned, and a clock is a net or one bit of a net. What a text reads as is
+-- well formed; how deep it nests, and which names of a header are declared there, is not said here.
 use Rattle.std.specs.Prelude.{◌≡◌, true, ℕ, ◌<◌, ◌≤◌, ◌^◌, List, [], ◌∷◌, Option, None, length, IfSome}
 use Rattle.std.specs.List.{AllByRecursion}
 use Rattle.bb_bits.specs.Names.{IsPrintable}
@@ -82,7 +82,7 @@ IsNetOrBit e = ⊥
 abbrev pub IsFormedGate : Option (List ℕ) × List Expression → Type 0
 IsFormedGate x = IfSome x.0 IsPrintable × (2 ≤ length x.1) × AllByRecursion IsFormedExpression x.1
 
--- by order a lone open place is none; by name there is a connection
+-- by order a lone open connection is none; by name there is a connection
 abbrev pub IsFormedConns : PlainConns → Type 0
 IsFormedConns (Order (None ∷ [])) = ⊥
 IsFormedConns (Order places) = AllByRecursion (λ place. IfSome place IsFormedExpression) places

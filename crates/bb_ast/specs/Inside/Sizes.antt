@@ -1,6 +1,6 @@
--- How large a source is. In an expression each net, number, run of ~, operator, condition and pair of braces counts one; in a
--- module each declared name, gate, instance, terminal and place, with the expressions beside them. Names of gates, ranges and
--- the words of items count nothing.
+-- How large a source is. In an expression each net, number, run of ~, operator, condition and pair of braces counts
+-- one; in a module each declared name, gate, instance, terminal and connection, with the expressions beside them. Names
+-- of gates, ranges and the words of items count nothing.
 use Rattle.std.specs.Prelude.{ℕ, ◌+◌, List, Option, Some, None, length, sum_by}
 use Rattle.bb_ast.specs.Syntax.{Expression, Net, Bit, Part, Sized, Plain, Not, Fold, Chain, Words, Cond, Concat, Repeat, Operands, no_operand, operand, WordOperands, no_word, word, Arms, no_arm, arm, Parts, no_part, part}
 use Rattle.bb_ast.specs.Syntax.{PlainConns, Order, Named, PlainBody, Ports, Nets, Regs, Supply, Assign, Gates, Calls, Always, PlainModule}
@@ -41,11 +41,11 @@ abbrev pub optional_size : Option Expression → ℕ
 optional_size None = 0
 optional_size (Some e) = expression_size e
 
--- a name or a place, with its expression
+-- a name or a connection, with its expression
 abbrev pub pair_size : List ℕ × Option Expression → ℕ
 pair_size x = 1 + optional_size x.1
 
--- the places of an instance
+-- the connections of an instance
 abbrev pub conns_size : PlainConns → ℕ
 conns_size (Order places) = sum_by (λ place. 1 + optional_size place) places
 conns_size (Named all) = sum_by pair_size all
@@ -54,7 +54,7 @@ conns_size (Named all) = sum_by pair_size all
 abbrev pub gate_size : Option (List ℕ) × List Expression → ℕ
 gate_size x = 1 + sum_by (λ e. 1 + expression_size e) x.1
 
--- an instance with its places
+-- an instance with its connections
 abbrev pub call_size : List ℕ × PlainConns → ℕ
 call_size x = 1 + conns_size x.1
 

@@ -1,6 +1,7 @@
--- The cases of a recursion see the operands of a level of operators, the arms of a conditional and the parts of a concatenation one by
--- one, as they stand. The laws hold at every type of result, also at functions, which no type of the code stands for: so they
--- are proved here, and the functions of the crate have them as contracts for every two types of the code.
+-- The cases of a recursion see the operands of a level of operators, the arms of a conditional and the parts of a
+-- concatenation one by one, in their order. The laws hold at every type of result, also at functions, which are no type
+-- of the code: so they are proved here, and the functions of the crate have them as contracts for every two types of
+-- the code.
 use Rattle.std.specs.Prelude.{◌≡◌, List, [], ◌∷◌, map}
 use Rattle.std.proofs.Common.{refl, ap}
 use Rattle.bb_ast.specs.declared.expr.Op.{Op}

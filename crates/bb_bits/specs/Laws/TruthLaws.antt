@@ -1,6 +1,6 @@
 -- What a reader expects of truth tables, quantified variables, beads and the sizes of sets.
 use Rattle.std.specs.Prelude.{◌≡◌, ◌≢◌, ◌<◌, ◌≤◌, ◌↔◌, ◌⊎◌, ℕ, suc, ◌+◌, ◌^◌, Bool, true, false, ◌&&◌, ◌||◌, List, ◌∷◌, ◌++◌, length, All, Contains, slice_index_or, slice_set}
-use Rattle.bb_bits.specs.Truth.{Truth, Halves, IsTruthTable, truth_bits, truth_at, lifted, constant, variable, combined, joined, quantified, quantified_block, IsBead, IsBeadOf, IsBeadOfAny, IsAlignedBead}
+use Rattle.bb_bits.specs.Truth.{Truth, Halves, IsTruthTable, truth_bits, truth_at, lifted, constant, variable, combined, joined_tables, quantified, quantified_block, IsBead, IsBeadOf, IsBeadOfAny, IsAlignedBead}
 use Rattle.bb_bits.specs.TruthSets.{AreDistinct, HasSize, HasMoreThan, HasAtMost}
 
 -- tables, their lists of bits, and their bits at points
@@ -9,7 +9,7 @@ pub record TableLaws : Type 0 where
   pub length_is_power : (v : ℕ) (t : Truth) → IsTruthTable v t → length (truth_bits t) ≡ 2 ^ v
   pub bits_have_table : (v : ℕ) (bits : List Bool) → length bits ≡ 2 ^ v → (t : Truth) × IsTruthTable v t × (truth_bits t ≡ bits)
   pub bits_fix_table : (v : ℕ) (t u : Truth) → IsTruthTable v t → IsTruthTable v u → truth_bits t ≡ truth_bits u → t ≡ u
-  -- tables that agree at every point are equal
+  -- tables with the same bit at every point are equal
   pub points_fix_table : (v : ℕ) (t u : Truth) → IsTruthTable v t → IsTruthTable v u →
       ((point : List Bool) → length point ≡ v → truth_at t point ≡ truth_at u point) → t ≡ u
   -- what the operations make are tables
@@ -24,7 +24,7 @@ pub record TableLaws : Type 0 where
   pub variable_at_point : (n v : ℕ) (point : List Bool) → v < n → length point ≡ n → truth_at (variable n v) point ≡ slice_index_or point v false
   pub combined_at_point : (v : ℕ) (op : Bool → Bool → Bool → Bool) (t u w : Truth) (point : List Bool) → IsTruthTable v t → IsTruthTable v u → IsTruthTable v w → length point ≡ v →
       truth_at (combined op t u w) point ≡ op (truth_at t point) (truth_at u point) (truth_at w point)
-  -- variables in front on which nothing depends
+  -- variables before the first, on which nothing depends
   pub lifted_once_more : (k : ℕ) (t : Truth) → lifted (suc k) t ≡ lifted k (Halves t t)
   pub lifted_at_point : (k : ℕ) (t : Truth) (x y : List Bool) → length x ≡ k → truth_at (lifted k t) (x ++ y) ≡ truth_at t y
   pub lifted_same : (k : ℕ) (t u : Truth) → lifted k t ≡ lifted k u → t ≡ u
@@ -39,7 +39,7 @@ pub record QuantifierLaws : Type 0 where
   -- a variable before the first on which a table depends, that variable, and a later one; of the last one the halves are
   -- quantified
   pub earlier : (op : Bool → Bool → Bool) → ((b : Bool) → op b b ≡ b) → (k v : ℕ) (t : Truth) → v < k → quantified op v (lifted k t) ≡ lifted k t
-  pub here : (op : Bool → Bool → Bool) (v : ℕ) (a b : Truth) → quantified op v (lifted v (Halves a b)) ≡ lifted (suc v) (joined op a b)
+  pub here : (op : Bool → Bool → Bool) (v : ℕ) (a b : Truth) → quantified op v (lifted v (Halves a b)) ≡ lifted (suc v) (joined_tables op a b)
   pub later : (op : Bool → Bool → Bool) (k v : ℕ) (t : Truth) → quantified op (k + v) (lifted k t) ≡ lifted k (quantified op v t)
   -- a block of variables quantified by "for all" gives 1 where every list of their values does, and 0 where some list does
   pub all_true : (v k : ℕ) (t : Truth) (x y z : List Bool) → length x ≡ v → length y ≡ k → IsTruthTable (v + (k + length z)) t →
@@ -67,7 +67,7 @@ pub record BeadLaws : Type 0 where
 
 -- how many members a set has
 pub record SizeLaws : Type 0 where
-  -- a list without repetition whose entries all stand in another is no longer than that
+  -- a list without repetition whose entries are all in another is no longer than that
   pub fewer_entries : (ts us : List Truth) → AreDistinct ts → All (Contains us) ts → length ts ≤ length us
   -- lists without repetition and with the same entries have one length
   pub one_length : (ts us : List Truth) → AreDistinct ts → AreDistinct us → ((t : Truth) → Contains ts t ↔ Contains us t) → length ts ≡ length us

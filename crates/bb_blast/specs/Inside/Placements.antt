@@ -1,17 +1,17 @@
--- By this file `outlines_of` and `list_cells` promise to crates above; no clause of `elaborate` rests on it.
+-- By this file `module_templates` and `list_cells` promise to crates above; no clause of `elaborate` rests on it.
 -- The scopes and the bits of a design by numbers: scopes in elaboration order, bits in net order.
 use Rattle.std.specs.Prelude.{◌≡◌, ℕ, ◌<◌, List, [], ◌∷◌, length, take, Option, Some, None, slice_get}
 use Rattle.std.specs.List.{AllZip, flat_map}
 use Rattle.bb_ast.specs.Syntax.{PlainModule}
-use Rattle.bb_names.specs.Spots.{module_named}
-use Rattle.bb_blast.specs.declared.outline.Outline.{Outline}
+use Rattle.bb_names.specs.Sites.{module_named}
+use Rattle.bb_blast.specs.declared.template.ModuleTemplate.{ModuleTemplate}
 use Rattle.bb_blast.specs.declared.placed.Instance as placed
 use Rattle.bb_blast.specs.declared.placed.Placed.{Placed}
 use Rattle.bb_blast.specs.declared.stored.Stored.{Stored}
 use Rattle.bb_design.specs.Hierarchy.{Design, Scope, Instance, path_to, instances_of, scopes, is_box}
 use Rattle.bb_design.specs.NetBits.{Bit, net_order, scope_bits, written_bits}
 use Rattle.bb_design.specs.Registers.{RegisterBit, registers}
-use Rattle.bb_blast.specs.Inside.Outlines.{IsOutline}
+use Rattle.bb_blast.specs.Inside.ModuleTemplates.{IsModuleTemplate}
 
 -- the scope with a number
 abbrev pub IsScopeAt : Design → ℕ → Scope → Type 0
@@ -22,7 +22,7 @@ abbrev pub IsInstanceAt : Design → ℕ → Scope → Option placed.Instance �
 IsInstanceAt d k s None = (k ≡ 0) × (s.path ≡ [])
 IsInstanceAt d k s (Some i) = (i.scope < k) × (q : Scope) × IsScopeAt d i.scope q × (s.path ≡ path_to q.path i.name)
 
--- the scope of an instance that stands in a scope has this number
+-- the scope of an instance that is in a scope has this number
 abbrev pub IsChildAt : Design → Scope → ℕ → Instance → Type 0
 IsChildAt d s k i = (m : PlainModule) × (module_named d.text i.target ≡ Some m) × IsScopeAt d k (record { path = path_to s.path i.name; source = m })
 
@@ -38,10 +38,10 @@ pub record ArePlaced (d : Design) (all : List Placed) : Type 0 where
   pub count : length all ≡ length (scopes d)
   pub each : (k : ℕ) (s : Scope) (p : Placed) → IsScopeAt d k s → slice_get all k ≡ Some p → IsPlacedAt d k s p
 
--- the module of each scope has its outline, which stands at the place of the module
-abbrev pub AreOutlined : Design → List Placed → List Outline → Type 0
-AreOutlined d all outlines = (k : ℕ) (s : Scope) (p : Placed) → IsScopeAt d k s → slice_get all k ≡ Some p
-    → (o : Outline) × (slice_get outlines p.module ≡ Some o) × IsOutline d.text s.source o
+-- the module of each scope has its template, which is at the place of the module
+abbrev pub AreTemplated : Design → List Placed → List ModuleTemplate → Type 0
+AreTemplated d all templates = (k : ℕ) (s : Scope) (p : Placed) → IsScopeAt d k s → slice_get all k ≡ Some p
+    → (o : ModuleTemplate) × (slice_get templates p.module ≡ Some o) × IsModuleTemplate d.text s.source o
 
 -- a register bit by numbers
 pub record IsStoredAt (d : Design) (x : Stored) (r : RegisterBit) : Type 0 where

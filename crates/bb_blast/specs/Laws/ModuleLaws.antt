@@ -7,12 +7,12 @@ use Rattle.bb_names.specs.Inside.Checked.{ModuleFacts, HasNets, IsChecked, synta
 use Rattle.bb_names.specs.Ranges.{range_width}
 use Rattle.bb_design.specs.Hierarchy.{Path, Scope}
 use Rattle.bb_design.specs.NetBits.{bits_of_net, written_bits}
-use Rattle.bb_blast.specs.Inside.Outlines.{net_start}
-use Rattle.bb_blast.specs.Inside.Outlining.{module_in}
+use Rattle.bb_blast.specs.Inside.ModuleTemplates.{net_start}
+use Rattle.bb_blast.specs.Inside.BitBlasting.{module_in}
 
--- a bit of a net stands behind the bits of the nets before it
-abbrev pub NetBitsStandAtStarts : Type 0
-NetBitsStandAtStarts = (path : Path) (nets : List NetInfo) (k : ℕ) (net : NetInfo) (place : ℕ) → slice_get nets k ≡ Some net → place < range_width net.range
+-- a bit of a net comes after the bits of the nets before it
+abbrev pub NetBitsAreAtStarts : Type 0
+NetBitsAreAtStarts = (path : Path) (nets : List NetInfo) (k : ℕ) (net : NetInfo) (place : ℕ) → slice_get nets k ≡ Some net → place < range_width net.range
     → slice_get (flat_map (bits_of_net path) nets) (net_start nets k + place) ≡ Some (record { path = path; net = net.name; place = place })
 
 -- the module at a place of a checked text, whose nets are those of the text
@@ -20,12 +20,12 @@ pub record IsModuleAt (checked : List ModuleFacts) (k : ℕ) (f : ModuleFacts) :
   pub is : module_in checked k ≡ syntax f
   pub nets : IsChecked checked → HasNets f
 
-abbrev pub ModulesStandAtPlaces : Type 0
-ModulesStandAtPlaces = (checked : List ModuleFacts) (k : ℕ) (f : ModuleFacts) → slice_get checked k ≡ Some f → IsModuleAt checked k f
+abbrev pub ModulesAreAtPlaces : Type 0
+ModulesAreAtPlaces = (checked : List ModuleFacts) (k : ℕ) (f : ModuleFacts) → slice_get checked k ≡ Some f → IsModuleAt checked k f
 
--- and the module of the text that stands there
-abbrev pub TextModulesStandAtPlaces : Type 0
-TextModulesStandAtPlaces = (checked : List ModuleFacts) (k : ℕ) (m : PlainModule) → slice_get (map syntax checked) k ≡ Some m → (k < length checked) × (module_in checked k ≡ m)
+-- and the module of the text at that place
+abbrev pub TextModulesAreAtPlaces : Type 0
+TextModulesAreAtPlaces = (checked : List ModuleFacts) (k : ℕ) (m : PlainModule) → slice_get (map syntax checked) k ≡ Some m → (k < length checked) × (module_in checked k ≡ m)
 
 -- the left side of a register has a bit
 abbrev pub HasBits : Expression → Type 0
@@ -38,9 +38,9 @@ LeftHasBits body = Unit {0}
 abbrev pub LeftSidesHaveBits : Type 0
 LeftSidesHaveBits = (m : PlainModule) → IsFormed m → (item : PlainItem) → Contains m.items item → LeftHasBits item.body
 
--- these laws as one
+-- these laws as one record, which a lemma takes as one argument
 pub record ModuleLaws : Type 0 where
-  pub net_bit_at : NetBitsStandAtStarts
-  pub modules : ModulesStandAtPlaces
-  pub checked : TextModulesStandAtPlaces
+  pub net_bit_at : NetBitsAreAtStarts
+  pub modules : ModulesAreAtPlaces
+  pub checked : TextModulesAreAtPlaces
   pub left_sides : LeftSidesHaveBits

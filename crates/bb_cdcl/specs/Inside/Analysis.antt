@@ -16,8 +16,7 @@ AreFalsified entries c = (m : Lit) → c m ≡ true → falsified entries m ≡ 
 abbrev pub OthersAreFalsified : List Entry → Lit → Literals → Type 0
 OthersAreFalsified entries l c = (m : Lit) → c m ≡ true → (same_literal l m || falsified entries m) ≡ true
 
--- The negation of the literal that stands at `place` is in the clause, and the entries before `at` make the others
--- false.
+-- The negation of the literal at `place` is in the clause, and the entries before `at` make the others false.
 pub record IsCovered (entries : List Entry) (c : Literals) (place at : ℕ) : Type 0 where
   pub entry : Entry
   pub at_place : slice_get entries place ≡ Some entry
@@ -25,14 +24,14 @@ pub record IsCovered (entries : List Entry) (c : Literals) (place at : ℕ) : Ty
   pub before : at ≤ place
   pub others : OthersAreFalsified (take at entries) (opposite entry.lit) c
 
--- Back to this decision the trail may be taken: then the clause implies the negation of the literal at `place`.
-pub record IsJump (entries : List Entry) (c : Literals) (place back : ℕ) : Type 0 where
+-- The trail may be taken back to this decision: then the clause implies the negation of the literal at `place`.
+pub record IsBackjump (entries : List Entry) (c : Literals) (place back : ℕ) : Type 0 where
   pub covered : IsCovered entries c place back
   pub decision : Entry
   pub at_back : slice_get entries back ≡ Some decision
   pub decided : decision.reason ≡ None
 
--- The resolvent is what the chain makes of the first clause.
+-- The resolvent is the clause that the chain derives from the first clause.
 pub record IsResolved (clauses : List (List Lit)) (first : Literals) (pairs : List (ℕ × ℕ)) (resolvent : PartialResolvent) : Type 0 where
   pub made : chain (map literals_of clauses) first pairs ≡ Some (held resolvent)
   pub listed : AreListed resolvent

@@ -1,9 +1,9 @@
--- What a clause says under the values so far.
+-- The status of a clause under a partial assignment.
 use Rattle.std.specs.Prelude.{ℕ, ◌≡◌, ◌<◌, ◌||◌, Bool, true, Option, Some, None, List, slice_get, length, Any, All}
 use Rattle.bb_cnf.specs.declared.clauses.Lit.{Lit}
 use Rattle.bb_cnf.specs.Clauses.{literals_of, same_literal}
-use Rattle.bb_cdcl.specs.declared.examination.Standing.{Standing}
-use Rattle.bb_cdcl.specs.declared.examination.Standing.TheVariants as standings
+use Rattle.bb_cdcl.specs.declared.examination.ClauseStatus.{ClauseStatus}
+use Rattle.bb_cdcl.specs.declared.examination.ClauseStatus.TheVariants as statuses
 use Rattle.bb_cdcl.specs.declared.events.Event.{Event}
 use Rattle.bb_cdcl.specs.declared.events.Event.TheVariants as events
 use Rattle.bb_cdcl.specs.Inside.Trails.{opposite, value_at, is_false}
@@ -20,8 +20,8 @@ pub record IsUnitClause (values : List (Option Bool)) (clause : List Lit) (l : L
 
 -- the literals so far are false, but for the free one
 abbrev pub IsSoFar : List (Option Bool) → List Lit → Option Lit → Type 0
-IsSoFar values front None = IsFalseClause values front
-IsSoFar values front (Some l) = IsUnitClause values front l
+IsSoFar values prefix None = IsFalseClause values prefix
+IsSoFar values prefix (Some l) = IsUnitClause values prefix l
 
 -- one of its literals has no value
 pub record IsOpenClause (values : List (Option Bool)) (clause : List Lit) (l : Lit) : Type 0 where
@@ -32,22 +32,22 @@ pub record IsOpenClause (values : List (Option Bool)) (clause : List Lit) (l : L
 abbrev pub IsSatisfied : List (Option Bool) → List Lit → Type 0
 IsSatisfied values clause = Any (λ l. is_false values (opposite l) ≡ true) clause
 
-abbrev pub Stands : List (Option Bool) → List Lit → Standing → Type 0
-Stands values clause (standings.True l) = IsSatisfied values clause
-Stands values clause standings.False = IsFalseClause values clause
-Stands values clause (standings.Unit l) = IsUnitClause values clause l
-Stands values clause (standings.Open l) = IsOpenClause values clause l
+abbrev pub HasStatus : List (Option Bool) → List Lit → ClauseStatus → Type 0
+HasStatus values clause (statuses.True l) = IsSatisfied values clause
+HasStatus values clause statuses.False = IsFalseClause values clause
+HasStatus values clause (statuses.Unit l) = IsUnitClause values clause l
+HasStatus values clause (statuses.Open l) = IsOpenClause values clause l
 
 -- the clause of this number is false
 pub record IsConflict (clauses : List (List Lit)) (values : List (Option Bool)) (k : ℕ) : Type 0 where
   pub clause : List Lit
-  pub stands : slice_get clauses k ≡ Some clause
+  pub occurs : slice_get clauses k ≡ Some clause
   pub is_false : IsFalseClause values clause
 
 -- the clause of this number implies the literal
 pub record IsUnit (clauses : List (List Lit)) (values : List (Option Bool)) (l : Lit) (k : ℕ) : Type 0 where
   pub clause : List Lit
-  pub stands : slice_get clauses k ≡ Some clause
+  pub occurs : slice_get clauses k ≡ Some clause
   pub is_unit : IsUnitClause values clause l
   pub in_range : l.var < length values
 

@@ -1,4 +1,4 @@
--- What a solver may answer: a model, or a refutation by resolution; or nothing, after so many clauses were learned.
+-- What a solver may answer: a model, a refutation by resolution, or nothing once enough clauses were learned.
 use Rattle.std.specs.Prelude.{ℕ, Bool, IsSome, List, map}
 use Rattle.bb_cnf.specs.declared.clauses.Lit.{Lit}
 use Rattle.bb_cnf.specs.declared.refutation.Step.{Step}
@@ -31,12 +31,12 @@ HasModel formula = (bits : List Bool) × IsModel bits formula
 abbrev pub formula : ℕ → List (List Lit) → Formula
 formula vars clauses = record { vars = vars; clauses = clauses }
 
--- what is said of the outcome of an attempt that came to one
+-- the outcome of an attempt that was decided meets the condition
 abbrev pub IfDecided : Attempt → (Outcome → Type 0) → Type 0
 IfDecided (attempts.Decided outcome) P = P outcome
 IfDecided (attempts.Spent steps) P = Unit {0}
 
--- what is said of the steps of one that was given up
+-- the steps of an attempt that was given up meet the condition
 abbrev pub IfSpent : Attempt → (List Step → Type 0) → Type 0
 IfSpent (attempts.Decided outcome) P = Unit {0}
 IfSpent (attempts.Spent steps) P = P steps.items

@@ -4,7 +4,7 @@ use Rattle.bb_cnf.specs.Clauses.{Formula}
 use Rattle.bb_cdcl.specs.declared.state.State.{State}
 use Rattle.bb_cdcl.specs.Inside.States.{IsDerived, IsReady}
 
--- So many of the clauses were given when the last search ended, which may go on with the others.
+-- The first `known` clauses were given when the last search ended; the next may go on with the others.
 pub record IsResting (known : ℕ) (formula : Formula) (s : State) : Type 0 where
   pub known_within : known ≤ length formula.clauses
   pub derived : IsDerived (take known formula.clauses) s

@@ -1,4 +1,4 @@
--- What a solver that goes on may answer.
+-- What an incremental solver may answer.
 use Rattle.std.specs.Prelude.{◌≡◌}
 use Rattle.bb_cnf.specs.Clauses.{Formula}
 use Rattle.bb_cnf.specs.Chains.{IsRefutation}

@@ -1,21 +1,21 @@
--- What stays true of a solver.
+-- Invariants of the solver.
 use Rattle.std.specs.Prelude.{ℕ, ◌≡◌, ◌<◌, Bool, false, true, Some, IfSome, IfNone, Option, List, ◌++◌, ◌-◌, map, length, slice_get, All}
 use Rattle.bb_cnf.specs.declared.clauses.Lit.{Lit}
 use Rattle.bb_cnf.specs.declared.refutation.Step.{Step}
 use Rattle.bb_cnf.specs.Clauses.{literals_of, lists_of}
 use Rattle.bb_cnf.specs.Chains.{made_by, IsEmpty, EndsEmpty}
 use Rattle.bb_cnf.specs.Inside.PartialResolvent.{held, AreListed}
-use Rattle.bb_cdcl.specs.declared.analysis.Jump.{Jump}
+use Rattle.bb_cdcl.specs.declared.analysis.Backjump.{Backjump}
 use Rattle.bb_cdcl.specs.declared.state.State.{State}
-use Rattle.bb_cdcl.specs.declared.state.Turn.{Turn}
-use Rattle.bb_cdcl.specs.declared.state.Turn.TheVariants as turns
+use Rattle.bb_cdcl.specs.declared.state.Iteration.{Iteration}
+use Rattle.bb_cdcl.specs.declared.state.Iteration.TheVariants as iterations
 use Rattle.bb_cdcl.specs.Inside.Dates.{AreDerived}
 use Rattle.bb_cdcl.specs.Inside.Trails.{AreNew, HaveReasons, AreValues, HasRoom}
-use Rattle.bb_cdcl.specs.Inside.Analysis.{IsJump}
+use Rattle.bb_cdcl.specs.Inside.Analysis.{IsBackjump}
 use Rattle.bb_cdcl.specs.Inside.Events.{IsSatisfied}
 use Rattle.bb_cdcl.specs.Inside.Measure.{left}
 
--- all clauses by their numbers: the learned ones stand behind the given ones
+-- all clauses by their numbers: the learned ones come after the given ones
 abbrev pub all_clauses : List (List Lit) → State → List (List Lit)
 all_clauses given s = given ++ lists_of s.learned.items
 
@@ -48,23 +48,23 @@ pub record Grows (given : List (List Lit)) (old new : State) : Type 0 where
 
 -- A step makes what the resolvent holds, and by this the trail may be taken back; or it is the empty clause. The trail
 -- is as before.
-pub record Leads (given : List (List Lit)) (old new : State) (jump : Option Jump) (step : Step) : Type 0 where
+pub record Leads (given : List (List Lit)) (old new : State) (backjump : Option Backjump) (step : Step) : Type 0 where
   pub derived : IsDerived given new
   pub trail : new.trail ≡ old.trail
   pub made : made_by (map literals_of (all_clauses given new)) step ≡ Some (held new.resolvent)
   pub listed : AreListed new.resolvent
-  pub some : IfSome jump (λ j. IsJump old.trail.entries.items (held new.resolvent) j.place j.back)
-  pub none : IfNone jump (IsEmpty (held new.resolvent))
+  pub some : IfSome backjump (λ j. IsBackjump old.trail.entries.items (held new.resolvent) j.place j.back)
+  pub none : IfNone backjump (IsEmpty (held new.resolvent))
 
 -- The last clause was learned, and by it the trail may be taken back; or it is the empty clause. The trail is as
 -- before.
-pub record Learns (given : List (List Lit)) (old new : State) (jump : Option Jump) : Type 0 where
+pub record Learns (given : List (List Lit)) (old new : State) (backjump : Option Backjump) : Type 0 where
   pub derived : IsDerived given new
   pub trail : new.trail ≡ old.trail
   pub clause : List Lit
   pub last : slice_get (all_clauses given new) (length (all_clauses given new) - 1) ≡ Some clause
-  pub some : IfSome jump (λ j. IsJump old.trail.entries.items (literals_of clause) j.place j.back)
-  pub none : IfNone jump (Refutes given new)
+  pub some : IfSome backjump (λ j. IsBackjump old.trail.entries.items (literals_of clause) j.place j.back)
+  pub none : IfNone backjump (Refutes given new)
   pub empty : (l : Lit) → held new.resolvent l ≡ false
   pub listed : AreListed new.resolvent
 
@@ -89,10 +89,10 @@ pub record Rests (given : List (List Lit)) (old new : State) : Type 0 where
   pub satisfied : All (IsSatisfied new.trail.values.items) given
   pub pauses : Pauses given old new
 
-abbrev pub Turns : List (List Lit) → State → State → Turn → Type 0
-Turns given old new turns.Going = IsDerived given new × Advances old new
-Turns given old new turns.Satisfied = Rests given old new
-Turns given old new turns.Refuted = Refutes given new
+abbrev pub Iterates : List (List Lit) → State → State → Iteration → Type 0
+Iterates given old new iterations.Going = IsDerived given new × Advances old new
+Iterates given old new iterations.Satisfied = Rests given old new
+Iterates given old new iterations.Refuted = Refutes given new
 
 -- At the end all clauses are true, or the steps refute them.
 abbrev pub Ends : List (List Lit) → State → State → Bool → Type 0

@@ -37,13 +37,13 @@ abbrev pub IsNew : List Entry → Lit → Type 0
 IsNew entries l = (falsified entries l ≡ false) × (falsified entries (opposite l) ≡ false)
 
 -- the clause of this number has the literal, and its other literals are false
-pub record IsReason (clauses : List (List Lit)) (front : List Entry) (l : Lit) (r : ℕ) : Type 0 where
+pub record IsReason (clauses : List (List Lit)) (prefix : List Entry) (l : Lit) (r : ℕ) : Type 0 where
   pub clause : List Lit
-  pub stands : slice_get clauses r ≡ Some clause
+  pub occurs : slice_get clauses r ≡ Some clause
   pub own : literals_of clause l ≡ true
-  pub others : (m : Lit) → literals_of clause m ≡ true → (same_literal l m || falsified front m) ≡ true
+  pub others : (m : Lit) → literals_of clause m ≡ true → (same_literal l m || falsified prefix m) ≡ true
 
--- each variable stands once
+-- each variable occurs once
 abbrev pub AreNew : List Entry → Type 0
 AreNew entries = (i : ℕ) (e : Entry) → slice_get entries i ≡ Some e → IsNew (take i entries) e.lit
 
@@ -55,7 +55,7 @@ HaveReasons clauses entries = (i : ℕ) (e : Entry) → slice_get entries i ≡ 
 abbrev pub AreValues : List Entry → List (Option Bool) → Type 0
 AreValues entries values = (m : Lit) → is_false values m ≡ falsified entries m
 
--- the entry where `more` given clauses come behind the first `given` ones
+-- the entry when `more` given clauses come after the first `given` ones
 abbrev pub moved_entry : ℕ → ℕ → Entry → Entry
 moved_entry given more e = record { lit = e.lit; reason = option_map (moved_number given more) e.reason }
 

@@ -1,12 +1,12 @@
--- Numbers of clauses where more given clauses come. The clauses that steps make stand behind all given ones, so the numbers of
--- given ones stay, and the others grow by as many as come.
+-- Clause numbers when more given clauses come. Derived clauses are numbered after all given ones, so numbers of given
+-- ones stay, and the others grow by as many as come.
 use Rattle.std.specs.Prelude.{◌≡◌, ℕ, ◌+◌, if◌then◌else◌, nat_lt, Some, List, ◌++◌, length, map}
 use Rattle.bb_cnf.specs.declared.refutation.Step.{Step}
 use Rattle.bb_cnf.specs.Clauses.{Literals}
 use Rattle.bb_cnf.specs.Chains.{derived}
 use Rattle.bb_cnf.specs.Lines.{step_numbers}
 
--- a clause's number where `more` given clauses come behind the first `given` ones
+-- a clause's number when `more` given clauses come after the first `given` ones
 abbrev pub moved_number : ℕ → ℕ → ℕ → ℕ
 moved_number given more n = if nat_lt n given then n else n + more
 
@@ -17,7 +17,7 @@ moved_pair given more pair = (moved_number given more pair.0, pair.1)
 abbrev pub moved_numbers : ℕ → ℕ → ℕ × List (ℕ × ℕ) → ℕ × List (ℕ × ℕ)
 moved_numbers given more numbers = (moved_number given more numbers.0, map (moved_pair given more) numbers.1)
 
--- steps that derive clauses derive them, with moved numbers, where more given clauses stand before the derived ones
+-- steps that derive clauses derive them, with moved numbers, when more given clauses come before the derived ones
 abbrev pub StepsMove : Type 0
 StepsMove = (given more learned : List Literals) (steps moved : List Step)
     → map step_numbers moved ≡ map (moved_numbers (length given) (length more)) (map step_numbers steps)

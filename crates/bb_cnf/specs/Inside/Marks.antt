@@ -1,5 +1,5 @@
--- Marks of variables in pages of 65,536: the mark of a variable stands in page x / 65536 at x % 65536. A page
--- that is not there, or is too short, has no mark.
+-- Marks of variables in pages of 65,536: the mark of a variable x is in page x / 65536 at x % 65536. A page that does
+-- not exist, or is too short, has no mark.
 use Rattle.std.specs.Prelude.{ℕ, ◌/◌, ◌%◌, Bool, false, Option, Some, None, List, Vec, slice_get, slice_index_or}
 use Rattle.std.specs.declared.alloc.Global.{Global}
 

@@ -1,4 +1,4 @@
--- What a cached result says, and what a call leaves of store and cache.
+-- The meaning of a cached result, and what a call leaves of store and cache.
 use Rattle.std.specs.Prelude.{◌≡◌, ◌<◌, ◌≤◌, ℕ, Bool, ◌&&◌, ◌||◌, if◌then◌else◌, List, length, Contains}
 use Rattle.lru.specs.LruCache.{LruCache}
 use Rattle.bb_bits.specs.Truth.{Truth, combined, quantified}

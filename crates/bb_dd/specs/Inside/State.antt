@@ -1,4 +1,4 @@
--- What the diagrams hold: a store of nodes, and a cache of results, the last used first.
+-- The state of the diagrams: a store of nodes, and a cache of results, the last used first.
 use Rattle.std.specs.Prelude.{ℕ, List}
 use Rattle.bb_uniq.specs.declared.store.Ref.{Ref}
 use Rattle.bb_uniq.specs.Inside.Nodes.{NodeStore, IsStore}

@@ -1,4 +1,4 @@
--- When a result needs no new node: whatever bits diagrams stand for, the result's bit is that of the operation.
+-- When a result needs no new node: whatever bits the diagrams have, the result's bit is that of the operation.
 use Rattle.std.specs.Prelude.{◌≡◌, ◌<◌, ◌⊎◌, ℕ, Bool, true, false}
 
 -- r has the operation's bit, whichever bit each diagram has, where 0 is false and 1 is true

@@ -6,7 +6,7 @@ use Rattle.bb_bits.specs.Names.{same_name, placed}
 use Rattle.bb_ast.specs.Syntax.{PlainModule}
 use Rattle.bb_design.specs.Hierarchy.{instances_of, Instance, Scope, path_to}
 use Rattle.std.specs.Option.{unwrap_or}
-use Rattle.bb_names.specs.Spots.{module_named}
+use Rattle.bb_names.specs.Sites.{module_named}
 
 -- the place of the first module of this name
 abbrev pub place_named : List PlainModule → List ℕ → Option ℕ
@@ -28,7 +28,7 @@ called text = map (callees text) text
 abbrev pub callee_place : List PlainModule → Instance → ℕ
 callee_place text i = unwrap_or (place_named text i.target) 0
 
--- that module, and the module in which the instance stands where there is none
+-- that module, and the module that contains the instance where there is none
 abbrev pub source_of : List PlainModule → PlainModule → Instance → PlainModule
 source_of text m i = unwrap_or (module_named text i.target) m
 

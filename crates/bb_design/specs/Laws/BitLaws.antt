@@ -1,4 +1,4 @@
--- Laws of the bits of a design: bits are told apart, and where they stand.
+-- Laws of the bits of a design: their identity, and where they are.
 use Rattle.std.specs.Prelude.{◌≡◌, ◌↔◌, ◌≤◌, Bool, true, List, filter, flat_map, length, map, sum_by, All, Contains}
 use Rattle.std.specs.List.{list_any}
 use Rattle.bb_ast.specs.Syntax.{Expression}
@@ -20,10 +20,10 @@ use Rattle.bb_design.specs.Laws.Wired.{IsWired}
 use Rattle.bb_design.specs.Worlds.{FitDesign}
 
 -- the test of bits is their equality
-abbrev pub BitsAreToldApart : Type 0
-BitsAreToldApart = (b c : Bit) → (same_bit b c ≡ true) ↔ (b ≡ c)
+abbrev pub BitsAreDistinguished : Type 0
+BitsAreDistinguished = (b c : Bit) → (same_bit b c ≡ true) ↔ (b ≡ c)
 
--- it finds a bit exactly where it stands
+-- it finds a bit exactly where it is
 abbrev pub BitsAreFound : Type 0
 BitsAreFound = (b : Bit) (bits : List Bit) → (list_any (same_bit b) bits ≡ true) ↔ Contains bits b
 
@@ -39,11 +39,11 @@ NetBitsAreOfScopes = (s : Scope) (test : NetInfo → Bool) (b : Bit) → Contain
 abbrev pub WrittenBitsAreFew : Type 0
 WrittenBitsAreFew = (s : Scope) (e : Expression) → length (written_bits s e) ≤ width_of s e
 
--- no bit of a design stands twice in net order
+-- no bit of a design is twice in net order
 abbrev pub BitsAreDistinct : Type 0
 BitsAreDistinct = (d : Design) → IsSound d.text → Contains d.text d.top → IsDistinct (net_order d)
 
--- the module of each scope stands in the text
+-- the module of each scope is in the text
 abbrev pub ScopesAreOfTexts : Type 0
 ScopesAreOfTexts = (d : Design) (s : Scope) → Contains d.text d.top → Contains (scopes d) s → Contains d.text s.source
 
@@ -56,8 +56,8 @@ abbrev pub PinTextsGoByModules : Type 0
 PinTextsGoByModules = (d : Design) → IsBounded d → (s t : Scope) → Contains (scopes d) s → Contains (scopes d) t → s.source.name ≡ t.source.name
     → (map (pin_text d) (input_bits s) ≡ map (pin_text d) (input_bits t)) × (map (pin_text d) (output_bits s) ≡ map (pin_text d) (output_bits t))
 
--- what holds of the design of a well-formed text without faults that is neither too deep nor too large: it is wired, so its bits
--- are there, and a path leads to each of its scopes
+-- what holds of the design of a well-formed text without faults that is neither too deep nor too large: it is wired, so
+-- its bits are there, and a path leads to each of its scopes
 abbrev pub BoundedDesignsAreWired : Type 0
 BoundedDesignsAreWired = (d : Design) → IsBounded d → IsWired d
 

@@ -1,15 +1,16 @@
--- The laws of designs on which crates above rest, as one.
-use Rattle.bb_design.specs.Laws.BitLaws.{BitsAreDistinct, BitsAreFound, BitsAreToldApart, BoundedConstructsAreLegal, BoundedDesignsAreWired, BoundedDesignsHaveTheirBits, BoundedDesignsHaveTheirScopes, NetBitsAreOfScopes, NetsHaveTheirBits, PartsAreConstructs, PinTextsGoByModules, ScopesAreOfTexts, WrittenBitsAreFew}
+-- The laws of designs on which crates above rest, as one record, which a lemma takes as its first argument: a dozen of
+-- them recur at each border, and one by one each function above would have to call them and pass them on.
+use Rattle.bb_design.specs.Laws.BitLaws.{BitsAreDistinct, BitsAreFound, BitsAreDistinguished, BoundedConstructsAreLegal, BoundedDesignsAreWired, BoundedDesignsHaveTheirBits, BoundedDesignsHaveTheirScopes, NetBitsAreOfScopes, NetsHaveTheirBits, PartsAreConstructs, PinTextsGoByModules, ScopesAreOfTexts, WrittenBitsAreFew}
 use Rattle.bb_design.specs.Laws.DriveLaws.{DependentBitsAreDriven, GatesGoByTerms, NextStatesGoByTerms, OutputsAreInOrder, OutputsGoByReadBits, RegistersAreAlwaysItems, RegistersAreParts, StoredBitsAreDriven, StoredBitsAreRegisters, TopInputsAreDriven}
-use Rattle.bb_design.specs.Laws.CauseLaws.{CausesAreInOrder, CyclesAreTold, RecursionsAreTold}
+use Rattle.bb_design.specs.Laws.CauseLaws.{CausesAreInOrder, CyclesAreReported, RecursionsAreReported}
 use Rattle.bb_design.specs.Laws.DrivenWorlds.{SoundConstructsAreLegal, VectorsHaveWorlds, WorldsAgreeWhereRead, WorldsAreDriven}
 use Rattle.bb_design.specs.Laws.HierarchyLaws.{PathTextsGrow, SoundTextsHaveInstances, SoundTextsHaveModulesApart, WalksAreByPlaces}
 use Rattle.bb_design.specs.Laws.{FirstRefusalsAreOne, NotSoundAndRefused, PathsLeadToScopes, SoundTextsHaveNamesApart}
-use Rattle.bb_design.specs.Laws.SoundSpots.{DeclaredNamesAreNets, SoundClocksHaveOneBit, SoundItemsAreLegal, SoundTextsHaveSoundSpots, UsedNetsAreThere}
+use Rattle.bb_design.specs.Laws.SoundSites.{DeclaredNamesAreNets, SoundClocksHaveOneBit, SoundItemsAreLegal, SoundTextsHaveSoundSites, UsedNetsAreThere}
 
 pub record DesignLaws : Type 0 where
   -- bits, scopes and parts
-  pub told_apart : BitsAreToldApart
+  pub distinguished : BitsAreDistinguished
   pub found : BitsAreFound
   pub net_bits : NetsHaveTheirBits
   pub of_scope : NetBitsAreOfScopes
@@ -33,16 +34,16 @@ pub record DesignLaws : Type 0 where
   pub next_states : NextStatesGoByTerms
   pub outputs_in_order : OutputsAreInOrder
   pub outputs_by_reads : OutputsGoByReadBits
-  pub recursion : RecursionsAreTold
-  pub cycle : CyclesAreTold
+  pub recursion : RecursionsAreReported
+  pub cycle : CyclesAreReported
   pub causes : CausesAreInOrder
   -- modules and instances
   pub instances : SoundTextsHaveInstances
   pub paths_grow : PathTextsGrow
   pub modules_apart : SoundTextsHaveModulesApart
   pub walks : WalksAreByPlaces
-  -- spots at which nothing is at fault
-  pub sound_spots : SoundTextsHaveSoundSpots
+  -- sites at which nothing is at fault
+  pub sound_sites : SoundTextsHaveSoundSites
   pub items_legal : SoundItemsAreLegal
   pub clock_width : SoundClocksHaveOneBit
   pub used_net : UsedNetsAreThere

@@ -12,7 +12,7 @@ use Rattle.bb_design.specs.Drivers.{Free, Drive, driven, drives_at, driven_bits}
 use Rattle.bb_design.specs.GateFunctions.{on_bits, on_terms, gate_gives}
 use Rattle.bb_design.specs.Hierarchy.{Design, Scope}
 use Rattle.bb_design.specs.NetBits.{Bit, net_order, top_inputs, top_outputs, written_bits}
-use Rattle.bb_design.specs.Reading.{IsRead}
+use Rattle.bb_design.specs.Reading.{IsReadBit}
 use Rattle.bb_design.specs.Registers.{RegisterBit, data_terms, registers, stored, stored_at}
 use Rattle.bb_design.specs.Worlds.{World, bit_in, next_bit, outputs_in}
 
@@ -48,7 +48,7 @@ RegistersAreParts = (d : Design) (r : RegisterBit) → Contains (registers d) r 
 abbrev pub RegistersAreAlwaysItems : Type 0
 RegistersAreAlwaysItems = (text : List PlainModule) (body : PlainBody) (a : PlainAlways) → Contains (body_constructs text body) (Register a) → body ≡ Always a
 
--- what a register is to become is what its terms give
+-- the next state of a register is what its terms give
 abbrev pub NextStatesGoByTerms : Type 0
 NextStatesGoByTerms = (w : World) (s : Scope) (a : PlainAlways) → low_bits (length (written_bits s a.left)) (value_in (w s.path) s a.right (context_width s a.left a.right)) ≡ map (term_bit (w s.path)) (data_terms s a)
 
@@ -61,4 +61,4 @@ OutputsAreInOrder = (d : Design) (w : World) → map (λ o. o.1) (outputs_in d w
 
 -- worlds that agree wherever a bit is read have the same bits at the cut outputs
 abbrev pub OutputsGoByReadBits : Type 0
-OutputsGoByReadBits = (d : Design) (w u : World) → ((b : Bit) → IsRead d b → bit_in w b ≡ bit_in u b) → cut_output_bits d w ≡ cut_output_bits d u
+OutputsGoByReadBits = (d : Design) (w u : World) → ((b : Bit) → IsReadBit d b → bit_in w b ≡ bit_in u b) → cut_output_bits d w ≡ cut_output_bits d u

@@ -10,15 +10,15 @@ use Rattle.bb_design.specs.Hierarchy.{Design, Scope, is_box}
 use Rattle.bb_design.specs.NetBits.{Bit, input_bits, output_bits}
 use Rattle.bb_design.specs.Contexts.{width_of}
 use Rattle.bb_design.specs.Constructs.{Construct, Assignment, GateInstance, Register, SupplyNet, InputConnection, OutputConnection, BoxContents, constructs_at, parts}
-use Rattle.bb_design.specs.Drivers.{Source, Free, MadeOf, Box, Drive, drives_at, drives}
+use Rattle.bb_design.specs.Drivers.{DrivingSource, Free, MadeOf, Box, Drive, drives_at, drives}
 use Rattle.bb_design.specs.Texts.{path_text}
 use Rattle.bb_design.specs.Worlds.{World, Vector, HasVector, bit_in, bits_in, Holds, IsWorld}
-use Rattle.bb_design.specs.Reading.{IsRead}
+use Rattle.bb_design.specs.Reading.{IsReadBit}
 use Rattle.bb_design.specs.Refusals.{IsShallow, AreDrivenOnce, AreDriven, IsAcyclic}
 use Rattle.bb_design.specs.Laws.{BitsAreThere, ScopesAreEnds}
 
 -- the source gives this bit
-abbrev pub Gives : Contents → World → Source → Bool → Type 0
+abbrev pub Gives : Contents → World → DrivingSource → Bool → Type 0
 Gives contents w Free b = Unit {0}
 Gives contents w (MadeOf path t) b = b ≡ term_bit (w path) t
 Gives contents w (Box s pin) b = b ≡ output_bit (contents (path_text s.path)) (bits_in w (input_bits s)) pin
@@ -26,14 +26,14 @@ Gives contents w (Box s pin) b = b ≡ output_bit (contents (path_text s.path)) 
 abbrev pub IsGiven : Contents → World → Drive → Type 0
 IsGiven contents w x = Gives contents w x.source (bit_in w x.bit)
 
--- an expression of so many bits that may be assigned
+-- an expression of this many bits that may be assigned
 pub record MayBeDriven (s : Scope) (count : ℕ) (e : Expression) : Type 0 where
   pub assignable : is_assignable e ≡ true
   pub width : width_of s e ≡ count
 
--- a construct is legal: terminals have one bit, and so has a clock that names a net, as each does in a text; connections are
--- as wide as their ports, and what an output is connected to may be assigned (IEEE 1364-2005, 7.1 and 12.3.9, in a profile);
--- contents of a box have its shape
+-- a construct is legal: terminals have one bit, and so has a clock that names a net, as each does in a text;
+-- connections are as wide as their ports, and what an output is connected to may be assigned (IEEE 1364-2005, 7.1 and
+-- 12.3.9, in a profile); contents of a box have its shape
 abbrev pub IsLegal : Contents → Scope → Construct → Type 0
 IsLegal contents s (Assignment left right) = Unit {0}
 IsLegal contents s (GateInstance gate outs ins) = All (MayBeDriven s 1) outs × All (λ e. width_of s e ≡ 1) ins
@@ -56,7 +56,7 @@ IsDrivenWorld d contents w = All (IsGiven contents w) (drives d)
 abbrev pub WorldsAgreeWhereRead : Type 0
 WorldsAgreeWhereRead = (d : Design) (contents : Contents) (x : Vector) (w v : World) → BitsAreThere d → AreDriven d → IsAcyclic d
     → IsDrivenWorld d contents w → IsDrivenWorld d contents v → HasVector d x w → HasVector d x v
-    → (b : Bit) → IsRead d b → bit_in w b ≡ bit_in v b
+    → (b : Bit) → IsReadBit d b → bit_in w b ≡ bit_in v b
 
 -- each vector and all contents have one
 abbrev pub VectorsHaveWorlds : Type 0

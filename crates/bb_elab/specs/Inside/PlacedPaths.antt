@@ -9,7 +9,7 @@ pub data IsPathAt (all : List Placed) : ℕ → Path → Type 0 where
   Top : {k : ℕ} {path : Path} (p : Placed) → slice_get all k ≡ Some p → p.instance ≡ None → path ≡ [] → IsPathAt all k path
   Below : {k : ℕ} {path : Path} (p : Placed) (i : placed.Instance) (above : Path) → slice_get all k ≡ Some p → p.instance ≡ Some i → path ≡ path_to above i.name → IsPathAt all i.scope above → IsPathAt all k path
 
--- an instance stands in a scope with a lower number
+-- an instance is in a scope with a lower number
 abbrev pub AreRooted : List Placed → Type 0
 AreRooted all = (k : ℕ) (p : Placed) → slice_get all k ≡ Some p → IfSome p.instance (λ i. i.scope < k)
 

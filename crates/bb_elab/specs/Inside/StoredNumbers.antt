@@ -2,9 +2,9 @@
 use Rattle.std.specs.Prelude.{◌≡◌, ℕ, ◌+◌, ◌<◌, ◌==◌, if◌then◌else◌, Bool, List, [], map, length, All, Option, None, slice_get, slice_index_or, Contains, Some}
 use Rattle.std.specs.List.{find, flat_map}
 use Rattle.std.specs.Option.{option_map_or}
-use Rattle.bb_blast.specs.declared.outline.Part.{Part}
-use Rattle.bb_blast.specs.declared.outline.Part.TheVariants as part
-use Rattle.bb_blast.specs.declared.outline.Outline.{Outline}
+use Rattle.bb_blast.specs.declared.template.Part.{Part}
+use Rattle.bb_blast.specs.declared.template.Part.TheVariants as part
+use Rattle.bb_blast.specs.declared.template.ModuleTemplate.{ModuleTemplate}
 use Rattle.bb_blast.specs.declared.placed.Placed.{Placed}
 use Rattle.bb_blast.specs.declared.stored.Stored.{Stored}
 use Rattle.bb_ast.specs.Syntax.{PlainAlways}
@@ -20,16 +20,16 @@ abbrev pub part_stored : Placed → Part → List Stored
 part_stored p (part.Register left right clock falling) = stored_from p.first left.items clock falling
 part_stored p part = []
 
-abbrev pub scope_stored : List Outline → Placed → List Stored
-scope_stored outlines p = option_map_or (λ o. if p.boxed then [] else flat_map (part_stored p) o.parts.items) (slice_get outlines p.module) []
+abbrev pub scope_stored : List ModuleTemplate → Placed → List Stored
+scope_stored templates p = option_map_or (λ o. if p.boxed then [] else flat_map (part_stored p) o.parts.items) (slice_get templates p.module) []
 
--- what a scope stores is there, among so many bits
+-- what a scope stores is there, among this many bits
 abbrev pub IsStorable : ℕ → Stored → Type 0
 IsStorable bits x = (x.bit < bits) × (x.clock < bits)
 
-pub record MayBeNoted (outlines : List Outline) (bits : ℕ) (p : Placed) : Type 0 where
-  pub outlined : p.module < length outlines
-  pub there : All (IsStorable bits) (scope_stored outlines p)
+pub record MayBeNoted (templates : List ModuleTemplate) (bits : ℕ) (p : Placed) : Type 0 where
+  pub templated : p.module < length templates
+  pub there : All (IsStorable bits) (scope_stored templates p)
 
 -- for each number the first register bit that has it
 abbrev pub AreNotes : List Stored → List (Option Stored) → Type 0

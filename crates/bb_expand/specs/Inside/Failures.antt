@@ -1,8 +1,8 @@
 -- Vectors at which tables fail.
 use Rattle.std.specs.Prelude.{◌≡◌, ◌≢◌, ℕ, ◌<◌, Bool, List, length, slice_index, All, AllPairs}
 use Rattle.bb_bits.specs.Tables.{TableBits}
-use Rattle.bb_filled.specs.Forced.{FailAt}
-use Rattle.bb_net.specs.Agreement.{IsVector}
+use Rattle.bb_subst.specs.Distinguishing.{FailAt}
+use Rattle.bb_net.specs.Equivalence.{IsVector}
 use Rattle.bb_net.specs.Netlists.{Netlist}
 use Rattle.bb_net.specs.Values.{bit_of}
 
@@ -10,7 +10,7 @@ use Rattle.bb_net.specs.Values.{bit_of}
 abbrev pub FailsAt : Netlist → Netlist → List TableBits → List Bool → Type 0
 FailsAt spec imp tables x = IsVector imp x × FailAt spec imp tables x
 
--- each of them has a property, and no two are one
+-- each of them has a property, and they are pairwise different
 pub record AreDistinctWith (P : List Bool → Type 0) (vectors : List (List Bool)) : Type 0 where
   pub each : All P vectors
   pub distinct : AllPairs ◌≢◌ vectors

@@ -1,6 +1,7 @@
--- Clauses whose models are the vectors at which two netlists without boxes differ: a miter (Brand, Verification of large
--- synthesized designs, 1993) in the clauses of Tseitin. Variables count from 1: first the inputs, then the cells of the
--- implementation, then those of the specification, and then one for each output, which is 1 exactly where the two differ there.
+-- Clauses whose models are the vectors at which two netlists without boxes differ: a miter (Brand, Verification of
+-- large synthesized designs, 1993) in the clauses of Tseitin. Variables count from 1: first the inputs, then the cells
+-- of the implementation, then those of the specification, and then one for each output, which is 1 exactly where the
+-- two differ there.
 use Rattle.std.specs.Prelude.{◌↔◌, ℕ, ◌+◌, Bool, List, [], ◌∷◌, ◌++◌, length, map, take, slice_index}
 use Rattle.std.specs.List.{flat_map, range_with_len}
 use Rattle.bb_net.specs.declared.cell.Cell.{Cell}
@@ -8,7 +9,7 @@ use Rattle.bb_net.specs.declared.cell.Cell.TheVariants.{Input, Xor}
 use Rattle.bb_net.specs.Netlists.{Netlist, IsNetlist, cell_at}
 use Rattle.bb_cdcl.specs.Inside.Outcomes.{HasModel}
 use Rattle.bb_cnf.specs.declared.clauses.Lit.{Lit}
-use Rattle.bb_cnf.specs.Clauses.{Formula, IsWithin, positive, negated}
+use Rattle.bb_cnf.specs.Clauses.{Formula, HasVariablesWithin, positive, negated}
 use Rattle.bb_cnf.specs.Truth.{IsModel}
 use Rattle.bb_miter.specs.Inside.Equivalence.{AreComparable, DiffersAt}
 use Rattle.bb_expand.specs.Expansions.{cell_clauses}
@@ -22,7 +23,7 @@ abbrev pub free_cell_clauses : (ℕ → ℕ) → ℕ → Cell → List (List Lit
 free_cell_clauses var y (Input i) = equal_clauses y (i + 1)
 free_cell_clauses var y cell = cell_clauses [] [] [] var y cell
 
--- the clauses of cells, where so many variables stand before theirs
+-- the clauses of cells, where `base` variables come before theirs
 abbrev pub cells_after : ℕ → List Cell → List (List Lit)
 cells_after base cells = flat_map (λ place. free_cell_clauses (λ k. base + k + 1) (base + place + 1) (cell_at cells place)) (range_with_len 0 (length cells))
 
@@ -61,4 +62,4 @@ ModelsAreDifferences = (spec imp : Netlist) → IsNetlist spec → IsNetlist imp
 
 -- all variables are in range
 abbrev pub FreeVariablesAreWithin : Type 0
-FreeVariablesAreWithin = (spec imp : Netlist) → IsNetlist spec → IsNetlist imp → AreComparable spec imp → IsWithin (free_clauses spec imp).vars (free_clauses spec imp).clauses
+FreeVariablesAreWithin = (spec imp : Netlist) → IsNetlist spec → IsNetlist imp → AreComparable spec imp → HasVariablesWithin (free_clauses spec imp).vars (free_clauses spec imp).clauses

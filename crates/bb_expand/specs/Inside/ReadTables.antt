@@ -1,5 +1,5 @@
--- The tables that a model of an expansion has in its first bits: those of the boxes that are shown, one for each kind, box by box,
--- row by row, output pin by output pin.
+-- The tables that a model of an expansion has in its first bits: those of the boxes that are shown, one for each
+-- sharing class, box by box, row by row, output pin by output pin.
 use Rattle.std.specs.Prelude.{ℕ, ◌*◌, ◌^◌, Bool, List, [], ◌∷◌, length, take, drop}
 use Rattle.bb_bits.specs.Tables.{TableBits}
 use Rattle.bb_net.specs.Netlists.{Pins}

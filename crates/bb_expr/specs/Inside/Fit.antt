@@ -1,6 +1,7 @@
--- What may be relied on at an expression that stands in a checked module: the nets that it names are nets of the module, the
--- bits that it selects are bits of these, a replication has copies, the operators on words of one expression are of one level of
--- precedence, and its width is one that a net may have (IEEE 1364-2005, 4.2, 5.1.2, 5.1.14 and 5.2.1, in a profile).
+-- What may be relied on at an expression of a checked module: the nets that it names are nets of the module, the bits
+-- that it selects are bits of these, a replication has copies, the operators on words of one expression are of one
+-- level of precedence, and its width is one that a net may have (IEEE 1364-2005, 4.2, 5.1.2, 5.1.14 and 5.2.1, in a
+-- profile).
 use Rattle.std.specs.Prelude.{◌≡◌, ◌≤◌, ℕ, true, List, Some, slice_get, All, Contains}
 use Rattle.std.specs.Map.{lookup}
 use Rattle.bb_bits.specs.Names.{same_name}
@@ -13,7 +14,7 @@ use Rattle.bb_names.specs.Declarations.{range_of}
 use Rattle.bb_names.specs.Faults.{widest}
 use Rattle.bb_names.specs.Nets.{net_names}
 use Rattle.bb_names.specs.Inside.Checked.{ModuleFacts, syntax}
-use Rattle.bb_expr.specs.Inside.Standing.{expressions_in}
+use Rattle.bb_expr.specs.Inside.Occurrences.{expressions_in}
 
 -- the ranges of the nets of a module
 abbrev pub ranges_in : ModuleFacts → Ranges
@@ -28,7 +29,7 @@ pub record HasNet (m : ModuleFacts) (n : List ℕ) : Type 0 where
   pub name : net.name ≡ n
   pub range : net.range ≡ ranges_in m n
 
--- its own name, select or count is right, and operators on words stand together where they are of one level
+-- its own name, select or count is right, and the operators on words beside each other are of one level
 abbrev pub IsRight : ModuleFacts → Expression → Type 0
 IsRight m (Net n) = HasNet m n
 IsRight m (Bit n i) = HasNet m n × (has_bits (ranges_in m n) i i ≡ true)

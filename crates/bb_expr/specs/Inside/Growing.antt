@@ -1,4 +1,4 @@
--- Lists of steps while they grow: which cells have been made so far, and the places of the bits.
+-- Lists of steps as they grow: which cells have been made so far, and the places of the bits.
 use Rattle.std.specs.Prelude.{◌≡◌, ◌<◌, ◌≤◌, ℕ, ◌+◌, ◌*◌, false, reverse, List, [], ◌∷◌, ◌++◌, map, length, All, slice_index_or}
 use Rattle.std.specs.List.{range_with_len, flat_map}
 use Rattle.std.specs.List.Sorted.{IsPermutation}
@@ -15,15 +15,15 @@ use Rattle.bb_expr.specs.Lists.{extended, bitwise}
 use Rattle.bb_expr.specs.Terms.{Term, Const, And, Or, Xor, terms}
 use Rattle.bb_word.specs.Words.{word_circuit}
 use Rattle.bb_word.specs.Folds.{fold_circuit}
-use Rattle.bb_expr.specs.Cells.{Made, made, inverted, any_bit, operated, chained, arm_made}
-use Rattle.bb_expr.specs.Lowered.{Reads, operators, term_at}
+use Rattle.bb_expr.specs.Cells.{MadeTerms, made, inverted, any_bit, operated, chained, arm_made}
+use Rattle.bb_expr.specs.Lowered.{ReadsEarlier, operators, term_at}
 
 abbrev pub step_at : List BitStep → ℕ → BitStep
 step_at all place = slice_index_or all place (steps.Const false)
 
 -- each step reads earlier ones, or a bit that a net has
 abbrev pub AreOrdered : List NetInfo → List BitStep → Type 0
-AreOrdered nets all = (k : ℕ) → k < length all → Reads nets k (step_at all k)
+AreOrdered nets all = (k : ℕ) → k < length all → ReadsEarlier nets k (step_at all k)
 
 -- the operators among the steps are these cells
 pub record AreSteps (nets : List NetInfo) (all : List BitStep) (cells : List Term) : Type 0 where
@@ -31,7 +31,7 @@ pub record AreSteps (nets : List NetInfo) (all : List BitStep) (cells : List Ter
   pub made : IsPermutation cells (operators nets all)
 
 -- the steps that were added make these bits and these cells, whatever was made before; and they are few
-pub record Adds (nets : List NetInfo) (m : Made) (old new : List BitStep) (bits : List ℕ) : Type 0 where
+pub record Adds (nets : List NetInfo) (m : MadeTerms) (old new : List BitStep) (bits : List ℕ) : Type 0 where
   pub more : List BitStep
   pub grows : new ≡ old ++ more
   pub within : All (λ k. k < length new) bits
@@ -39,7 +39,7 @@ pub record Adds (nets : List NetInfo) (m : Made) (old new : List BitStep) (bits 
   pub few : length new ≤ length old + (length bits + 3 * length m.cells)
   pub makes : (cells : List Term) → AreSteps nets old cells → AreSteps nets new (cells ++ m.cells) × (map (term_at nets new) bits ≡ m.bits)
 
--- a row of steps behind others, with its places
+-- a row of steps after others, with its places
 pub record AddsRow (rows old new : List BitStep) (places : List ℕ) : Type 0 where
   pub grows : new ≡ old ++ rows
   pub numbered : places ≡ range_with_len (length old) (length rows)
@@ -64,46 +64,46 @@ gate_term ops.Xor = Xor
 gate_term ops.Xnor = Xor
 
 -- whether some bit is 1
-abbrev pub reduced : Made → Made
+abbrev pub reduced : MadeTerms → MadeTerms
 reduced m = let any = any_bit m.bits in record { bits = any.0 ∷ []; cells = m.cells ++ any.1 }
 
 -- with zeros on the left
-abbrev pub widened : ℕ → Made → Made
+abbrev pub widened : ℕ → MadeTerms → MadeTerms
 widened w m = record { bits = extended (Const false) w m.bits; cells = m.cells }
 
 -- with a complement of each bit
-abbrev pub complemented : Made → Made
+abbrev pub complemented : MadeTerms → MadeTerms
 complemented m = record { bits = inverted m.bits; cells = m.cells ++ inverted m.bits }
 
 -- one expression's bits with another's, by an operator
-abbrev pub gated : Op → Made → Made → Made
+abbrev pub gated : Op → MadeTerms → MadeTerms → MadeTerms
 gated op m n = let bits = bitwise (gate_term op) m.bits n.bits in record { bits = bits; cells = m.cells ++ n.cells ++ bits }
 
 -- a circuit on one expression's bits and another's, which reads them from the least significant one upwards
-abbrev pub word_joined : WordOp → Made → Made → Made
+abbrev pub word_joined : WordOp → MadeTerms → MadeTerms → MadeTerms
 word_joined op m n = let circuit = word_circuit terms op (reverse m.bits) (reverse n.bits) in record { bits = reverse circuit.bits; cells = (m.cells ++ n.cells) ++ circuit.cells }
 
 -- the same on one expression's bits alone
-abbrev pub fold_joined : FoldOp → Made → Made
+abbrev pub fold_joined : FoldOp → MadeTerms → MadeTerms
 fold_joined op m = let circuit = fold_circuit terms op (reverse m.bits) in record { bits = reverse circuit.bits; cells = m.cells ++ circuit.cells }
 
 -- parts side by side, each at its own width
-abbrev pub beside : Ranges → List Expression → Made
+abbrev pub beside : Ranges → List Expression → MadeTerms
 beside ranges all = record {
   bits = flat_map (λ e. (made ranges e (own_width ranges e)).bits) all;
   cells = flat_map (λ e. (made ranges e (own_width ranges e)).cells) all;
 }
 
--- how many steps suffice for an expression's bits and cells while they are made
+-- a number of steps that suffices while an expression's bits and cells are made
 abbrev pub most_steps : ℕ → ℕ → ℕ
 most_steps width cells = width + 4 * cells
 
--- the operands of a chain behind what was made before them
-abbrev pub chained_on : Ranges → ℕ → Made → List (Op × Expression) → Made
+-- the operands of a chain after what was made before them
+abbrev pub chained_on : Ranges → ℕ → MadeTerms → List (Op × Expression) → MadeTerms
 chained_on ranges w m [] = m
 chained_on ranges w m (x ∷ xs) = let right = made ranges x.1 w in chained_on ranges w (chained m right (operated x.0 m.bits right.bits)) xs
 
 -- the arms of a conditional before what is made where no condition holds
-abbrev pub arms_on : Ranges → ℕ → Made → List (Expression × Expression) → Made
+abbrev pub arms_on : Ranges → ℕ → MadeTerms → List (Expression × Expression) → MadeTerms
 arms_on ranges w m [] = m
 arms_on ranges w m (x ∷ xs) = arm_made (made ranges x.0 (own_width ranges x.0)) (made ranges x.1 w) (arms_on ranges w m xs)

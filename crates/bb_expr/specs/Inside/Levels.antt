@@ -1,5 +1,5 @@
--- Operators on words of one level from the left, so far as a walk has come: the own width of what stands left of the next one, and
--- the width at which it is taken, which depends on the operators that follow.
+-- Operators on words of one level from the left, as far as a walk has come: the own width of the operands before the
+-- next operator, and the width at which they are taken, which depends on the operators that follow.
 use Rattle.std.specs.Prelude.{◌≡◌, ◌≤◌, ℕ, ◌+◌, ◌^◌, List, [], ◌∷◌, All}
 use Rattle.bb_ast.specs.declared.operators.WordOp.{WordOp}
 use Rattle.bb_ast.specs.Syntax.{Expression, word_operands}
@@ -7,7 +7,7 @@ use Rattle.bb_ast.specs.Levels.{IsOneLevel}
 use Rattle.bb_names.specs.Widths.{Ranges, own_width, operator_width, first_at, second_at}
 use Rattle.bb_names.specs.Inside.Checked.{ModuleFacts}
 use Rattle.bb_word.specs.Words.{word_cells}
-use Rattle.bb_expr.specs.Cells.{Made, made, word_made, cell_count}
+use Rattle.bb_expr.specs.Cells.{MadeTerms, made, word_made, cell_count}
 use Rattle.bb_expr.specs.Inside.Fit.{AreFit, ranges_in}
 use Rattle.bb_expr.specs.Inside.Growing.{most_steps}
 
@@ -29,8 +29,8 @@ words_cells ranges l (x ∷ xs) w =
     let t = taken ranges (operator_width x.0 l r) xs w in
     (cell_count ranges x.1 (second_at x.0 l r t) + word_cells x.0 (first_at x.0 l r t) (second_at x.0 l r t)) + words_cells ranges (operator_width x.0 l r) xs w
 
--- the operators and their right operands behind what was made of the left part
-abbrev pub words_on : Ranges → Made → ℕ → List (WordOp × Expression) → ℕ → Made
+-- the operators and their right operands after what was made of the left part
+abbrev pub words_on : Ranges → MadeTerms → ℕ → List (WordOp × Expression) → ℕ → MadeTerms
 words_on ranges m l [] w = m
 words_on ranges m l (x ∷ xs) w =
     let r = own_width ranges x.1 in

@@ -1,4 +1,4 @@
--- How many of an expression's cells its parts and its arms make, and a number as far as 64 bits can tell it.
+-- How many of an expression's cells its parts and its arms make, and a number saturated at 2^64 - 1.
 use Rattle.std.specs.Prelude.{ℕ, ◌+◌, ◌-◌, ◌*◌, ◌^◌, min}
 use Rattle.bb_ast.specs.declared.expr.Op.{Op}
 use Rattle.bb_ast.specs.Syntax.{Expression}

@@ -1,4 +1,4 @@
--- Laws of what stands in a checked module, of the names of nets, and of what may be assigned.
+-- Laws of the expressions of a checked module, of the names of nets, and of what may be assigned.
 use Rattle.std.specs.Prelude.{◌≡◌, ◌≢◌, ◌≤◌, ℕ, true, List, [], map, slice_get, IsSomeAnd, All, Contains}
 use Rattle.std.specs.List.{AllPairs, AllByRecursion}
 use Rattle.bb_ast.specs.Syntax.{Expression, PlainModule}
@@ -10,20 +10,20 @@ use Rattle.bb_names.specs.Inside.Checked.{ModuleFacts, IsChecked}
 use Rattle.bb_names.specs.Declarations.{range_of}
 use Rattle.bb_names.specs.Faults.{IsSound}
 use Rattle.bb_names.specs.Widths.{Ranges, own_width}
-use Rattle.bb_expr.specs.Inside.Standing.{expressions_in, StandsAt, StandsIn}
+use Rattle.bb_expr.specs.Inside.Occurrences.{expressions_in, OccursAt, OccursIn}
 use Rattle.bb_expr.specs.Terms.{Term, Net}
 use Rattle.bb_expr.specs.Cells.{made}
 use Rattle.bb_expr.specs.Inside.Fit.{HasNet, AreFit, AreFitIn}
 use Rattle.bb_expr.specs.Lowered.{IsLowered}
 use Rattle.bb_expr.specs.declared.step.BitStep.{BitStep}
 
--- what stands in a checked module is fit, with all that stands in it
-abbrev pub StandingIsFit : Type 0
-StandingIsFit = (checked : List ModuleFacts) (k : ℕ) (e : Expression) → IsChecked checked → StandsAt checked k e → IsSomeAnd (slice_get checked k) (λ m. AreFit m e)
+-- an expression of a checked module is fit, and so are its parts
+abbrev pub OccurrencesAreFit : Type 0
+OccurrencesAreFit = (checked : List ModuleFacts) (k : ℕ) (e : Expression) → IsChecked checked → OccursAt checked k e → IsSomeAnd (slice_get checked k) (λ m. AreFit m e)
 
 -- the same of a module of a well-formed text without faults
-abbrev pub StandingIsFitIn : Type 0
-StandingIsFitIn = (text : List PlainModule) (m : PlainModule) (e : Expression) → AllByRecursion IsFormed text → IsSound text → Contains text m → StandsIn m e → AreFitIn m e
+abbrev pub OccurrencesAreFitIn : Type 0
+OccurrencesAreFitIn = (text : List PlainModule) (m : PlainModule) (e : Expression) → AllByRecursion IsFormed text → IsSound text → Contains text m → OccursIn m e → AreFitIn m e
 
 -- what is fit can be lowered at each width that is at least its own
 abbrev pub LoweringsExist : Type 0
@@ -32,11 +32,11 @@ LoweringsExist = (m : PlainModule) (e : Expression) (w : ℕ) → AreFitIn m e �
 
 -- each name in it is the name of a net of the module
 abbrev pub NamesAreNets : Type 0
-NamesAreNets = (checked : List ModuleFacts) (k : ℕ) (e : Expression) → IsChecked checked → StandsAt checked k e → IsSomeAnd (slice_get checked k) (λ m. All (HasNet m) (names_in e))
+NamesAreNets = (checked : List ModuleFacts) (k : ℕ) (e : Expression) → IsChecked checked → OccursAt checked k e → IsSomeAnd (slice_get checked k) (λ m. All (HasNet m) (names_in e))
 
--- what stands in an expression of a module stands in the module
-abbrev pub PartsStand : Type 0
-PartsStand = (checked : List ModuleFacts) (k : ℕ) (e x : Expression) → StandsAt checked k e → Contains (expressions_in e) x → StandsAt checked k x
+-- the parts of an expression of a module are expressions of the module
+abbrev pub PartsOccur : Type 0
+PartsOccur = (checked : List ModuleFacts) (k : ℕ) (e x : Expression) → OccursAt checked k e → Contains (expressions_in e) x → OccursAt checked k x
 
 -- no two nets of a module have one name
 abbrev pub NetNamesDiffer : Type 0

@@ -1,5 +1,6 @@
--- Expressions whose value only grows by zeros in a wider context: no ~, no ~^, no sum or difference and no shift stands where the
--- context's width counts. What stands alone, as a condition or a part, is not looked at. Of operators on words the last one decides.
+-- Expressions whose value only grows by zeros in a wider context: no ~, no ~^, no sum or difference and no shift is
+-- where the context's width counts. Parts with a width of their own, such as a condition, are not looked at. Of
+-- operators on words the last one decides.
 use Rattle.std.specs.Prelude.{Bool, true, false, fold, ◌&&◌}
 use Rattle.std.specs.List.{list_all}
 use Rattle.bb_ast.specs.declared.expr.Op.{Op}

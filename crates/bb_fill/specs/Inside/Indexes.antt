@@ -1,5 +1,5 @@
--- An index of the texts of registers and outputs: a register is found under its text with its number, and an output that has no register's text
--- with the number behind the last register.
+-- An index of the texts of registers and outputs: a register is found under its text with its number, and an output
+-- that has no register's text with the number after the last register.
 use Rattle.std.specs.Prelude.{◌≡◌, ◌⊎◌, ℕ, ◌<◌, List, length, Contains, Some, IsSome}
 use Rattle.std.specs.Map.{lookup}
 use Rattle.bb_bits.specs.Names.{same_name}

@@ -1,8 +1,8 @@
--- Of modules, by their places, how many instances stand below each other in them.
+-- Of modules, by their places, how many levels of instances they have below them.
 use Rattle.std.specs.Prelude.{ℕ, zero, suc, ◌+◌, max, Bool, true, List, [], ◌∷◌}
 use Rattle.std.specs.List.{list_any, slice_index_or}
 
--- whether so many instances stand below each other in the module at a place
+-- whether the module at a place has this many levels of instances below it
 abbrev pub is_tall : List (List ℕ) → ℕ → ℕ → Bool
 is_tall lists zero k = true
 is_tall lists (suc n) k = list_any (is_tall lists n) (slice_index_or lists k [])

@@ -1,5 +1,5 @@
--- Modules by their places in the text, where a list tells for each place the places that are instantiated there. A module is
--- taken as a cell that reads the modules that it instantiates, so that a recursion is a loop among cells.
+-- Modules by their places in the text, where a list has for each place the places that are instantiated there. A module
+-- is taken as a cell that reads the modules that it instantiates, so that a recursion is a loop among cells.
 use Rattle.std.specs.Prelude.{◌≡◌, ◌⊎◌, ℕ, ◌+◌, ◌<◌, ◌^◌, ◌||◌, ◌==◌, Bool, true, false, if◌then◌else◌, List, [], ◌∷◌, map, length, All}
 use Rattle.std.specs.List.{enumerate_from, flat_map, range_with_len}
 use Rattle.bb_net.specs.declared.loose.LooseCell.TheVariants.{Const, BoxOut}
@@ -29,7 +29,7 @@ pub record IsFirstRecursive (lists : List (List ℕ)) (top k : ℕ) : Type 0 whe
   pub holds : IsRecursiveAt lists top k
   pub first : (j : ℕ) → j < k → IsRecursiveAt lists top j → ⊥
 
--- the box that stands for the module at a place: its cell stands behind the two constants
+-- the box that represents the module at a place: its cell comes after the two constants
 abbrev pub module_pins : ℕ × List ℕ → Pins
 module_pins (k, called) = record { ins = map (λ j. j + 2) called; outs = (k + 2) ∷ [] }
 

@@ -1,5 +1,5 @@
--- What a module adds to the size of a design, once for each scope of it: bits, and cells, construct by construct. Modules and
--- their callees go by their places in the text.
+-- What a module adds to the size of a design, once for each scope of it: bits, and cells, construct by construct.
+-- Modules and their callees go by their places in the text.
 use Rattle.std.specs.Prelude.{◌≡◌, ◌⊎◌, ℕ, zero, suc, ◌+◌, ◌-◌, ◌<◌, ◌≤◌, ◌&&◌, nat_le, nat_lt, max, Bool, false, not, if◌then◌else◌, List, [], length, drop, sum_by, Option, Some, None, option_to_list, slice_get, All, IfSome, IsSomeAnd}
 use Rattle.std.specs.List.{filter, flat_map, list_any, slice_index_or}
 use Rattle.bb_ast.specs.declared.module.Gate.{Gate}
@@ -16,14 +16,14 @@ use Rattle.bb_names.specs.Widths.{Ranges, own_width}
 use Rattle.bb_expr.specs.Cells.{cell_count}
 use Rattle.bb_expr.specs.Inside.Fit.{HasNet, ranges_in}
 use Rattle.bb_expr.specs.Inside.Shares.{own_cells}
-use Rattle.bb_expr.specs.Inside.Standing.{conns_expressions}
+use Rattle.bb_expr.specs.Inside.Occurrences.{conns_expressions}
 use Rattle.bb_design.specs.GateFunctions.{inverts}
 use Rattle.bb_design.specs.Hierarchy.{Scope}
 use Rattle.bb_design.specs.NetBits.{Bit, same_bit, bits_from, bits_named, scope_bits, written_bits}
 
 -- cells
 
--- what is assigned to so many bits
+-- what is assigned to this many bits
 abbrev pub assigned_cells : Ranges → ℕ → Expression → ℕ
 assigned_cells ranges left right = cell_count ranges right (max left (own_width ranges right))
 
@@ -70,7 +70,7 @@ abbrev pub stored_by : Scope → PlainBody → List Bit
 stored_by s (Always r) = written_bits s r.left
 stored_by s body = []
 
--- a scope of the module, wherever it stands
+-- a scope of the module, wherever it is
 abbrev pub any_scope : PlainModule → Scope
 any_scope m = record { path = []; source = m }
 
@@ -122,7 +122,7 @@ instance_cells m = if is_empty m then sum_by net_width (filter is_output_net (ne
 
 -- the hierarchy
 
--- what all instances below the module at a place add, so many levels down, where each module adds so much
+-- what all instances below the module at a place add, this many levels down, where each module adds its own weight
 abbrev pub total_below : List (List ℕ) → (ℕ → ℕ) → ℕ → ℕ → ℕ
 total_below lists own zero k = 0
 total_below lists own (suc n) k = sum_by (λ j. own j + total_below lists own n j) (slice_index_or lists k [])

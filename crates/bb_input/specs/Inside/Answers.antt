@@ -1,6 +1,6 @@
--- What the check by choices answers: boxes are filled one after another, each by outputs for its inputs, so that every output is
--- right at every vector that leads to those inputs. With one box such choices are a table. A list of output bits is ordered as
--- the number that it spells, the first output pin the most significant.
+-- The answer of the check by choices: boxes are filled one after another, each by outputs for its inputs, so that every
+-- output is right at every vector that leads to those inputs. With one box such choices are a table. A list of output
+-- bits is ordered as the number that it spells, the first output pin the most significant.
 use Rattle.std.specs.Prelude.{◌≡◌, ◌≤◌, ◌<◌, ℕ, Bool, List, [], ◌∷◌, length}
 use Rattle.bb_bits.specs.Numbers.{number_of}
 use Rattle.bb_bits.specs.Tables.{TableBits, row_of}
@@ -27,7 +27,7 @@ pub record AreLeastTables (spec imp : Netlist) (tables : List TableBits) : Type 
   pub completion : AreCompletion spec imp tables
   pub rows : (b : ℕ) → b < length imp.boxes → (ins : List Bool) → length ins ≡ length (box_at imp.boxes b).ins → AreLeastOutputs spec imp ins (row_of (table_at tables b) (number_of ins))
 
--- an error where no choices suit; tables where some do and they can be written down; else no more is said
+-- an error where no choices suit; tables where some do and they can be written down; else nothing more
 abbrev pub IsAnswer : Netlist → Netlist → InputAnswer → Type 0
 IsAnswer spec imp Error = NoChoicesSuit spec imp
 IsAnswer spec imp Clear = SomeChoicesSuit spec imp × (IsFinishable imp → ⊥)

@@ -1,4 +1,4 @@
--- Where the variables of the pins of boxes stand, box after box, each box's input pins and then its output pins.
+-- The variables of the pins of boxes, box after box, each box's input pins and then its output pins.
 use Rattle.std.specs.Prelude.{◌≡◌, ◌<◌, ℕ, ◌+◌, List, [], ◌∷◌, ◌++◌, length, take, slice_index_or}
 use Rattle.std.specs.List.{range_with_len}
 use Rattle.bb_net.specs.Netlists.{Pins, box_at}

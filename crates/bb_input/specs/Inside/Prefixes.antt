@@ -1,10 +1,11 @@
--- The diagrams of the check by choices: a Ref for each function that the quantification of the boxes passes, the last box first, and one for
--- the bit of the cell at each pin. A store holds a function once, so equal Refs are equal functions.
+-- The diagrams of the check by choices: a Ref for each function that the quantification of the boxes passes, the last
+-- box first, and one for the bit of the cell at each pin. A store holds a function once, so equal Refs are equal
+-- functions.
 use Rattle.std.specs.Prelude.{◌≡◌, ◌<◌, ℕ, List, [], ◌∷◌, ◌++◌, length, take, drop, slice_index}
 use Rattle.bb_bits.specs.Truth.{Truth}
 use Rattle.bb_net.specs.Netlists.{Netlist, Pins}
 use Rattle.bb_net.specs.Pairs.{pin_count}
-use Rattle.bb_sym.specs.Inside.Made.{StandsFor, StandForAll, ref_at}
+use Rattle.bb_sym.specs.Inside.Made.{Represents, RepresentAll, ref_at}
 use Rattle.bb_sym.specs.Plain.{table, tables, cell_bit, plain_functions_at}
 use Rattle.bb_input.specs.InputFunctions.{pins_and_inputs, boxes_first, pin_places, leads, refutes, wrong_functions, missed_functions, boxes_quantified, lost, stage}
 use Rattle.bb_input.specs.declared.staging.Prefix.{Prefix}
@@ -12,10 +13,10 @@ use Rattle.bb_input.specs.declared.staging.Prefix.{Prefix}
 pub record IsPrefix (spec imp : Netlist) (made : Prefix) : Type 0 where
   pub vars : made.diagrams.store.vars ≡ pins_and_inputs imp
   pub count : length made.stages.items ≡ length imp.boxes
-  pub stages : (b : ℕ) → b < length imp.boxes → StandsFor made.diagrams.store (stage spec imp b) (ref_at made.stages.items b)
-  pub last : StandsFor made.diagrams.store (lost spec imp) made.last
+  pub stages : (b : ℕ) → b < length imp.boxes → Represents made.diagrams.store (stage spec imp b) (ref_at made.stages.items b)
+  pub last : Represents made.diagrams.store (lost spec imp) made.last
   pub pin_refs : length made.pins.items ≡ pin_count imp.boxes
-  pub pins : StandForAll made.diagrams.store (λ q. table (pins_and_inputs imp) (cell_bit (boxes_first imp) imp (slice_index (pin_places imp.boxes) q))) made.pins.items
+  pub pins : RepresentAll made.diagrams.store (λ q. table (pins_and_inputs imp) (cell_bit (boxes_first imp) imp (slice_index (pin_places imp.boxes) q))) made.pins.items
 
 -- a table with the boxes after the first ones quantified
 abbrev pub boxes_after : ℕ → List Pins → Truth → Truth

@@ -1,8 +1,8 @@
--- What a call does, as the code hands it on.
+-- The job of a call, as the code hands it on.
 use Rattle.std.specs.Prelude.{◌≡◌, ℕ, ◌≤◌, List, Some}
 use Rattle.bb_options.specs.Rungs.{AreBounds}
-use Rattle.bb_words.specs.Asked.{made_asked, rup_asked}
-use Rattle.bb_ladder.specs.Answers.{question_of}
+use Rattle.bb_args.specs.Requests.{requested_made_pair, requested_refutation}
+use Rattle.bb_ladder.specs.Answers.{pair_request_of}
 use Rattle.bb_ladder.specs.Refutations.{Checks}
 use Rattle.bb_verdict.specs.TextAnswers.{Judges}
 use Rattle.bb_ladder.specs.declared.words.Job.{Job}
@@ -12,26 +12,26 @@ use Rattle.bb_ladder.specs.declared.words.Task.TheVariants.{Comparison, Refutati
 
 -- what may be answered to two texts
 abbrev pub judged_by : Task → List ℕ → List ℕ → ℕ → List ℕ → Type 0
-judged_by (Comparison asked) = Judges asked
+judged_by (Comparison requested) = Judges requested
 judged_by Refutation = Checks
 
--- the words ask for it, of files with these names
-abbrev pub AskTask : List (List ℕ) → List ℕ → List ℕ → Task → Type 0
-AskTask words first second (Comparison asked) =
-    question_of words ≡ Some (record { spec = first; imp = second; asked = asked })
-AskTask words first second Refutation = rup_asked words ≡ Some (record { cnf = first; adds = second })
+-- the words request it, of files with these names
+abbrev pub RequestTask : List (List ℕ) → List ℕ → List ℕ → Task → Type 0
+RequestTask words first second (Comparison requested) =
+    pair_request_of words ≡ Some (record { spec = first; imp = second; requested = requested })
+RequestTask words first second Refutation = requested_refutation words ≡ Some (record { cnf = first; adds = second })
 
 -- its checks are within their bounds
 abbrev pub IsBounded : Task → Type 0
-IsBounded (Comparison asked) = AreBounds asked.options
+IsBounded (Comparison requested) = AreBounds requested.options
 IsBounded Refutation = Unit {0}
 
--- the words ask for this job
-abbrev pub AskJob : List (List ℕ) → Job → Type 0
-AskJob words (Files question) = AskTask words question.spec.now question.imp.now question.task
-AskJob words (Made n fill options) = made_asked words ≡ Some (record { n = n; fill = fill; options = options })
+-- the words request this job
+abbrev pub RequestJob : List (List ℕ) → Job → Type 0
+RequestJob words (Files pair_request) = RequestTask words pair_request.spec.now pair_request.imp.now pair_request.task
+RequestJob words (Made n fill options) = requested_made_pair words ≡ Some (record { n = n; fill = fill; options = options })
 
 -- its numbers are within their bounds
 abbrev pub HasBounds : Job → Type 0
-HasBounds (Files question) = IsBounded question.task
+HasBounds (Files pair_request) = IsBounded pair_request.task
 HasBounds (Made n fill options) = (1 ≤ n) × (n ≤ 256) × AreBounds options

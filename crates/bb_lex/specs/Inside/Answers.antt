@@ -1,4 +1,4 @@
--- What may be answered to a text: its tokens, or the line on which it goes wrong, unless memory runs out.
+-- What may be returned for a text: its tokens, or the line on which it goes wrong, unless memory runs out.
 use Rattle.std.specs.Prelude.{ℕ, List, Vec, Result, Ok, Err}
 use Rattle.std.specs.Global.{Global}
 use Rattle.bb_lex.specs.declared.token.Token.{Token}

@@ -1,9 +1,9 @@
--- A piece that was found at the front, with what is left behind it.
+-- A piece that was found at the start, with the rest after it.
 use Rattle.std.specs.Prelude.{ℕ, Option, Some, None, List}
 use Rattle.bb_lex.specs.declared.token.Kind.{Kind}
 use Rattle.bb_lex.specs.declared.piece.Found.{Found}
 
--- a piece's kind with what is left behind it
+-- a piece's kind with the rest after it
 abbrev pub skipped : Option (List ℕ) → Option (Option Kind × List ℕ)
 skipped None = None
 skipped (Some after) = Some (None, after)

@@ -1,16 +1,16 @@
--- Marks, read from the front.
+-- Marks, read from the start.
 use Rattle.std.specs.Prelude.{ℕ, Option, Some, None, List, [], ◌∷◌, ◌&&◌, ◌==◌, if◌then◌else◌}
 use Rattle.bb_lex.specs.declared.token.Kind.{Kind}
 use Rattle.bb_lex.specs.declared.token.Kind.TheVariants.{Mark as MarkKind}
 use Rattle.bb_lex.specs.declared.mark.Mark.{Mark}
 use Rattle.bb_lex.specs.declared.mark.Mark.TheVariants.{LeftRound, RightRound, LeftSquare, RightSquare, LeftBrace, RightBrace, Comma, Semicolon, Colon, Dot, Equals, At, Amp, Bar, Caret, Tilde, Query, Plus, Minus, Less, Greater, Bang, LessEqual, GreaterEqual, EqualEqual, BangEqual, LessLess, GreaterGreater, AmpAmp, BarBar, TildeAmp, TildeBar, TildeCaret, CaretTilde}
 use Rattle.bb_lex.specs.Inside.Found.{skipped}
-use Rattle.bb_lex.specs.Inside.Skips.{behind_attribute}
+use Rattle.bb_lex.specs.Inside.Skips.{after_attribute}
 
 -- ( or an attribute, whose first byte is read
 abbrev pub round_at : List ℕ → Option (Option Kind × List ℕ)
 round_at [] = Some (Some (MarkKind LeftRound), [])
-round_at (b ∷ bytes) = if b == 42 then skipped (behind_attribute bytes) else Some (Some (MarkKind LeftRound), b ∷ bytes)
+round_at (b ∷ bytes) = if b == 42 then skipped (after_attribute bytes) else Some (Some (MarkKind LeftRound), b ∷ bytes)
 
 -- the marks of one byte, but for (
 abbrev pub short_marks : List (ℕ × Mark)

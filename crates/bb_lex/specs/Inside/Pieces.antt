@@ -1,4 +1,4 @@
--- The piece at the front of a text.
+-- The piece at the start of a text.
 use Rattle.std.specs.Prelude.{ℕ, Option, Some, None, List, [], ◌∷◌, ◌==◌, if◌then◌else◌}
 use Rattle.std.specs.Char.{is_ascii_digit}
 use Rattle.bb_lex.specs.declared.token.Kind.{Kind}
@@ -10,7 +10,7 @@ use Rattle.bb_lex.specs.declared.class.Opening.TheVariants as opening
 use Rattle.bb_lex.specs.Inside.Found.{skipped, token_of}
 use Rattle.bb_lex.specs.Inside.Words.{identifier_at}
 use Rattle.bb_lex.specs.Inside.Numbers.{number_at}
-use Rattle.bb_lex.specs.Inside.Skips.{behind_comment, behind_directive, behind_escaped}
+use Rattle.bb_lex.specs.Inside.Skips.{after_comment, after_directive, after_escaped}
 use Rattle.bb_lex.specs.Inside.Marks.{round_at, mark_at}
 
 -- what a first byte opens
@@ -25,18 +25,18 @@ opening_of b =
     else (if b == 96 then opening.Directive
     else opening.Mark))))))
 
--- the piece that an opening byte and the bytes behind it begin with
+-- the piece that an opening byte and the bytes after it begin with
 abbrev pub opened_by : Opening → ℕ → List ℕ → Option (Option Kind × List ℕ)
 opened_by opening.White b bytes = Some (None, bytes)
 opened_by opening.Identifier b bytes = identifier_at (b ∷ bytes)
 opened_by opening.Number b bytes = number_at (b ∷ bytes)
-opened_by opening.Comment b bytes = skipped (behind_comment bytes)
+opened_by opening.Comment b bytes = skipped (after_comment bytes)
 opened_by opening.Round b bytes = round_at bytes
-opened_by opening.Escaped b bytes = token_of Name (behind_escaped bytes)
-opened_by opening.Directive b bytes = skipped (behind_directive bytes)
+opened_by opening.Escaped b bytes = token_of Name (after_escaped bytes)
+opened_by opening.Directive b bytes = skipped (after_directive bytes)
 opened_by opening.Mark b bytes = mark_at b bytes
 
--- the piece at the front
+-- the piece at the start
 abbrev pub piece_at : List ℕ → Option (Option Kind × List ℕ)
 piece_at [] = None
 piece_at (b ∷ bytes) = opened_by (opening_of b) b bytes

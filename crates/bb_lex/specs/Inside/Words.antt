@@ -1,4 +1,4 @@
--- Words, read from the front.
+-- Words, read from the start.
 use Rattle.std.specs.Prelude.{ℕ, Option, Some, List, [], map, ◌==◌, if◌then◌else◌}
 use Rattle.bb_lex.specs.declared.token.Kind.{Kind}
 use Rattle.bb_lex.specs.Bytes.{is_identifier_byte, past}
@@ -39,6 +39,6 @@ words_by b =
     else (if b == 120 then words_x
     else [])))))))))))))))))))))
 
--- the identifier at the front
+-- the identifier at the start
 abbrev pub identifier_at : List ℕ → Option (Option Kind × List ℕ)
 identifier_at bytes = Some (Some (kind_of_word (keyword_of (run_of is_identifier_byte bytes))), past is_identifier_byte bytes)

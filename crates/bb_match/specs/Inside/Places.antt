@@ -1,4 +1,4 @@
--- What an index of texts says: at which place of a list a text stands.
+-- What an index of texts says: at which place of a list a text is.
 use Rattle.std.specs.Prelude.{◌≡◌, ℕ, List, All, Some, IsSome, slice_get}
 use Rattle.std.specs.Option.{unwrap_or}
 use Rattle.std.specs.Map.{lookup}
@@ -6,7 +6,7 @@ use Rattle.bb_bits.specs.Names.{same_name}
 use Rattle.bb_net.specs.Flats.{FlatNet}
 use Rattle.bb_net.specs.CutPoints.{register_texts}
 
--- each place is one at which the text stands, and each text of the list has one
+-- each place is one at which the text is, and each text of the list has one
 pub record ArePlaces (texts : List (List ℕ)) (entries : List (List ℕ × ℕ)) : Type 0 where
   pub right : (text : List ℕ) (place : ℕ) → lookup (same_name text) entries ≡ Some place → slice_get texts place ≡ Some text
   pub whole : All (λ text. IsSome (lookup (same_name text) entries)) texts

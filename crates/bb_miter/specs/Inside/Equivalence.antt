@@ -1,7 +1,8 @@
--- Two netlists without boxes, a specification and an implementation, beside each other: when they are equivalent, as combinational
--- equivalence is checked on the miter of two circuits (Brand, Verification of large synthesized designs, 1993).
+-- Two netlists without boxes, a specification and an implementation, beside each other: when they are equivalent, as
+-- combinational equivalence is checked on the miter of two circuits (Brand, Verification of large synthesized designs,
+-- 1993).
 use Rattle.std.specs.Prelude.{◌≡◌, ◌≤◌, Bool, List, [], length}
-use Rattle.bb_net.specs.Agreement.{AllRight, IsVector, SomeWrong}
+use Rattle.bb_net.specs.Equivalence.{AllRight, IsVector, SomeWrong}
 use Rattle.bb_net.specs.Netlists.{Netlist}
 use Rattle.bb_net.specs.Values.{flat}
 

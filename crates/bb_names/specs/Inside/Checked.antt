@@ -1,5 +1,5 @@
--- A source without faults: its modules, each with its nets in net order, the place of each net by its name, and whether the
--- module is empty.
+-- A source without faults: its modules, each with its nets in net order, the place of each net by its name, and whether
+-- the module is a black box.
 use Rattle.std.specs.Prelude.{◌≡◌, ◌≤◌, ℕ, Bool, List, map, All}
 use Rattle.std.specs.List.{AllByRecursion}
 use Rattle.bb_ast.specs.declared.module.Module.{Module}

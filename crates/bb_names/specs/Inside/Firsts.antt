@@ -1,4 +1,4 @@
--- The leftmost fault of each kind among spots that are looked at from left to right.
+-- The leftmost fault of each kind among sites that are visited from left to right.
 use Rattle.std.specs.Prelude.{◌≡◌, ◌⊎◌, ℕ, ◌-◌, ◌^◌, ◌==◌, Bool, not, if◌then◌else◌, List, [], ◌∷◌, ◌++◌, Option, Some, None, option_map, fold, min, Result, MatchResult}
 use Rattle.std.specs.List.{flat_map}
 use Rattle.std.specs.Option.{option_or}
@@ -12,8 +12,8 @@ use Rattle.bb_names.specs.declared.faults.found.Found.{Found}
 use Rattle.bb_names.specs.declared.faults.roles.Role.{Role}
 use Rattle.bb_names.specs.declared.faults.roles.Role.TheVariants as roles
 use Rattle.bb_names.specs.Declarations.{Declaration, declared_by, declared_by_head, instance_declaration}
-use Rattle.bb_names.specs.Faults.{Rows, statement_faults, told_if, twice, unknown, wrong_select, wrong_width, wrong_role}
-use Rattle.bb_names.specs.Spots.{Use, Read, Driven, Stored, Spot, HeadName, Declared as DeclaredSpot, Placed, Terminal, Clock, inside, part_spots, spots_in, declared_spots, conns_spots, place_count, item_spots}
+use Rattle.bb_names.specs.Faults.{Rows, statement_faults, reported_if, twice, unknown, wrong_select, wrong_width, wrong_role}
+use Rattle.bb_names.specs.Sites.{Use, Read, Driven, Stored, Site, HeadName, Declared as DeclaredSite, Placed, Terminal, Clock, inside, part_sites, sites_in, declared_sites, conns_sites, place_count, item_sites}
 use Rattle.bb_bits.specs.Earlier.{has_name}
 use Rattle.bb_names.specs.Widths.{operator_width}
 
@@ -21,18 +21,18 @@ abbrev pub first_of : {A : Type 0} → List A → Option A
 first_of [] = None
 first_of (x ∷ xs) = Some x
 
--- the leftmost name that rows tell of spots
-abbrev pub first_told : Rows → List PlainModule → PlainModule → List Spot → Option (List ℕ)
-first_told rows text m spots = first_of (flat_map (rows text m) spots)
+-- the leftmost name that rows report of sites
+abbrev pub first_reported : Rows → List PlainModule → PlainModule → List Site → Option (List ℕ)
+first_reported rows text m sites = first_of (flat_map (rows text m) sites)
 
--- what is found where these spots stand to the right of others
-abbrev pub noted : List PlainModule → PlainModule → Found → List Spot → Found
-noted text m f spots = record {
-  twice = option_or f.twice (first_told twice text m spots);
-  unknown = option_or f.unknown (first_told unknown text m spots);
-  select = option_or f.select (first_told wrong_select text m spots);
-  width = option_or f.width (first_told wrong_width text m spots);
-  role = option_or f.role (first_told wrong_role text m spots);
+-- what is found if these sites are right of those before
+abbrev pub noted : List PlainModule → PlainModule → Found → List Site → Found
+noted text m f sites = record {
+  twice = option_or f.twice (first_reported twice text m sites);
+  unknown = option_or f.unknown (first_reported unknown text m sites);
+  select = option_or f.select (first_reported wrong_select text m sites);
+  width = option_or f.width (first_reported wrong_width text m sites);
+  role = option_or f.role (first_reported wrong_role text m sites);
 }
 
 abbrev pub nothing : Found
@@ -48,50 +48,50 @@ use_of roles.Read = Read
 use_of roles.Driven = Driven
 use_of roles.Stored = Stored
 
--- what stands in an expression, without the whole
-abbrev pub inner_spots : Use → Expression → List Spot
-inner_spots how = fold_by (λ x spots. (x, spots)) (inside how)
+-- the sites in an expression, without the whole
+abbrev pub inner_sites : Use → Expression → List Site
+inner_sites how = fold_by (λ x sites. (x, sites)) (inside how)
 
--- a width as far as 64 bits tell it
+-- a width, saturated at 2^64 - 1
 abbrev pub saturated : ℕ → ℕ
 saturated n = min n (2 ^ 64 - 1)
 
--- the own width of operators on words, where what stands left of them has this width
+-- the own width of operators on words, where the operand left of them has this width
 abbrev pub words_width : ℕ → List (WordOp × ℕ) → ℕ
 words_width left rest = fold (λ l x. operator_width x.0 l x.1) left rest
 
 -- a part of a concatenation or replication
-abbrev pub spots_of_part : Use → Expression → List Spot
-spots_of_part how e = part_spots (e, inner_spots how e)
+abbrev pub sites_of_part : Use → Expression → List Site
+sites_of_part how e = part_sites (e, inner_sites how e)
 
--- where an expression has not the width that is wanted, a word is told of it before all that stands in it
-abbrev pub noted_width : List PlainModule → PlainModule → Found → ℕ → ℕ → List ℕ → List Spot → Found
-noted_width text m f width wanted word spots = noted text m (record f { width = option_or f.width (first_of (told_if (not (width == wanted)) word)) }) spots
+-- where an expression has not the width that is wanted, a word is reported before all faults in it
+abbrev pub noted_width : List PlainModule → PlainModule → Found → ℕ → ℕ → List ℕ → List Site → Found
+noted_width text m f width wanted word sites = noted text m (record f { width = option_or f.width (first_of (reported_if (not (width == wanted)) word)) }) sites
 
 -- a name of a header, after the earlier ones
-abbrev pub head_spots : List PlainHead → PlainHead → List Spot
-head_spots before head = HeadName before head.name ∷ declared_spots (flat_map declared_by_head before) (declared_by_head head)
+abbrev pub head_sites : List PlainHead → PlainHead → List Site
+head_sites before head = HeadName before head.name ∷ declared_sites (flat_map declared_by_head before) (declared_by_head head)
 
 -- a terminal of a gate
-abbrev pub terminal_spots : Gate → Bool → Expression → List Spot
-terminal_spots gate output e = Terminal gate output e ∷ spots_in (if output then Driven else Read) e
+abbrev pub terminal_sites : Gate → Bool → Expression → List Site
+terminal_sites gate output e = Terminal gate output e ∷ sites_in (if output then Driven else Read) e
 
 -- a register
-abbrev pub register_spots : PlainAlways → List Spot
-register_spots r = Clock r.clock ∷ spots_in Read r.clock ++ spots_in Stored r.left ++ spots_in Read r.right
+abbrev pub register_sites : PlainAlways → List Site
+register_sites r = Clock r.clock ∷ sites_in Read r.clock ++ sites_in Stored r.left ++ sites_in Read r.right
 
 -- an instance, after the earlier declarations
-abbrev pub call_spots : Option PlainModule → List Declaration → List ℕ × PlainConns → List Spot
-call_spots target before x = DeclaredSpot before (instance_declaration x.0) ∷ Placed target x.0 (place_count x.1) ∷ conns_spots target x.1
+abbrev pub call_sites : Option PlainModule → List Declaration → List ℕ × PlainConns → List Site
+call_sites target before x = DeclaredSite before (instance_declaration x.0) ∷ Placed target x.0 (place_count x.1) ∷ conns_sites target x.1
 
 -- the same names are among both
 abbrev pub AreSame : List (List ℕ) → List (List ℕ) → Type 0
 AreSame keys names = (n : List ℕ) → has_name n keys ≡ has_name n names
 
--- no fault is answered where there is none, and else the first, unless memory runs out
+-- no fault is returned where there is none, and else the first, unless memory runs out
 abbrev pub Answers : {A : Type 0} → Result A NameFault → List NameFault → Type 0
 Answers result all = MatchResult result (λ _. all ≡ []) (λ fault. (fault ≡ faults.NoMemory) ⊎ (first_of all ≡ Some fault))
 
 -- the faults of an item, after the earlier ones
 abbrev pub item_faults : List PlainModule → PlainModule → List PlainItem → PlainItem → List NameFault
-item_faults text m before item = statement_faults text m item.line (item_spots text (flat_map declared_by_head m.heads ++ flat_map (λ x. declared_by x.body) before) item.body)
+item_faults text m before item = statement_faults text m item.line (item_sites text (flat_map declared_by_head m.heads ++ flat_map (λ x. declared_by x.body) before) item.body)

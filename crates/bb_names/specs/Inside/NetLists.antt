@@ -5,7 +5,7 @@ use Rattle.bb_bits.specs.Names.{same_name}
 use Rattle.bb_ast.specs.Syntax.{PlainBody}
 use Rattle.bb_names.specs.Declarations.{declared_by}
 
--- a name behind the others with its place among them, as far as 32 bits tell it, unless it is one of them
+-- a name after the others with its place, saturated at 2^32 - 1, unless it is one of them
 abbrev pub with_place : List (List ℕ × ℕ) → List ℕ → List (List ℕ × ℕ)
 with_place entries n = if is_some (lookup (same_name n) entries) then entries else entries ++ (n, min (length entries) (2 ^ 32 - 1)) ∷ []
 

@@ -1,5 +1,5 @@
 -- What the declarations of one name say together: the range of the first and whether it is an instance's, the first direction,
--- the first kind, whether one is an instance's, and whether those that are no supplies agree in their ranges.
+-- the first kind, whether one is an instance's, and whether those that are no supplies have one range.
 use Rattle.std.specs.Prelude.{◌≡◌, ℕ, Bool, true, false, not, ◌&&◌, ◌||◌, List, map, Option, is_some}
 use Rattle.std.specs.List.{find, filter, list_any}
 use Rattle.std.specs.Map.{lookup}
@@ -23,13 +23,13 @@ has_other NoRange range = false
 has_other (Same first) range = not (same_range first range)
 has_other Different range = true
 
--- what is said leaves no room for one more declaration; port tells whether the name is a port
+-- the summary leaves no room for one more declaration; port says whether the name is a port
 abbrev pub leaves_no_room : Bool → Declaration → Summary → Bool
 leaves_no_room port d s = (is_some s.dir && is_some d.dir) || ((is_some s.kind && is_some d.kind) || (s.instances || (d.instance || (port && (not (declares_supply d) && has_other s.ranges d.range)))))
 
--- it tells of each range whether one of these is another
-abbrev pub Tells : Ranges → List (Option Range) → Type 0
-Tells ranges all = (range : Option Range) → has_other ranges range ≡ list_any (λ x. not (same_range x range)) all
+-- it determines of each range whether one of these is another
+abbrev pub Reports : Ranges → List (Option Range) → Type 0
+Reports ranges all = (range : Option Range) → has_other ranges range ≡ list_any (λ x. not (same_range x range)) all
 
 -- the ranges of the declarations of a name that are no supplies
 abbrev pub plain_ranges : List ℕ → List Declaration → List (Option Range)
@@ -43,8 +43,8 @@ pub record IsSummary (n : List ℕ) (all : List Declaration) (s : Option Summary
   pub dir : option_and_then (λ x. x.dir) s ≡ option_and_then (λ d. d.dir) (find (λ d. same_name d.name n && is_some d.dir) all)
   pub kind : option_and_then (λ x. x.kind) s ≡ option_and_then (λ d. d.kind) (find (λ d. same_name d.name n && is_some d.kind) all)
   pub instances : option_map_or (λ x. x.instances) s false ≡ list_any (λ d. same_name d.name n && d.instance) all
-  pub ranges : Tells (option_map_or (λ x. x.ranges) s NoRange) (plain_ranges n all)
+  pub ranges : Reports (option_map_or (λ x. x.ranges) s NoRange) (plain_ranges n all)
 
--- the entries tell of each name what the declarations say of it
+-- the entries hold for each name what its declarations say
 abbrev pub Describes : List (List ℕ × Summary) → List Declaration → Type 0
 Describes entries all = (n : List ℕ) → IsSummary n all (lookup (same_name n) entries)

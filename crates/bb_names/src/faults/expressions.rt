@@ -1,13 +1,15 @@
-//! Faults in an expression: its names, its selects, its parts and its width.
+//! Faults in an expression, and its own width (IEEE 1364-2005, 5.4.1) in the same walk. Widths count in 64 bits and
+//! saturate: a connection is compared with a port of up to 2^32 bits, as a later module may declare one wider than any
+//! net may be, so widths must be exact up to there, and nested replications pass any fixed size.
 ghost use Rattle.std.specs.Prelude.{◌≡◌, ℕ, ◌+◌, ◌*◌, ◌++◌, ◌∷◌, [], ◌≤◌, ◌^◌, List, Some, None, map, sum, OnOk, IfOk};
 ghost use Rattle.std.specs.List.{flat_map};
 ghost use Rattle.bb_ast.specs.Syntax.{PlainModule};
 ghost use Rattle.bb_ast.specs.Inside.Views.{expression, operand_view, arm_view, module_view};
 ghost use Rattle.bb_names.specs.Declarations.{direction_of, range_of};
 ghost use Rattle.bb_names.specs.Faults.{is_input_port, width_in};
-ghost use Rattle.bb_names.specs.Inside.Firsts.{noted, noted_width, use_of, inner_spots, spots_of_part, saturated, words_width};
+ghost use Rattle.bb_names.specs.Inside.Firsts.{noted, noted_width, use_of, inner_sites, sites_of_part, saturated, words_width};
 ghost use Rattle.bb_names.specs.Ranges.{distance, range_width};
-ghost use Rattle.bb_names.specs.Spots.{Used, is_plain, spots_in};
+ghost use Rattle.bb_names.specs.Sites.{Used, is_plain, sites_in};
 ghost use Rattle.bb_names.specs.Widths.{greatest};
 
 use crate::faults::found::{Found, note, note_before, note_word};
@@ -21,7 +23,6 @@ use bb_ast::{Expr, Op, WordOp};
 use bb_bits::{Name, NoMemory};
 use std::alloc::Global;
 
-/// Whether a name that is driven is that of an input port.
 fn is_driven_input(of: &IndexedModule, role: Role, name: &Name, facts: NetFacts) -> bool
     requires { facts.dir ≡ direction_of (module_view of.now) name.now }
     ensures { role ≡ Role.Driven → result ≡ is_input_port (module_view of.now) name.now }
@@ -29,7 +30,7 @@ fn is_driven_input(of: &IndexedModule, role: Role, name: &Name, facts: NetFacts)
     role == Role::Driven && of.is_input_port(name, facts)
 }
 
-/// Looks at a name that stands for a net, with the bits that are selected.
+/// `bits` is none for the whole net.
 pub(crate) fn look_at_name(
     of: &IndexedModule,
     role: Role,
@@ -48,7 +49,6 @@ pub(crate) fn look_at_name(
     Ok(facts)
 }
 
-/// Looks at a net, and gives its width.
 fn look_at_net(
     of: &IndexedModule,
     role: Role,
@@ -63,7 +63,6 @@ fn look_at_net(
     Ok(width_of(facts.range))
 }
 
-/// Looks at bits of a net, and gives how many there are.
 fn look_at_bits(
     of: &IndexedModule,
     role: Role,
@@ -80,7 +79,7 @@ fn look_at_bits(
     Ok(bits_between(i, j))
 }
 
-/// Looks at an expression with all that stands in it, and gives its own width, at most 2^64 - 1.
+/// Notes the faults of an expression and of its parts. The result is its own width, at most 2^64 - 1.
 #[cycle(expression)]
 pub(crate) fn look(
     alloc: Global,
@@ -89,12 +88,13 @@ pub(crate) fn look(
     expr: &Expr,
     found: &mut Found,
 ) -> Result<u64, NoMemory>
-    ensures noted { (text : List PlainModule) → OnOk result (found.new ≡ noted text (module_view of.now) found.old (spots_in (use_of role) (expression expr.now))) }
+    ensures noted { (text : List PlainModule) → OnOk result (found.new ≡ noted text (module_view of.now) found.old (sites_in (use_of role) (expression expr.now))) }
     ensures width { IfOk result (λ w. w ≡ saturated (width_in (module_view of.now) (expression expr.now))) }
 {
     let free = found.width.is_none();
     let width = look_inside(alloc, of, role, expr, found)?;
-    // The whole stands to the left of what is in it.
+    // The whole is left of its parts, but its width is known only after them. Only if no fault was found before this
+    // expression may it replace what its parts left in the slot.
     if free {
         note_before(alloc, &mut found.width, word_of(expr, width))?;
     }
@@ -109,7 +109,7 @@ fn look_inside(
     expr: &Expr,
     found: &mut Found,
 ) -> Result<u64, NoMemory>
-    ensures noted { (text : List PlainModule) → OnOk result (found.new ≡ noted text (module_view of.now) found.old (inner_spots (use_of role) (expression expr.now))) }
+    ensures noted { (text : List PlainModule) → OnOk result (found.new ≡ noted text (module_view of.now) found.old (inner_sites (use_of role) (expression expr.now))) }
     ensures width { IfOk result (λ w. w ≡ saturated (width_in (module_view of.now) (expression expr.now))) }
 {
     match expr {
@@ -140,7 +140,6 @@ fn look_inside(
     }
 }
 
-/// The greatest width of the operands.
 #[cycle(expression)]
 fn look_at_operands(
     alloc: Global,
@@ -149,7 +148,7 @@ fn look_at_operands(
     rest: &[(Op, Expr)],
     found: &mut Found,
 ) -> Result<u64, NoMemory>
-    ensures noted { (text : List PlainModule) → OnOk result (found.new ≡ noted text (module_view of.now) found.old (flat_map (λ x. spots_in (use_of role) x.1) (map operand_view rest.now))) }
+    ensures noted { (text : List PlainModule) → OnOk result (found.new ≡ noted text (module_view of.now) found.old (flat_map (λ x. sites_in (use_of role) x.1) (map operand_view rest.now))) }
     ensures width { IfOk result (λ w. w ≡ saturated (greatest (map (λ x. width_in (module_view of.now) x.1) (map operand_view rest.now)))) }
 {
     let mut width = 0;
@@ -159,7 +158,7 @@ fn look_at_operands(
     Ok(width)
 }
 
-/// The width of the operators on words, where what stands left of them has this width.
+/// One operator at a time from the left, as they group; `first` is the width of the first operand.
 #[cycle(expression)]
 fn look_at_words(
     alloc: Global,
@@ -169,7 +168,7 @@ fn look_at_words(
     rest: &[(WordOp, Expr)],
     found: &mut Found,
 ) -> Result<u64, NoMemory>
-    ensures noted { (text : List PlainModule) → OnOk result (found.new ≡ noted text (module_view of.now) found.old (flat_map (λ x. spots_in (use_of role) x.1) (map operand_view rest.now))) }
+    ensures noted { (text : List PlainModule) → OnOk result (found.new ≡ noted text (module_view of.now) found.old (flat_map (λ x. sites_in (use_of role) x.1) (map operand_view rest.now))) }
     ensures width { (left : ℕ) → first ≡ saturated left → IfOk result (λ w. w ≡ saturated (words_width left (map (λ x. (x.0, width_in (module_view of.now) x.1)) (map operand_view rest.now)))) }
 {
     let mut width = first;
@@ -180,7 +179,6 @@ fn look_at_words(
     Ok(width)
 }
 
-/// The greatest width of the values.
 #[cycle(expression)]
 fn look_at_arms(
     alloc: Global,
@@ -189,7 +187,7 @@ fn look_at_arms(
     arms: &[(Expr, Expr)],
     found: &mut Found,
 ) -> Result<u64, NoMemory>
-    ensures noted { (text : List PlainModule) → OnOk result (found.new ≡ noted text (module_view of.now) found.old (flat_map (λ x. spots_in (use_of role) x.0 ++ spots_in (use_of role) x.1) (map arm_view arms.now))) }
+    ensures noted { (text : List PlainModule) → OnOk result (found.new ≡ noted text (module_view of.now) found.old (flat_map (λ x. sites_in (use_of role) x.0 ++ sites_in (use_of role) x.1) (map arm_view arms.now))) }
     ensures width { IfOk result (λ w. w ≡ saturated (greatest (map (λ x. width_in (module_view of.now) x.1) (map arm_view arms.now)))) }
 {
     let mut width = 0;
@@ -206,7 +204,7 @@ fn is_number(expr: &Expr) -> bool
     matches!(expr, Expr::Plain(_))
 }
 
-/// A part of a concatenation or replication: it is no plain number.
+/// A plain number has no size of its own, so it is not allowed as a part (5.1.14).
 #[cycle(expression)]
 fn look_at_part(
     alloc: Global,
@@ -215,14 +213,13 @@ fn look_at_part(
     part: &Expr,
     found: &mut Found,
 ) -> Result<u64, NoMemory>
-    ensures noted { (text : List PlainModule) → OnOk result (found.new ≡ noted text (module_view of.now) found.old (spots_of_part (use_of role) (expression part.now))) }
+    ensures noted { (text : List PlainModule) → OnOk result (found.new ≡ noted text (module_view of.now) found.old (sites_of_part (use_of role) (expression part.now))) }
     ensures width { IfOk result (λ w. w ≡ saturated (width_in (module_view of.now) (expression part.now))) }
 {
     note_word(alloc, &mut found.width, is_number(part), b"decimal")?;
     look(alloc, of, role, part, found)
 }
 
-/// The sum of the widths of the parts.
 #[cycle(expression)]
 fn look_at_parts(
     alloc: Global,
@@ -232,7 +229,7 @@ fn look_at_parts(
     found: &mut Found,
 ) -> Result<u64, NoMemory>
     ensures noted { (text : List PlainModule) → OnOk result (found.new ≡ noted text (module_view of.now) found.old
-        (flat_map (spots_of_part (use_of role)) (map expression parts.now))) }
+        (flat_map (sites_of_part (use_of role)) (map expression parts.now))) }
     ensures width { IfOk result (λ w. w ≡ saturated (sum (map (width_in (module_view of.now)) (map expression parts.now)))) }
 {
     let mut width: u64 = 0;
@@ -243,7 +240,6 @@ fn look_at_parts(
     Ok(width)
 }
 
-/// Looks at the parts of a replication, and gives the width of so many copies.
 #[cycle(expression)]
 fn look_at_copies(
     alloc: Global,
@@ -254,7 +250,7 @@ fn look_at_copies(
     found: &mut Found,
 ) -> Result<u64, NoMemory>
     ensures noted { (text : List PlainModule) → OnOk result (found.new ≡ noted text (module_view of.now) found.old
-        (flat_map (spots_of_part (use_of role)) (map expression parts.now))) }
+        (flat_map (sites_of_part (use_of role)) (map expression parts.now))) }
     ensures width { IfOk result (λ w. w ≡
         saturated (count * sum (map (width_in (module_view of.now)) (map expression parts.now)))) }
 {
@@ -262,7 +258,8 @@ fn look_at_copies(
     Ok(width.saturating_mul(u64::from(count)))
 }
 
-/// Looks at an expression of which a word is told where it has not so many bits.
+/// As `look`, with a width that is wanted. A wrong width is a fault of the whole, so it comes before the faults of the
+/// parts.
 pub(crate) fn look_at_width(
     alloc: Global,
     of: &IndexedModule,
@@ -273,7 +270,7 @@ pub(crate) fn look_at_width(
     found: &mut Found,
 ) -> Result<(), NoMemory>
     requires small { wanted ≤ 2 ^ 32 }
-    ensures noted { (text : List PlainModule) → OnOk result (found.new ≡ noted_width text (module_view of.now) found.old (width_in (module_view of.now) (expression expr.now)) wanted word.now (spots_in (use_of role) (expression expr.now))) }
+    ensures noted { (text : List PlainModule) → OnOk result (found.new ≡ noted_width text (module_view of.now) found.old (width_in (module_view of.now) (expression expr.now)) wanted word.now (sites_in (use_of role) (expression expr.now))) }
 {
     let free = found.width.is_none();
     let width = look(alloc, of, role, expr, found)?;

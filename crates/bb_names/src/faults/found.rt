@@ -1,4 +1,5 @@
-//! The leftmost fault of each kind in a statement.
+//! The leftmost fault of each kind in a statement, found in one walk. Faults are reported kind by kind, but the walk
+//! goes from the left; keeping one slot for each kind avoids five walks, and a list of all faults.
 ghost use Rattle.std.specs.Prelude.{◌≡◌, if◌then◌else◌, Some, None, option_map, OnOk};
 ghost use Rattle.std.specs.Option.{option_or};
 ghost use Rattle.bb_names.specs.Inside.Firsts.{nothing, first_fault};
@@ -7,7 +8,7 @@ use crate::fault::NameFault;
 use bb_bits::{Name, NoMemory};
 use std::alloc::Global;
 
-/// For each kind of fault, the name that the leftmost one of a statement tells.
+/// In each slot is the name or word of the leftmost fault so far.
 #[derive(Drop)]
 pub(crate) struct Found {
     pub twice: Option<Name>,
@@ -30,7 +31,7 @@ impl Found {
         }
     }
 
-    /// The first fault in the order of the kinds, at a line.
+    /// In the order of the kinds, which is that of the fields.
     pub(crate) fn into_fault(self, line: u32) -> Option<NameFault>
         ensures { result ≡ first_fault line self }
     {
@@ -60,7 +61,7 @@ impl Found {
     }
 }
 
-/// Notes a fault that tells a name, where none of its kind stands to the left.
+/// Keeps the name only if no fault of its kind was found further left.
 pub(crate) fn note(slot: &mut Option<Name>, wrong: bool, name: &Name) -> Result<(), NoMemory>
     ensures { OnOk result (slot.new ≡ option_or slot.old (if wrong then Some name.now else None)) }
 {
@@ -70,7 +71,7 @@ pub(crate) fn note(slot: &mut Option<Name>, wrong: bool, name: &Name) -> Result<
     Ok(())
 }
 
-/// Notes a fault that tells a word.
+/// As `note`, with a word for what has no name. The word is allocated only if it is kept.
 pub(crate) fn note_word(
     alloc: Global,
     slot: &mut Option<Name>,
@@ -85,7 +86,7 @@ pub(crate) fn note_word(
     Ok(())
 }
 
-/// Notes a word that stands to the left of all that was noted.
+/// For a fault left of all that were noted: it replaces what is in the slot.
 pub(crate) fn note_before(
     alloc: Global,
     slot: &mut Option<Name>,

@@ -1,11 +1,11 @@
-//! Faults of gates.
+//! Faults of gates (IEEE 1364-2005, 7.2 and 7.3): a terminal that is not one bit, and an output that cannot be driven.
 ghost use Rattle.std.specs.Prelude.{◌≡◌, List, map, min, OnOk};
 ghost use Rattle.std.specs.List.{flat_map};
 ghost use Rattle.bb_ast.specs.Syntax.{PlainModule};
 ghost use Rattle.bb_ast.specs.Gates.{output_count};
 ghost use Rattle.bb_ast.specs.Inside.Views.{expression, gate_view, module_view};
-ghost use Rattle.bb_names.specs.Inside.Firsts.{noted, terminal_spots};
-ghost use Rattle.bb_names.specs.Spots.{Read, Driven, gate_spots};
+ghost use Rattle.bb_names.specs.Inside.Firsts.{noted, terminal_sites};
+ghost use Rattle.bb_names.specs.Sites.{Read, Driven, gate_sites};
 
 use crate::faults::expressions::look_at_width;
 use crate::faults::found::{Found, note_word};
@@ -16,7 +16,7 @@ use bb_ast::{Expr, Gate, GateCall};
 use bb_bits::NoMemory;
 use std::alloc::Global;
 
-/// How many of so many terminals, from the first on, are outputs.
+/// `buf` and `not` have their input last and outputs before it; every other gate has one output first.
 fn outputs_of(gate: Gate, count: usize) -> usize
     ensures { result ≡ min (output_count gate count) count }
 {
@@ -37,7 +37,7 @@ fn look_at_terminal(
     terminal: &Expr,
     found: &mut Found,
 ) -> Result<(), NoMemory>
-    ensures noted { (text : List PlainModule) → OnOk result (found.new ≡ noted text (module_view of.now) found.old (terminal_spots gate output (expression terminal.now))) }
+    ensures noted { (text : List PlainModule) → OnOk result (found.new ≡ noted text (module_view of.now) found.old (terminal_sites gate output (expression terminal.now))) }
 {
     let word = gate_word(gate);
     if output {
@@ -49,7 +49,6 @@ fn look_at_terminal(
     }
 }
 
-/// Looks at terminals of a gate that are all outputs or all inputs.
 fn look_at_terminals(
     alloc: Global,
     of: &IndexedModule,
@@ -58,7 +57,7 @@ fn look_at_terminals(
     terminals: &[Expr],
     found: &mut Found,
 ) -> Result<(), NoMemory>
-    ensures noted { (text : List PlainModule) → OnOk result (found.new ≡ noted text (module_view of.now) found.old (flat_map (terminal_spots gate output) (map expression terminals.now))) }
+    ensures noted { (text : List PlainModule) → OnOk result (found.new ≡ noted text (module_view of.now) found.old (flat_map (terminal_sites gate output) (map expression terminals.now))) }
 {
     for terminal in terminals {
         look_at_terminal(alloc, of, gate, output, terminal, found)?;
@@ -73,14 +72,13 @@ fn look_at_gate(
     terminals: &[Expr],
     found: &mut Found,
 ) -> Result<(), NoMemory>
-    ensures noted { (text : List PlainModule) → OnOk result (found.new ≡ noted text (module_view of.now) found.old (gate_spots gate (map expression terminals.now))) }
+    ensures noted { (text : List PlainModule) → OnOk result (found.new ≡ noted text (module_view of.now) found.old (gate_sites gate (map expression terminals.now))) }
 {
     let (outputs, inputs) = terminals.split_at(outputs_of(gate, terminals.len()));
     look_at_terminals(alloc, of, gate, true, outputs, found)?;
     look_at_terminals(alloc, of, gate, false, inputs, found)
 }
 
-/// Looks at gates of one function.
 pub(crate) fn look_at_gates(
     alloc: Global,
     of: &IndexedModule,
@@ -88,7 +86,7 @@ pub(crate) fn look_at_gates(
     calls: &[GateCall],
     found: &mut Found,
 ) -> Result<(), NoMemory>
-    ensures noted { (text : List PlainModule) → OnOk result (found.new ≡ noted text (module_view of.now) found.old (flat_map (λ x. gate_spots gate x.1) (map gate_view calls.now))) }
+    ensures noted { (text : List PlainModule) → OnOk result (found.new ≡ noted text (module_view of.now) found.old (flat_map (λ x. gate_sites gate x.1) (map gate_view calls.now))) }
 {
     for call in calls {
         look_at_gate(alloc, of, gate, call.terms.as_slice(), found)?;

@@ -1,4 +1,6 @@
-//! Faults of instances and their connections.
+//! Faults of instances (IEEE 1364-2005, 12.3.5, 12.3.6 and 12.3.9). A connection that names no port is unknown, and not
+//! also a second one. Where the instance's module is not in the text, that is the only fault of its list of ports:
+//! without a header nothing can be said of names and widths, but the connected expressions are still checked.
 ghost use Rattle.std.specs.Prelude.{◌≡◌, ◌≤◌, ◌^◌, ◌++◌, ◌∷◌, [], ℕ, List, Some, Option, false, map, length, nat_lt, ◌&&◌, not, option_map, OnOk, IfSome};
 ghost use Rattle.std.specs.Option.{option_map_or};
 ghost use Rattle.bb_ast.specs.Syntax.{PlainModule, Order, Named, Calls};
@@ -6,9 +8,9 @@ ghost use Rattle.bb_ast.specs.Assignable.{is_assignable};
 ghost use Rattle.bb_ast.specs.Inside.Views.{expression, optional_view, named_view, conns_view, call_view, module_view};
 ghost use Rattle.bb_names.specs.Declarations.{Declaration, declared_by, instance_declaration};
 ghost use Rattle.bb_names.specs.Faults.{is_input};
-ghost use Rattle.bb_names.specs.Inside.Firsts.{noted, use_of, call_spots, AreSame};
+ghost use Rattle.bb_names.specs.Inside.Firsts.{noted, use_of, call_sites, AreSame};
 ghost use Rattle.bb_bits.specs.Earlier.{has_name};
-ghost use Rattle.bb_names.specs.Spots.{PortName, use_at, joined_spots, conns_spots, place_count, item_spots};
+ghost use Rattle.bb_names.specs.Sites.{PortName, use_at, joined_sites, conns_sites, place_count, item_sites};
 ghost use Rattle.bb_names.specs.Inside.Summaries.{Describes};
 
 use crate::faults::expressions::{look, look_at_width};
@@ -24,7 +26,6 @@ use bb_bits::{Name, NoMemory};
 use indexmap::IndexSet;
 use std::alloc::Global;
 
-/// What an instance does to what is connected to its port.
 fn role_at(dir: Dir) -> Role
     ensures { use_of result ≡ use_at dir }
 {
@@ -34,7 +35,6 @@ fn role_at(dir: Dir) -> Role
     }
 }
 
-/// Whether it may not be connected to a port of this direction.
 fn is_wrong_at(dir: Dir, expr: &Expr) -> bool
     ensures { result ≡ (not (is_input dir) && not (is_assignable (expression expr.now))) }
 {
@@ -44,7 +44,7 @@ fn is_wrong_at(dir: Dir, expr: &Expr) -> bool
     }
 }
 
-/// Looks at an expression that is connected to a port, if there is one.
+/// `pin` is none where there is no such port, which is reported elsewhere.
 fn look_at_joined(
     alloc: Global,
     of: &IndexedModule,
@@ -53,7 +53,7 @@ fn look_at_joined(
     found: &mut Found,
 ) -> Result<(), NoMemory>
     requires small { IfSome pin (λ p. p.width ≤ 2 ^ 32) }
-    ensures noted { (text : List PlainModule) → OnOk result (found.new ≡ noted text (module_view of.now) found.old (joined_spots (option_map (λ p. record { name = p.name.now; dir = p.dir; width = p.width }) pin.entry) (Some (expression expr.now)))) }
+    ensures noted { (text : List PlainModule) → OnOk result (found.new ≡ noted text (module_view of.now) found.old (joined_sites (option_map (λ p. record { name = p.name.now; dir = p.dir; width = p.width }) pin.entry) (Some (expression expr.now)))) }
 {
     let Some(pin) = pin else {
         look(alloc, of, Role::Read, expr, found)?;
@@ -71,7 +71,6 @@ fn look_at_joined(
     )
 }
 
-/// Looks at what may be connected to a port, if there is one.
 fn look_at_place(
     alloc: Global,
     of: &IndexedModule,
@@ -80,7 +79,7 @@ fn look_at_place(
     found: &mut Found,
 ) -> Result<(), NoMemory>
     requires small { IfSome pin (λ p. p.width ≤ 2 ^ 32) }
-    ensures noted { (text : List PlainModule) → OnOk result (found.new ≡ noted text (module_view of.now) found.old (joined_spots (option_map (λ p. record { name = p.name.now; dir = p.dir; width = p.width }) pin.entry) (optional_view place.now))) }
+    ensures noted { (text : List PlainModule) → OnOk result (found.new ≡ noted text (module_view of.now) found.old (joined_sites (option_map (λ p. record { name = p.name.now; dir = p.dir; width = p.width }) pin.entry) (optional_view place.now))) }
 {
     match place {
         Some(expr) => look_at_joined(alloc, of, pin, expr, found),
@@ -88,7 +87,6 @@ fn look_at_place(
     }
 }
 
-/// Looks at connections by order.
 fn look_at_places(
     alloc: Global,
     of: &IndexedModule,
@@ -96,7 +94,7 @@ fn look_at_places(
     places: &[Option<Expr>],
     found: &mut Found,
 ) -> Result<(), NoMemory>
-    ensures noted { (text : List PlainModule) → OnOk result (found.new ≡ noted text (module_view of.now) found.old (conns_spots (option_map (λ t. module_view t.now) target.entry) (Order (map optional_view places.now)))) }
+    ensures noted { (text : List PlainModule) → OnOk result (found.new ≡ noted text (module_view of.now) found.old (conns_sites (option_map (λ t. module_view t.now) target.entry) (Order (map optional_view places.now)))) }
 {
     for (k, place) in places.iter().enumerate() {
         look_at_place(alloc, of, pin_by_place(target, k), place, found)?;
@@ -104,7 +102,7 @@ fn look_at_places(
     Ok(())
 }
 
-/// Looks at the name of a port of a module; `again` tells whether an earlier connection has it.
+/// `again` says whether an earlier connection of this instance has the name.
 fn look_at_port_of(
     target: &IndexedModule,
     again: bool,
@@ -118,7 +116,6 @@ fn look_at_port_of(
     note(&mut found.unknown, nowhere, name)
 }
 
-/// Looks at the name of a port in a connection, after the names of earlier ones, and puts it behind them.
 fn look_at_port(
     target: Option<&IndexedModule>,
     earlier: &mut IndexSet<Name>,
@@ -136,7 +133,6 @@ fn look_at_port(
     }
 }
 
-/// Looks at connections by name, where none stands before them.
 fn look_at_connections(
     alloc: Global,
     of: &IndexedModule,
@@ -147,7 +143,7 @@ fn look_at_connections(
 ) -> Result<(), NoMemory>
     requires none { earlier.old.keys ≡ [] }
     ensures noted { (text : List PlainModule) → OnOk result (found.new ≡ noted text (module_view of.now) found.old
-        (conns_spots (option_map (λ t. module_view t.now) target.entry) (Named (map named_view all.now)))) }
+        (conns_sites (option_map (λ t. module_view t.now) target.entry) (Named (map named_view all.now)))) }
 {
     for (name, place) in all {
         look_at_port(target, earlier, name, found)?;
@@ -156,7 +152,6 @@ fn look_at_connections(
     Ok(())
 }
 
-/// Looks at connections by name.
 fn look_at_named(
     alloc: Global,
     of: &IndexedModule,
@@ -165,13 +160,13 @@ fn look_at_named(
     found: &mut Found,
 ) -> Result<(), NoMemory>
     ensures noted { (text : List PlainModule) → OnOk result (found.new ≡ noted text (module_view of.now) found.old
-        (conns_spots (option_map (λ t. module_view t.now) target.entry) (Named (map named_view all.now)))) }
+        (conns_sites (option_map (λ t. module_view t.now) target.entry) (Named (map named_view all.now)))) }
 {
     let mut earlier = IndexSet::new(alloc);
     look_at_connections(alloc, of, target, &mut earlier, all, found)
 }
 
-/// Whether there are more places by order than ports.
+/// Reported at the instance's name, since a connection too many has no port to be named by.
 fn has_too_many(target: Option<&IndexedModule>, conns: &Conns) -> bool
     ensures { result ≡ option_map_or (λ t. nat_lt (length t.heads) (place_count (conns_view conns.now))) (option_map (λ t. module_view t.now) target.entry) false }
 {
@@ -188,7 +183,7 @@ fn look_at_conns(
     conns: &Conns,
     found: &mut Found,
 ) -> Result<(), NoMemory>
-    ensures noted { (text : List PlainModule) → OnOk result (found.new ≡ noted text (module_view of.now) found.old (conns_spots (option_map (λ t. module_view t.now) target.entry) (conns_view conns.now))) }
+    ensures noted { (text : List PlainModule) → OnOk result (found.new ≡ noted text (module_view of.now) found.old (conns_sites (option_map (λ t. module_view t.now) target.entry) (conns_view conns.now))) }
 {
     match conns {
         Conns::Order(places) => look_at_places(alloc, of, target, places, found),
@@ -204,7 +199,7 @@ fn look_at_call(
     call: &Call,
     found: &mut Found,
 ) -> Result<(), NoMemory>
-    ensures noted { (text : List PlainModule) (before : List Declaration) → Describes earlier.old.entries before → OnOk result (found.new ≡ noted text (module_view of.now) found.old (call_spots (option_map (λ t. module_view t.now) target.entry) before (call_view call.now))) }
+    ensures noted { (text : List PlainModule) (before : List Declaration) → Describes earlier.old.entries before → OnOk result (found.new ≡ noted text (module_view of.now) found.old (call_sites (option_map (λ t. module_view t.now) target.entry) before (call_view call.now))) }
     ensures declared { (before : List Declaration) → Describes earlier.old.entries before → OnOk result (Describes earlier.new.entries (before ++ instance_declaration call.now.name ∷ [])) }
 {
     look_at_declared(of, earlier, &call.name, DeclaredAs::instance(), found)?;
@@ -216,7 +211,6 @@ fn look_at_call(
     look_at_conns(alloc, of, target, &call.conns, found)
 }
 
-/// Looks at instances of one module.
 pub(crate) fn look_at_calls(
     alloc: Global,
     source: &IndexedSource,
@@ -226,7 +220,7 @@ pub(crate) fn look_at_calls(
     calls: &[Call],
     found: &mut Found,
 ) -> Result<(), NoMemory>
-    ensures noted { (before : List Declaration) → Describes earlier.old.entries before → OnOk result (found.new ≡ noted (map module_view source.now) (module_view of.now) found.old (item_spots (map module_view source.now) before (Calls target.now (map call_view calls.now)))) }
+    ensures noted { (before : List Declaration) → Describes earlier.old.entries before → OnOk result (found.new ≡ noted (map module_view source.now) (module_view of.now) found.old (item_sites (map module_view source.now) before (Calls target.now (map call_view calls.now)))) }
     ensures declared { (before : List Declaration) → Describes earlier.old.entries before → OnOk result (Describes earlier.new.entries (before ++ declared_by (Calls target.now (map call_view calls.now)))) }
 {
     let to = source.named(target);

@@ -1,11 +1,12 @@
-//! Faults of items.
+//! Faults of an item. `earlier` holds the declarations before the item, and takes those of the item as it goes: only a
+//! second declaration is judged by what comes before it, all else by the module as a whole.
 ghost use Rattle.std.specs.Prelude.{◌≡◌, ◌++◌, List, Some, None, Option, map, OnOk};
 ghost use Rattle.std.specs.List.{flat_map};
 ghost use Rattle.bb_ast.specs.Syntax.{PlainModule, Nets};
 ghost use Rattle.bb_ast.specs.Inside.Views.{arm_view, optional_view, named_view, body_view, module_view};
 ghost use Rattle.bb_names.specs.Declarations.{Declaration, declared_by};
 ghost use Rattle.bb_names.specs.Inside.Firsts.{noted};
-ghost use Rattle.bb_names.specs.Spots.{Read, Driven, initial_spots, spots_in, item_spots};
+ghost use Rattle.bb_names.specs.Sites.{Read, Driven, initial_sites, sites_in, item_sites};
 ghost use Rattle.bb_names.specs.Inside.Summaries.{Describes};
 
 use crate::faults::expressions::{look, look_at_name};
@@ -23,7 +24,7 @@ use bb_ast::{Always, Body, Expr, Range};
 use bb_bits::{Name, NoMemory};
 use std::alloc::Global;
 
-/// Looks at what a declared wire is assigned, if it is.
+/// A declaration with an assignment drives its net (IEEE 1364-2005, 6.1.1).
 fn look_at_initial(
     alloc: Global,
     of: &IndexedModule,
@@ -31,7 +32,7 @@ fn look_at_initial(
     value: &Option<Expr>,
     found: &mut Found,
 ) -> Result<(), NoMemory>
-    ensures noted { (text : List PlainModule) → OnOk result (found.new ≡ noted text (module_view of.now) found.old (initial_spots (name.now, optional_view value.now))) }
+    ensures noted { (text : List PlainModule) → OnOk result (found.new ≡ noted text (module_view of.now) found.old (initial_sites (name.now, optional_view value.now))) }
 {
     let Some(value) = value else {
         return Ok(());
@@ -41,7 +42,6 @@ fn look_at_initial(
     Ok(())
 }
 
-/// Looks at declared wires, each with what it is assigned.
 fn look_at_nets(
     alloc: Global,
     of: &IndexedModule,
@@ -50,7 +50,7 @@ fn look_at_nets(
     nets: &[(Name, Option<Expr>)],
     found: &mut Found,
 ) -> Result<(), NoMemory>
-    ensures noted { (text : List PlainModule) (before : List Declaration) → Describes earlier.old.entries before → OnOk result (found.new ≡ noted text (module_view of.now) found.old (item_spots text before (Nets range (map named_view nets.now)))) }
+    ensures noted { (text : List PlainModule) (before : List Declaration) → Describes earlier.old.entries before → OnOk result (found.new ≡ noted text (module_view of.now) found.old (item_sites text before (Nets range (map named_view nets.now)))) }
     ensures declared { (before : List Declaration) → Describes earlier.old.entries before → OnOk result (Describes earlier.new.entries (before ++ declared_by (Nets range (map named_view nets.now)))) }
 {
     for (name, value) in nets {
@@ -72,7 +72,7 @@ fn look_at_assigned(
     all: &[(Expr, Expr)],
     found: &mut Found,
 ) -> Result<(), NoMemory>
-    ensures noted { (text : List PlainModule) → OnOk result (found.new ≡ noted text (module_view of.now) found.old (flat_map (λ x. spots_in Driven x.0 ++ spots_in Read x.1) (map arm_view all.now))) }
+    ensures noted { (text : List PlainModule) → OnOk result (found.new ≡ noted text (module_view of.now) found.old (flat_map (λ x. sites_in Driven x.0 ++ sites_in Read x.1) (map arm_view all.now))) }
 {
     for (left, right) in all {
         look(alloc, of, Role::Driven, left, found)?;
@@ -81,7 +81,6 @@ fn look_at_assigned(
     Ok(())
 }
 
-/// Looks at an item, after the earlier declarations of its module, and puts its own behind them.
 pub(crate) fn look_at_item(
     alloc: Global,
     source: &IndexedSource,
@@ -90,7 +89,7 @@ pub(crate) fn look_at_item(
     body: &Body,
     found: &mut Found,
 ) -> Result<(), NoMemory>
-    ensures noted { (before : List Declaration) → Describes earlier.old.entries before → OnOk result (found.new ≡ noted (map module_view source.now) (module_view of.now) found.old (item_spots (map module_view source.now) before (body_view body.now))) }
+    ensures noted { (before : List Declaration) → Describes earlier.old.entries before → OnOk result (found.new ≡ noted (map module_view source.now) (module_view of.now) found.old (item_sites (map module_view source.now) before (body_view body.now))) }
     ensures declared { (before : List Declaration) → Describes earlier.old.entries before → OnOk result (Describes earlier.new.entries (before ++ declared_by (body_view body.now))) }
 {
     match body {

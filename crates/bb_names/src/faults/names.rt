@@ -1,11 +1,12 @@
-//! Twice: a name that is declared a second time.
+//! Faults of declared names and of the names of a header. A name of a header needs a direction, in the header or in any
+//! item.
 ghost use Rattle.std.specs.Prelude.{◌≡◌, ◌++◌, ◌∷◌, [], List, map, take, OnOk};
 ghost use Rattle.std.specs.List.{flat_map};
 ghost use Rattle.bb_ast.specs.Syntax.{PlainHead, PlainModule};
 ghost use Rattle.bb_ast.specs.Inside.Views.{module_view, head_view};
 ghost use Rattle.bb_names.specs.Declarations.{Declaration, declared_by_head};
-ghost use Rattle.bb_names.specs.Inside.Firsts.{noted, head_spots};
-ghost use Rattle.bb_names.specs.Spots.{HeadName, Declared as DeclaredSpot, declared_spots};
+ghost use Rattle.bb_names.specs.Inside.Firsts.{noted, head_sites};
+ghost use Rattle.bb_names.specs.Sites.{HeadName, Declared as DeclaredSite, declared_sites};
 ghost use Rattle.bb_names.specs.Inside.Summaries.{named, Describes};
 ghost use Rattle.bb_bits.specs.Earlier.{each_after};
 
@@ -18,7 +19,6 @@ use crate::summary::{Declared, DeclaredAs, declare_next, is_clash};
 use bb_ast::Head;
 use bb_bits::{Name, NoMemory};
 
-/// Looks at a declared name, after the earlier declarations, and puts its declaration behind them.
 pub(crate) fn look_at_declared(
     of: &IndexedModule,
     earlier: &mut Declared,
@@ -26,7 +26,7 @@ pub(crate) fn look_at_declared(
     d: DeclaredAs,
     found: &mut Found,
 ) -> Result<(), NoMemory>
-    ensures noted { (text : List PlainModule) (before : List Declaration) → Describes earlier.old.entries before → OnOk result (found.new ≡ noted text (module_view of.now) found.old (DeclaredSpot before (named name.now d) ∷ [])) }
+    ensures noted { (text : List PlainModule) (before : List Declaration) → Describes earlier.old.entries before → OnOk result (found.new ≡ noted text (module_view of.now) found.old (DeclaredSite before (named name.now d) ∷ [])) }
     ensures declared { (before : List Declaration) → Describes earlier.old.entries before → OnOk result (Describes earlier.new.entries (before ++ named name.now d ∷ [])) }
 {
     let before = declare_next(earlier, name, d)?;
@@ -39,7 +39,6 @@ pub(crate) fn look_at_declared(
     note(&mut found.role, wrong, name)
 }
 
-/// Looks at names that are declared as the same.
 pub(crate) fn look_at_names(
     of: &IndexedModule,
     earlier: &mut Declared,
@@ -47,7 +46,7 @@ pub(crate) fn look_at_names(
     d: DeclaredAs,
     found: &mut Found,
 ) -> Result<(), NoMemory>
-    ensures noted { (text : List PlainModule) (before : List Declaration) → Describes earlier.old.entries before → OnOk result (found.new ≡ noted text (module_view of.now) found.old (declared_spots before (map (λ n. named n d) names.now))) }
+    ensures noted { (text : List PlainModule) (before : List Declaration) → Describes earlier.old.entries before → OnOk result (found.new ≡ noted text (module_view of.now) found.old (declared_sites before (map (λ n. named n d) names.now))) }
     ensures declared { (before : List Declaration) → Describes earlier.old.entries before → OnOk result (Describes earlier.new.entries (before ++ map (λ n. named n d) names.now)) }
 {
     for name in names {
@@ -73,14 +72,13 @@ fn look_at_head_name(
     note(&mut found.unknown, nowhere, name)
 }
 
-/// Looks at what a name of a header is declared as.
 fn look_at_head_port(
     of: &IndexedModule,
     earlier: &mut Declared,
     head: &Head,
     found: &mut Found,
 ) -> Result<(), NoMemory>
-    ensures noted { (text : List PlainModule) (before : List Declaration) → Describes earlier.old.entries before → OnOk result (found.new ≡ noted text (module_view of.now) found.old (declared_spots before (declared_by_head (head_view head.now)))) }
+    ensures noted { (text : List PlainModule) (before : List Declaration) → Describes earlier.old.entries before → OnOk result (found.new ≡ noted text (module_view of.now) found.old (declared_sites before (declared_by_head (head_view head.now)))) }
     ensures declared { (before : List Declaration) → Describes earlier.old.entries before → OnOk result (Describes earlier.new.entries (before ++ declared_by_head (head_view head.now))) }
 {
     match head.decl {
@@ -96,7 +94,7 @@ fn look_at_head(
     head: &Head,
     found: &mut Found,
 ) -> Result<(), NoMemory>
-    ensures noted { (text : List PlainModule) (front : List PlainHead) → take place (module_view of.now).heads ≡ front → Describes earlier.old.entries (flat_map declared_by_head front) → OnOk result (found.new ≡ noted text (module_view of.now) found.old (head_spots front (head_view head.now))) }
+    ensures noted { (text : List PlainModule) (prefix : List PlainHead) → take place (module_view of.now).heads ≡ prefix → Describes earlier.old.entries (flat_map declared_by_head prefix) → OnOk result (found.new ≡ noted text (module_view of.now) found.old (head_sites prefix (head_view head.now))) }
     ensures declared { (before : List Declaration) → Describes earlier.old.entries before → OnOk result (Describes earlier.new.entries (before ++ declared_by_head (head_view head.now))) }
 {
     look_at_head_name(of, place, &head.name, found)?;
@@ -108,7 +106,7 @@ pub(crate) fn look_at_heads(
     earlier: &mut Declared,
     found: &mut Found,
 ) -> Result<(), NoMemory>
-    ensures noted { (text : List PlainModule) → Describes earlier.old.entries [] → OnOk result (found.new ≡ noted text (module_view of.now) found.old (each_after head_spots (module_view of.now).heads)) }
+    ensures noted { (text : List PlainModule) → Describes earlier.old.entries [] → OnOk result (found.new ≡ noted text (module_view of.now) found.old (each_after head_sites (module_view of.now).heads)) }
     ensures declared { Describes earlier.old.entries [] → OnOk result (Describes earlier.new.entries (flat_map declared_by_head (module_view of.now).heads)) }
 {
     for (place, head) in of.module().heads.iter().enumerate() {

@@ -1,11 +1,12 @@
-//! Faults of registers and their clocks.
+//! Faults of registers and their clocks. A clock that is not one bit is reported by its first name, as a clock; that it
+//! may also be too wide as an expression comes after it.
 ghost use Rattle.std.specs.Prelude.{◌≡◌, ◌++◌, ◌∷◌, List, Some, None, Option, map, option_map, OnOk};
 ghost use Rattle.std.specs.List.{flat_map};
 ghost use Rattle.bb_ast.specs.Syntax.{PlainModule};
 ghost use Rattle.bb_ast.specs.Names.{names_in};
 ghost use Rattle.bb_ast.specs.Inside.Views.{expression, operand_view, arm_view, always_view, module_view};
-ghost use Rattle.bb_names.specs.Inside.Firsts.{noted, first_of, register_spots};
-ghost use Rattle.bb_names.specs.Spots.{Read, Clock, spots_in};
+ghost use Rattle.bb_names.specs.Inside.Firsts.{noted, first_of, register_sites};
+ghost use Rattle.bb_names.specs.Sites.{Read, Clock, sites_in};
 
 use crate::faults::expressions::{look, look_at_width};
 use crate::faults::found::Found;
@@ -98,7 +99,7 @@ fn look_at_clock(
     clock: &Expr,
     found: &mut Found,
 ) -> Result<(), NoMemory>
-    ensures noted { (text : List PlainModule) → OnOk result (found.new ≡ noted text (module_view of.now) found.old (Clock (expression clock.now) ∷ spots_in Read (expression clock.now))) }
+    ensures noted { (text : List PlainModule) → OnOk result (found.new ≡ noted text (module_view of.now) found.old (Clock (expression clock.now) ∷ sites_in Read (expression clock.now))) }
 {
     let Some(name) = first_name(clock) else {
         look(alloc, of, Role::Read, clock, found)?;
@@ -113,7 +114,7 @@ pub(crate) fn look_at_register(
     register: &Always,
     found: &mut Found,
 ) -> Result<(), NoMemory>
-    ensures noted { (text : List PlainModule) → OnOk result (found.new ≡ noted text (module_view of.now) found.old (register_spots (always_view register.now))) }
+    ensures noted { (text : List PlainModule) → OnOk result (found.new ≡ noted text (module_view of.now) found.old (register_sites (always_view register.now))) }
 {
     look_at_clock(alloc, of, &register.clock, found)?;
     look(alloc, of, Role::Stored, &register.left, found)?;

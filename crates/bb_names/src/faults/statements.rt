@@ -1,11 +1,12 @@
-//! The first fault of a statement and of a module.
+//! The first fault of a statement and of a module. Checking ends with the first statement that has one, so no fault has
+//! to be separated from the consequences of an earlier one.
 ghost use Rattle.std.specs.Prelude.{◌≡◌, ◌++◌, [], List, Some, None, map, take, slice_get, MatchResult, OnOk};
 ghost use Rattle.std.specs.List.{flat_map};
 ghost use Rattle.bb_ast.specs.Inside.Views.{body_view, module_view};
 ghost use Rattle.bb_names.specs.Declarations.{Declaration, declared_by, declared_by_head};
 ghost use Rattle.bb_names.specs.Faults.{statement_faults, module_faults};
 ghost use Rattle.bb_names.specs.Inside.Firsts.{noted, first_fault, Answers};
-ghost use Rattle.bb_names.specs.Spots.{header_spots, item_spots};
+ghost use Rattle.bb_names.specs.Sites.{header_sites, item_sites};
 ghost use Rattle.bb_names.specs.Inside.Summaries.{Describes};
 
 use crate::fault::NameFault;
@@ -21,7 +22,6 @@ use bb_bits::NoMemory;
 use indexmap::IndexMap;
 use std::alloc::Global;
 
-/// Answers the first fault of a statement at a line.
 fn answer(found: Found, line: u32) -> Result<(), NameFault>
     ensures { MatchResult result (λ _. first_fault line found ≡ None) (λ fault. first_fault line found ≡ Some fault) }
 {
@@ -31,7 +31,6 @@ fn answer(found: Found, line: u32) -> Result<(), NameFault>
     }
 }
 
-/// Looks at the header of the module at a place.
 fn look_at_header(
     source: &IndexedSource,
     of: &IndexedModule,
@@ -41,7 +40,7 @@ fn look_at_header(
 ) -> Result<(), NoMemory>
     requires none { Describes earlier.old.entries [] }
     ensures noted { OnOk result (found.new ≡ noted (map module_view source.now) (module_view of.now) found.old
-        (header_spots (take place (map module_view source.now)) (module_view of.now))) }
+        (header_sites (take place (map module_view source.now)) (module_view of.now))) }
     ensures declared { OnOk result (Describes earlier.new.entries (flat_map declared_by_head (module_view of.now).heads)) }
 {
     let name = &of.module().name;
@@ -57,7 +56,7 @@ fn check_header(
 ) -> Result<(), NameFault>
     requires place { slice_get (map module_view source.now) place ≡ Some (module_view of.now) }
     requires none { Describes earlier.old.entries [] }
-    ensures answers { Answers result (statement_faults (map module_view source.now) (module_view of.now) (module_view of.now).line (header_spots (take place (map module_view source.now)) (module_view of.now))) }
+    ensures answers { Answers result (statement_faults (map module_view source.now) (module_view of.now) (module_view of.now).line (header_sites (take place (map module_view source.now)) (module_view of.now))) }
     ensures declared { OnOk result (Describes earlier.new.entries (flat_map declared_by_head (module_view of.now).heads)) }
 {
     let mut found = Found::none();
@@ -72,7 +71,7 @@ fn check_item(
     earlier: &mut Declared,
     item: &Item,
 ) -> Result<(), NameFault>
-    ensures answers { (before : List Declaration) → Describes earlier.old.entries before → Answers result (statement_faults (map module_view source.now) (module_view of.now) item.now.line (item_spots (map module_view source.now) before (body_view item.now.body))) }
+    ensures answers { (before : List Declaration) → Describes earlier.old.entries before → Answers result (statement_faults (map module_view source.now) (module_view of.now) item.now.line (item_sites (map module_view source.now) before (body_view item.now.body))) }
     ensures declared { (before : List Declaration) → Describes earlier.old.entries before → OnOk result (Describes earlier.new.entries (before ++ declared_by (body_view item.now.body))) }
 {
     let mut found = Found::none();
@@ -80,7 +79,6 @@ fn check_item(
     answer(found, item.line)
 }
 
-/// The first fault of the module at a place, where nothing is declared yet.
 fn check_statements(
     alloc: Global,
     source: &IndexedSource,
@@ -100,7 +98,7 @@ fn check_statements(
     Ok(())
 }
 
-/// The first fault of the module at a place.
+/// `place` is the module's own, by which earlier modules of its name are seen.
 pub(crate) fn check_module(
     alloc: Global,
     source: &IndexedSource,

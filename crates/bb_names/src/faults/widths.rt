@@ -1,17 +1,18 @@
-//! Width: too wide, or not as wide as it has to be.
+//! Widths: own widths by IEEE 1364-2005, 5.4.1 and table 5-22, and what has a wrong one. Widths saturate at 2^64 - 1;
+//! see `expressions.rt` for why that is exact enough.
 ghost use Rattle.std.specs.Prelude.{◌≡◌, ◌+◌, ◌≤◌, ◌^◌, ◌==◌, not, ℕ, List, max, option_map};
 ghost use Rattle.bb_ast.specs.Syntax.{PlainModule};
 ghost use Rattle.bb_ast.specs.Inside.Views.{expression};
 ghost use Rattle.bb_ast.specs.Gates.{gate_bytes};
-ghost use Rattle.bb_names.specs.Faults.{is_no_copy, told_if, width_in, wrong_width};
+ghost use Rattle.bb_names.specs.Faults.{is_no_copy, reported_if, width_in, wrong_width};
 ghost use Rattle.bb_names.specs.Inside.Firsts.{first_of, saturated};
-ghost use Rattle.bb_names.specs.Spots.{Whole};
+ghost use Rattle.bb_names.specs.Sites.{Whole};
 ghost use Rattle.bb_names.specs.Ranges.{distance, range_width};
 ghost use Rattle.bb_names.specs.Widths.{operator_width};
 
 use bb_ast::{Expr, Gate, Range, WordOp};
 
-/// No net and no expression has more bits.
+/// In bits, of a net and of an expression.
 pub(crate) const WIDEST: u64 = 65536;
 
 pub(crate) fn bits_between(i: u32, j: u32) -> u64
@@ -36,7 +37,7 @@ pub(crate) fn wider(a: u64, b: u64) -> u64
     if a < b { b } else { a }
 }
 
-/// The own width of an operator on words, whose operands have these widths.
+/// A shift is as wide as its left operand alone; a comparison and a truth have one bit.
 pub(crate) fn operator_width(op: WordOp, left: u64, right: u64) -> u64
     ensures { result ≡ operator_width op left right }
 {
@@ -47,14 +48,14 @@ pub(crate) fn operator_width(op: WordOp, left: u64, right: u64) -> u64
     }
 }
 
-/// Whether it is a replication of no copies.
+/// A replication of no copies would be an expression of no bits.
 fn is_empty_repeat(expr: &Expr) -> bool
     ensures { result ≡ is_no_copy (expression expr.now) }
 {
     matches!(expr, Expr::Repeat(0, _))
 }
 
-/// What is wrong with an expression as a whole, if anything is.
+/// `repeat` before `wide`.
 pub(crate) fn word_of(expr: &Expr, width: u64) -> Option<&'static [u8]>
     ensures { (text : List PlainModule) (m : PlainModule) (full : ℕ) → width_in m (expression expr.now) ≡ full → width ≡ saturated full → option_map (λ word. word.now) result ≡ first_of (wrong_width text m (Whole (expression expr.now))) }
 {
@@ -67,7 +68,6 @@ pub(crate) fn word_of(expr: &Expr, width: u64) -> Option<&'static [u8]>
     }
 }
 
-/// Whether an expression of this width has not so many bits as are wanted.
 pub(crate) fn is_other_width(width: u64, wanted: u64) -> bool
     requires small { wanted ≤ 2 ^ 32 }
     ensures { (full : ℕ) → width ≡ saturated full → result ≡ not (full == wanted) }
@@ -76,7 +76,7 @@ pub(crate) fn is_other_width(width: u64, wanted: u64) -> bool
 }
 
 pub(crate) fn word_where(wrong: bool, word: &[u8]) -> Option<&[u8]>
-    ensures { option_map (λ w. w.now) result ≡ first_of (told_if wrong word.entry.now) }
+    ensures { option_map (λ w. w.now) result ≡ first_of (reported_if wrong word.entry.now) }
 {
     if wrong { Some(word) } else { None }
 }

@@ -1,5 +1,5 @@
--- A list of cells that is
--- partly in order: some of its cells have their places in a netlist, and the others wait for theirs.
+-- A list of cells that is partly levelized: some of its cells have their places in a netlist, and the others wait for
+-- theirs.
 use Rattle.std.specs.Prelude.{◌≡◌, ◌≢◌, ◌↔◌, ◌⊎◌, ℕ, ◌+◌, ◌<◌, ◌≤◌, zero, suc, Bool, true, List, [], ◌∷◌, length, take, map, All, AllPairs, Contains, slice_index, Option, None, Some, unwrap_or, is_none}
 use Rattle.std.specs.List.{slice_index_or, count_by}
 use Rattle.std.specs.Ordering.{nat_cmp}
@@ -7,17 +7,17 @@ use Rattle.std.specs.BinaryHeap.{IsHeap, heap_items}
 use Rattle.std.specs.declared.cmp.Reverse.{Reverse}
 use Rattle.bb_net.specs.declared.loose.LooseCell.{LooseCell}
 use Rattle.bb_net.specs.declared.loose.LooseCell.TheVariants.{Copy, BoxOut}
-use Rattle.bb_net.specs.declared.placing.Waiter.{Waiter}
-use Rattle.bb_net.specs.declared.placing.Waiter.TheVariants as waiter
-use Rattle.bb_net.specs.declared.placing.Moved.{Moved}
-use Rattle.bb_net.specs.declared.placing.Moved.TheVariants as what
-use Rattle.bb_net.specs.declared.placing.Placing.{Placing}
+use Rattle.bb_net.specs.declared.ordering.placing.Waiter.{Waiter}
+use Rattle.bb_net.specs.declared.ordering.placing.Waiter.TheVariants as waiter
+use Rattle.bb_net.specs.declared.ordering.placing.Moved.{Moved}
+use Rattle.bb_net.specs.declared.ordering.placing.Moved.TheVariants as what
+use Rattle.bb_net.specs.declared.ordering.placing.Placing.{Placing}
 use Rattle.bb_net.specs.Netlists.{Netlist, cell_at, box_at}
 use Rattle.bb_net.specs.Values.{bit_of}
 use Rattle.bb_net.specs.Loose.{LooseList, loose_at, operands, IsLoose}
-use Rattle.bb_net.specs.Orders.{IsKept, IsSource, IsMoved, IsReady}
+use Rattle.bb_net.specs.Orders.{IsNoCopy, IsCopySource, IsMoved, IsReadyBox}
 
--- a cell of the list stands at a place of the netlist
+-- a cell of the list is at a place of the netlist
 abbrev pub IsAt : List (Option ℕ) → ℕ → ℕ → Type 0
 IsAt to k place = slice_index_or to k None ≡ Some place
 
@@ -37,7 +37,7 @@ given_place to k = unwrap_or (slice_index_or to k None) 0
 abbrev pub open_count : List (Option ℕ) → ℕ
 open_count to = count_by is_none to
 
--- every walk of dependence from a place ends before so many steps
+-- every walk of dependence from a place ends before this many steps
 abbrev pub EndsWithin : ℕ → LooseList → ℕ → Type 0
 EndsWithin zero l k = ⊥
 EndsWithin (suc n) l k = (a : ℕ) → Contains (operands l.boxes (loose_at l k)) a → EndsWithin n l a
@@ -46,17 +46,17 @@ EndsWithin (suc n) l k = (a : ℕ) → Contains (operands l.boxes (loose_at l k)
 abbrev pub InputsEnd : LooseList → ℕ → Type 0
 InputsEnd l b = (n : ℕ) × ((pin : ℕ) → Contains (box_at l.boxes b).ins pin → EndsWithin n l pin)
 
--- the cells that have places and the boxes that have numbers: what each reads has its place, and each box was the first one
--- that was ready
+-- the cells that have places and the boxes that have numbers: what each reads has its place, and each box was the first
+-- one that was ready
 pub record IsBegun (l : LooseList) (to : List (Option ℕ)) (numbers : List ℕ) : Type 0 where
   pub whole : length to ≡ length l.cells
   -- the constants and the inputs stay where they are
-  pub front : (k : ℕ) → k < l.inputs + 2 → IsAt to k k
-  -- what a cell reads has its place, and a copy stands where the cell stands that it copies
+  pub prefix : (k : ℕ) → k < l.inputs + 2 → IsAt to k k
+  -- what a cell reads has its place, and a buffer is where the cell is that it buffers
   pub reads : (k place a : ℕ) → IsAt to k place → Contains (operands l.boxes (loose_at l k)) a → IsPlaced to a
   pub copies : (k p place : ℕ) → IsAt to k place → loose_at l k ≡ Copy p → IsAt to p place
-  -- chains of copies end, and so do all walks of dependence
-  pub sources : (k place : ℕ) → IsAt to k place → (n source : ℕ) × IsSource n l k source
+  -- chains of buffers end, and so do all walks of dependence
+  pub sources : (k place : ℕ) → IsAt to k place → (n source : ℕ) × IsCopySource n l k source
   pub depth : ℕ
   pub ends : (k place : ℕ) → IsAt to k place → EndsWithin depth l k
   -- an output pin has its place only where its box has its number
@@ -66,20 +66,20 @@ pub record IsBegun (l : LooseList) (to : List (Option ℕ)) (numbers : List ℕ)
   pub apart : AllPairs ◌≢◌ numbers
   pub pins : (b pin : ℕ) → Contains numbers b → Contains (box_at l.boxes b).ins pin → IsPlaced to pin
   -- it was ready at its turn, and the first of those that were, but for boxes that can never be ready
-  pub ready : (b : ℕ) → b < length numbers → IsReady l (take b numbers) (slice_index numbers b)
-  pub first : (b c : ℕ) → b < length numbers → c < length l.boxes → (Contains (take b numbers) c → ⊥) → IsReady l (take b numbers) c → InputsEnd l c → slice_index numbers b ≤ c
+  pub ready : (b : ℕ) → b < length numbers → IsReadyBox l (take b numbers) (slice_index numbers b)
+  pub first : (b c : ℕ) → b < length numbers → c < length l.boxes → (Contains (take b numbers) c → ⊥) → IsReadyBox l (take b numbers) c → InputsEnd l c → slice_index numbers b ≤ c
 
--- the netlist of the cells that have places: each but the copies once, with its operands moved
+-- the netlist of the cells that have places: each but the buffers once, with its operands moved
 pub record IsBuilt (l : LooseList) (net : Netlist) (to : List (Option ℕ)) (numbers : List ℕ) : Type 0 where
   pub inputs : net.inputs ≡ l.inputs
   pub outs : net.outs ≡ []
   -- a cell of the netlist is one that has got its place
   pub room : length net.cells + open_count to ≤ length l.cells
   pub there : (k place : ℕ) → IsAt to k place → place < length net.cells
-  -- the cells but the copies stand there once each, moved, and no others do
-  pub moved : (k place : ℕ) → IsAt to k place → IsKept (loose_at l k) → IsMoved (given_place to) numbers (loose_at l k) (cell_at net.cells place)
-  pub apart : (k m place : ℕ) → IsAt to k place → IsAt to m place → IsKept (loose_at l k) → IsKept (loose_at l m) → k ≡ m
-  pub all : (place : ℕ) → place < length net.cells → (k : ℕ) × IsAt to k place × IsKept (loose_at l k)
+  -- the cells but the buffers are there once each, moved, and no others are
+  pub moved : (k place : ℕ) → IsAt to k place → IsNoCopy (loose_at l k) → IsMoved (given_place to) numbers (loose_at l k) (cell_at net.cells place)
+  pub apart : (k m place : ℕ) → IsAt to k place → IsAt to m place → IsNoCopy (loose_at l k) → IsNoCopy (loose_at l m) → k ≡ m
+  pub all : (place : ℕ) → place < length net.cells → (k : ℕ) × IsAt to k place × IsNoCopy (loose_at l k)
   -- the boxes have their input pins, moved; their output pins are listed as their cells are added
   pub box_count : length net.boxes ≡ length numbers
   pub ins : (b : ℕ) → b < length numbers → (box_at net.boxes b).ins ≡ map (given_place to) (box_at l.boxes (slice_index numbers b)).ins
@@ -117,8 +117,8 @@ BoxWaits l to waiting fresh b = (a pin : ℕ) × Contains (box_at l.boxes b).ins
 abbrev pub IsOutput : LooseCell → Type 0
 IsOutput c = (b p : ℕ) × (c ≡ BoxOut b p)
 
--- each open cell but the output pins of boxes, and each box without number, waits for a place, is woken and not yet looked at,
--- or is a box that is ready
+-- each open cell but the output pins of boxes, and each box without number, waits for a place, is woken and not yet
+-- looked at, or is a box that is ready
 pub record IsWaiting (l : LooseList) (to : List (Option ℕ)) (numbers : List ℕ) (waiting : List (List Waiter)) (fresh ready : List ℕ) (woken : List Waiter) : Type 0 where
   pub width : length waiting ≡ length l.cells
   pub fresh_there : (a : ℕ) → Contains fresh a → a < length l.cells
@@ -136,9 +136,9 @@ pub record IsPlacingBy (l : LooseList) (net : Netlist) (to : List (Option ℕ)) 
   pub built : IsBuilt l net to numbers
   pub queue : IsWaiting l to numbers waiting fresh (boxes_of ready) woken
   pub late_pins : (k b p : ℕ) → k < length l.cells → loose_at l k ≡ BoxOut b p → Contains numbers b → IsPlaced to k ⊎ Contains late k
-  -- the flags tell which boxes have numbers
+  -- the flags say which boxes have numbers
   pub flags : length numbered ≡ length l.boxes
-  pub told : (b : ℕ) → b < length l.boxes → (bit_of numbered b ≡ true) ↔ Contains numbers b
+  pub reported : (b : ℕ) → b < length l.boxes → (bit_of numbered b ≡ true) ↔ Contains numbers b
   pub heap : IsLeastFirst ready
 
 -- the same of the record of the code
@@ -155,9 +155,9 @@ pub record IsLookedAt (l : LooseList) (old new : Placing) (w : Waiter) : Type 0 
   pub less : work new ≤ work old
   pub numbers : new.numbers.items ≡ old.numbers.items
 
--- what becomes of a cell: it is moved, it stands where the cell stands that it copies, or it comes with its box
+-- the outcome for a cell: it is moved, it is where the cell is that it buffers, or it comes with its box
 abbrev pub IsResolved : List (Option ℕ) → LooseCell → Moved → Type 0
-IsResolved to c (what.New d) = IsKept c × (IsOutput c → ⊥) × ((a : ℕ) → Contains (operands [] c) a → IsPlaced to a) × ((numbers : List ℕ) → IsMoved (given_place to) numbers c d)
+IsResolved to c (what.New d) = IsNoCopy c × (IsOutput c → ⊥) × ((a : ℕ) → Contains (operands [] c) a → IsPlaced to a) × ((numbers : List ℕ) → IsMoved (given_place to) numbers c d)
 IsResolved to c (what.Same place) = (p : ℕ) × (c ≡ Copy p) × IsAt to p place
 IsResolved to c what.WithBox = IsOutput c
 

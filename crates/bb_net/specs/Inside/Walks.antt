@@ -1,5 +1,4 @@
--- A search along dependence,
--- from one place of a list of cells.
+-- A search along dependence, from one place of a list of cells.
 use Rattle.std.specs.Prelude.{◌≡◌, ℕ, ◌+◌, ◌<◌, ◌≤◌, ◌⊎◌, suc, Bool, true, not, List, length, Contains, slice_index}
 use Rattle.std.specs.List.{count_by}
 use Rattle.bb_net.specs.Netlists.{box_at}
@@ -20,8 +19,8 @@ pub record IsMarked (places : List ℕ) (old : List Bool) (before : List ℕ) (n
   pub pushed : (k : ℕ) → Contains after k → Contains before k ⊎ Contains places k
   pub work : unseen new + length after ≡ unseen old + length before
 
--- a walk of one step or more leads to each place that was seen, and what a seen place reads was seen too, unless the place
--- still is on the stack
+-- a walk of one step or more leads to each place that was seen, and what a seen place reads was seen too, unless the
+-- place still is on the stack
 pub record IsSearched (l : LooseList) (start : ℕ) (seen : List Bool) (stack : List ℕ) : Type 0 where
   pub whole : length seen ≡ length l.cells
   pub there : (k : ℕ) → Contains stack k → k < length l.cells

@@ -7,7 +7,7 @@ use Rattle.bb_outside.specs.declared.kept_files.KeptRead.{KeptRead}
 -- the other files, and the reads in their order
 pub record Kept (F : Type 0) : Type 0 where
   pub files : F
-  pub told : List FileRead
+  pub reported : List FileRead
 
 -- reads with names and texts as bytes
 abbrev pub entries : List KeptRead → List FileRead
@@ -17,7 +17,8 @@ entries reads = map (λ read. record { name = string_bytes read.name; limit = re
 abbrev pub failures : List FileRead → ℕ
 failures reads = count_by (λ read. is_none read.gave) reads
 
--- what a caller over any files sees of the reads: the count of the other files, how many of the list failed, and the list. A failure of the
--- other files for which the list finds no room is answered as want of memory, and is no failure here
+-- what a caller over any files sees of the reads: the count of the other files, how many of the list failed, and the
+-- list. A failure of the other files for which the list finds no room is reported as lack of memory, and is no failure
+-- here
 abbrev pub reads_of : ℕ → List FileRead → Reads
-reads_of count told = record { count = count; faults = failures told; told = Some told }
+reads_of count reported = record { count = count; faults = failures reported; reported = Some reported }

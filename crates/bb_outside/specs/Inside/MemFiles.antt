@@ -15,7 +15,7 @@ pub record HeldFiles : Type 0 where
 
 -- what a caller over any files sees of the reads; which names were read is not kept
 abbrev pub reads_of : HeldFiles → Reads
-reads_of m = record { count = m.reads; faults = m.faults; told = None }
+reads_of m = record { count = m.reads; faults = m.faults; reported = None }
 
 -- names and texts as bytes
 abbrev pub entries : List (String Global × Vec ℕ Global) → List (List ℕ × List ℕ)

@@ -14,4 +14,4 @@ holds_of m name = Some (text_under m.files name)
 
 -- and of the reads: none failed; which names were read is not kept
 abbrev pub reads_of : ReadFiles → Reads
-reads_of m = record { count = m.reads; faults = 0; told = None }
+reads_of m = record { count = m.reads; faults = 0; reported = None }

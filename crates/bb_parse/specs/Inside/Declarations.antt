@@ -12,18 +12,18 @@ use Rattle.bb_lex.specs.declared.mark.Mark.TheVariants.{LeftRound, RightRound, L
 use Rattle.bb_lex.specs.declared.token.Kind.{Kind}
 use Rattle.bb_lex.specs.declared.token.Kind.TheVariants as kinds
 use Rattle.bb_parse.specs.Symbols.{Symbol}
-use Rattle.bb_parse.specs.Inside.Symbols.{is_next, behind, next_kind}
-use Rattle.bb_parse.specs.Inside.Steps.{Read, ◌>>=◌, read_mark, read_name, read_plain, with_front, read_list}
+use Rattle.bb_parse.specs.Inside.Symbols.{is_next, after, next_kind}
+use Rattle.bb_parse.specs.Inside.Steps.{Read, ◌>>=◌, read_mark, read_name, read_plain, with_prefix, read_list}
 
 -- what the next symbol is, taken
 abbrev pub taken : {A : Type 0} → Option A → List Symbol → Read A
 taken None ts = None
-taken (Some x) ts = Some (x, behind ts)
+taken (Some x) ts = Some (x, after ts)
 
 -- the same, or nothing
 abbrev pub optional_taken : {A : Type 0} → Option A → List Symbol → Read (Option A)
 optional_taken None ts = Some (None, ts)
-optional_taken (Some x) ts = Some (Some x, behind ts)
+optional_taken (Some x) ts = Some (Some x, after ts)
 
 abbrev pub direction_of : Option Kind → Option Dir
 direction_of (Some (kinds.Word words.Input)) = Some dirs.Input
@@ -49,11 +49,11 @@ read_port ts = taken (direction_of (next_kind ts)) ts >>= (λ d. optional_taken 
 unfoldable pub read_ports : List Symbol → Read PlainBody
 read_ports ts = read_port ts >>= (λ p. read_list read_name p.1 >>= (λ ns. read_mark Semicolon ns.1 >>= (λ u. Some (Ports p.0 ns.0, u.1))))
 
--- behind reg
+-- after reg
 unfoldable pub read_regs : List Symbol → Read PlainBody
 read_regs ts = read_optional_range ts >>= (λ r. read_list read_name r.1 >>= (λ ns. read_mark Semicolon ns.1 >>= (λ u. Some (Regs r.0 ns.0, u.1))))
 
--- behind supply0 or supply1
+-- after supply0 or supply1
 unfoldable pub read_supply : Bool → List Symbol → Read PlainBody
 read_supply high ts = read_optional_range ts >>= (λ r. read_list read_name r.1 >>= (λ ns. read_mark Semicolon ns.1 >>= (λ u. Some (Supply high r.0 ns.0, u.1))))
 
@@ -71,24 +71,24 @@ read_ansi port ts = read_next_port port ts >>= (λ p. read_name p.1 >>= (λ n. S
 abbrev pub declared : Port × List ℕ → PlainHead
 declared x = record { name = x.1; decl = Some x.0 }
 
--- at most so many commas, each with a name and its declaration
+-- at most n commas, each with a name and its declaration
 abbrev pub read_ansi_more : Port → ℕ → List Symbol → Read (List PlainHead)
 read_ansi_more port zero ts = Some ([], ts)
-read_ansi_more port (suc n) ts = if is_next Comma ts then read_ansi port (behind ts) >>= (λ x. with_front (declared x.0 ∷ []) (read_ansi_more x.0.0 n x.1)) else Some ([], ts)
+read_ansi_more port (suc n) ts = if is_next Comma ts then read_ansi port (after ts) >>= (λ x. with_prefix (declared x.0 ∷ []) (read_ansi_more x.0.0 n x.1)) else Some ([], ts)
 
 unfoldable pub read_ansi_heads : List Symbol → Read (List PlainHead)
-read_ansi_heads ts = read_port ts >>= (λ p. read_name p.1 >>= (λ n. with_front (declared (p.0, n.0) ∷ []) (read_ansi_more p.0 (length n.1) n.1)))
+read_ansi_heads ts = read_port ts >>= (λ p. read_name p.1 >>= (λ n. with_prefix (declared (p.0, n.0) ∷ []) (read_ansi_more p.0 (length n.1) n.1)))
 
--- behind (
+-- after (
 unfoldable pub read_heads : List Symbol → Read (List PlainHead)
 read_heads ts =
-    if is_next RightRound ts then Some ([], behind ts)
+    if is_next RightRound ts then Some ([], after ts)
     else (if is_some (direction_of (next_kind ts)) then read_ansi_heads ts else read_list read_head ts) >>= (λ hs. read_mark RightRound hs.1 >>= (λ u. Some (hs.0, u.1)))
 
--- behind module
+-- after module
 unfoldable pub read_header : List Symbol → Read (List ℕ × List PlainHead)
-read_header ts = read_name ts >>= (λ n. (if is_next LeftRound n.1 then read_heads (behind n.1) else Some ([], n.1)) >>= (λ hs. read_mark Semicolon hs.1 >>= (λ u. Some ((n.0, hs.0), u.1))))
+read_header ts = read_name ts >>= (λ n. (if is_next LeftRound n.1 then read_heads (after n.1) else Some ([], n.1)) >>= (λ hs. read_mark Semicolon hs.1 >>= (λ u. Some ((n.0, hs.0), u.1))))
 
 abbrev pub header_at : Option Kind → List Symbol → Read (List ℕ × List PlainHead)
-header_at (Some (kinds.Word words.Module)) ts = read_header (behind ts)
+header_at (Some (kinds.Word words.Module)) ts = read_header (after ts)
 header_at _ ts = None

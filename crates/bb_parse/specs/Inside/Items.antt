@@ -10,15 +10,15 @@ use Rattle.bb_lex.specs.declared.mark.Mark.TheVariants.{LeftRound, RightRound, L
 use Rattle.bb_lex.specs.declared.token.Kind.{Kind}
 use Rattle.bb_lex.specs.declared.token.Kind.TheVariants as kinds
 use Rattle.bb_parse.specs.Symbols.{Symbol, Identifier, Reserved, SizedNumber, PlainNumber, Sign}
-use Rattle.bb_parse.specs.Inside.Symbols.{is_next, behind, next_kind}
-use Rattle.bb_parse.specs.Inside.Steps.{Read, ◌>>=◌, read_mark, read_name, read_plain, with_front, read_list}
+use Rattle.bb_parse.specs.Inside.Symbols.{is_next, after, next_kind}
+use Rattle.bb_parse.specs.Inside.Steps.{Read, ◌>>=◌, read_mark, read_name, read_plain, with_prefix, read_list}
 use Rattle.bb_parse.specs.Inside.Expressions.{read_expr, read_lval}
 use Rattle.bb_parse.specs.Inside.Declarations.{taken, read_optional_range, read_ports, read_regs, read_supply}
 
 unfoldable pub read_net : ℕ → List Symbol → Read (List ℕ × Option Expression)
-read_net depth ts = read_name ts >>= (λ n. if is_next Equals n.1 then read_expr depth (behind n.1) >>= (λ e. Some ((n.0, Some e.0), e.1)) else Some ((n.0, None), n.1))
+read_net depth ts = read_name ts >>= (λ n. if is_next Equals n.1 then read_expr depth (after n.1) >>= (λ e. Some ((n.0, Some e.0), e.1)) else Some ((n.0, None), n.1))
 
--- behind wire
+-- after wire
 unfoldable pub read_nets : ℕ → List Symbol → Read PlainBody
 read_nets depth ts = read_optional_range ts >>= (λ r. read_list (read_net depth) r.1 >>= (λ ns. read_mark Semicolon ns.1 >>= (λ u. Some (Nets r.0 ns.0, u.1))))
 
@@ -29,7 +29,7 @@ read_sides mark depth ts = read_lval depth ts >>= (λ l. read_mark mark l.1 >>= 
 abbrev pub read_assignment : ℕ → List Symbol → Read (Expression × Expression)
 read_assignment = read_sides Equals
 
--- behind assign
+-- after assign
 unfoldable pub read_assign : ℕ → List Symbol → Read PlainBody
 read_assign depth ts = read_list (read_assignment depth) ts >>= (λ xs. read_mark Semicolon xs.1 >>= (λ u. Some (Assign xs.0, u.1)))
 
@@ -47,12 +47,12 @@ read_two_terms depth ts = read_expr depth ts >>= (λ x. read_mark Comma x.1 >>= 
 
 -- two expressions or more
 unfoldable pub read_terms : ℕ → List Symbol → Read (List Expression)
-read_terms depth ts = read_expr depth ts >>= (λ x. read_mark Comma x.1 >>= (λ u. with_front (x.0 ∷ []) (read_list (read_expr depth) u.1)))
+read_terms depth ts = read_expr depth ts >>= (λ x. read_mark Comma x.1 >>= (λ u. with_prefix (x.0 ∷ []) (read_list (read_expr depth) u.1)))
 
 unfoldable pub read_gate : ℕ → List Symbol → Read (Option (List ℕ) × List Expression)
 read_gate depth ts = read_optional_name ts >>= (λ n. read_mark LeftRound n.1 >>= (λ a. read_terms depth a.1 >>= (λ es. read_mark RightRound es.1 >>= (λ u. Some ((n.0, es.0), u.1)))))
 
--- behind the word of a gate
+-- after the word of a gate
 unfoldable pub read_gates : Gate → ℕ → List Symbol → Read PlainBody
 read_gates gate depth ts = read_list (read_gate depth) ts >>= (λ xs. read_mark Semicolon xs.1 >>= (λ u. Some (Gates gate xs.0, u.1)))
 
@@ -82,17 +82,17 @@ edge_of (Some (kinds.Word words.Negedge)) = Some true
 edge_of _ = None
 
 unfoldable pub read_clock : List Symbol → Read Expression
-read_clock ts = read_name ts >>= (λ n. if is_next LeftSquare n.1 then read_plain (behind n.1) >>= (λ i. read_mark RightSquare i.1 >>= (λ u. Some (Bit n.0 i.0, u.1))) else Some (Net n.0, n.1))
+read_clock ts = read_name ts >>= (λ n. if is_next LeftSquare n.1 then read_plain (after n.1) >>= (λ i. read_mark RightSquare i.1 >>= (λ u. Some (Bit n.0 i.0, u.1))) else Some (Net n.0, n.1))
 
--- behind always, up to )
+-- after always, up to )
 unfoldable pub read_event : List Symbol → Read (Bool × Expression)
 read_event ts = read_mark At ts >>= (λ a. read_mark LeftRound a.1 >>= (λ b. taken (edge_of (next_kind b.1)) b.1 >>= (λ e. read_clock e.1 >>= (λ c. read_mark RightRound c.1 >>= (λ u. Some ((e.0, c.0), u.1))))))
 
--- behind the clock of a register
+-- after the clock of a register
 unfoldable pub read_clocked : ℕ → List Symbol → Read (Expression × Expression)
 read_clocked depth ts = read_sides LessEqual depth ts >>= (λ s. read_mark Semicolon s.1 >>= (λ u. Some (s.0, u.1)))
 
--- behind always
+-- after always
 unfoldable pub read_always : ℕ → List Symbol → Read PlainBody
 read_always depth ts = read_event ts >>= (λ e. read_clocked depth e.1 >>= (λ s.
     Some (Always (record { falling = e.0.0; clock = e.0.1; left = s.0.0; right = s.0.1 }), s.1)))
@@ -116,13 +116,13 @@ gates_at (Some gate) depth ts = read_gates gate depth ts
 abbrev pub worded : Keyword → ℕ → List Symbol → Read PlainBody
 worded words.Input depth ts = read_ports ts
 worded words.Output depth ts = read_ports ts
-worded words.Wire depth ts = read_nets depth (behind ts)
-worded words.Reg depth ts = read_regs (behind ts)
-worded words.Supply0 depth ts = read_supply false (behind ts)
-worded words.Supply1 depth ts = read_supply true (behind ts)
-worded words.Assign depth ts = read_assign depth (behind ts)
-worded words.Always depth ts = read_always depth (behind ts)
-worded word depth ts = gates_at (gate_of word) depth (behind ts)
+worded words.Wire depth ts = read_nets depth (after ts)
+worded words.Reg depth ts = read_regs (after ts)
+worded words.Supply0 depth ts = read_supply false (after ts)
+worded words.Supply1 depth ts = read_supply true (after ts)
+worded words.Assign depth ts = read_assign depth (after ts)
+worded words.Always depth ts = read_always depth (after ts)
+worded word depth ts = gates_at (gate_of word) depth (after ts)
 
 abbrev pub body_at : Option Kind → ℕ → List Symbol → Read PlainBody
 body_at (Some kinds.Name) depth ts = read_calls depth ts

@@ -13,7 +13,7 @@ use Rattle.bb_parse.specs.declared.stop.Stop.{Stop}
 use Rattle.bb_parse.specs.declared.stop.Stop.TheVariants.{Amiss}
 use Rattle.bb_parse.specs.declared.stop.Stop.TheVariants as stops
 use Rattle.bb_parse.specs.Nesting.{mark_count, mark_square, nesting}
-use Rattle.bb_parse.specs.Sources.{ends, line_of}
+use Rattle.bb_parse.specs.Sources.{ends_statement, line_of}
 use Rattle.bb_parse.specs.Inside.Symbols.{symbols, next_kind}
 use Rattle.bb_parse.specs.Inside.Steps.{Read}
 use Rattle.bb_parse.specs.Inside.Declarations.{header_at}
@@ -27,7 +27,7 @@ Answers view (Err Unended) read = read ≡ Err Unended
 Answers view (Err (Deep line)) read = read ≡ Err (Deep line)
 Answers view (Err NoMemory) read = Unit {0}
 
--- the counters of nesting behind what comes next
+-- the counters of nesting after the next symbol
 abbrev pub count_at : Option Kind → ℕ → ℕ → ℕ
 count_at (Some (kinds.Mark m)) square count = mark_count m square count
 count_at kind square count = count
@@ -40,10 +40,10 @@ abbrev pub with_token : Token → Option (List Token × List Token) → Option (
 with_token t None = None
 with_token t (Some x) = Some (t ∷ x.0, x.1)
 
--- the first statement and what stands behind it, where one ends
+-- the first statement and the tokens after it, where one ends
 abbrev pub first_statement : List Token → Option (List Token × List Token)
 first_statement [] = None
-first_statement (t ∷ ts) = if ends t.kind then Some (t ∷ [], ts) else with_token t (first_statement ts)
+first_statement (t ∷ ts) = if ends_statement t.kind then Some (t ∷ [], ts) else with_token t (first_statement ts)
 
 -- what was read, where nothing is left
 abbrev pub whole : {A : Type 0} → Read A → Option A
@@ -80,10 +80,10 @@ is_endmodule kind = false
 abbrev pub with_item : PlainModule → PlainItem → PlainModule
 with_item m item = record m { items = m.items ++ item ∷ [] }
 
--- with this module in front of those that were read
+-- with this module before those that were read
 abbrev pub with_modules : List PlainModule → Result (List PlainModule) ParseFault → Result (List PlainModule) ParseFault
-with_modules front (Ok ms) = Ok (front ++ ms)
-with_modules front (Err fault) = Err fault
+with_modules prefix (Ok ms) = Ok (prefix ++ ms)
+with_modules prefix (Err fault) = Err fault
 
 abbrev pub at_end : Option PlainModule → List Token → Result (List PlainModule) ParseFault
 at_end None [] = Ok []
@@ -101,7 +101,7 @@ item_added m line body = Ok (with_item m (record { line = line; body = body }))
 abbrev pub step_view : Option Module × Option Module → List PlainModule × Option PlainModule
 step_view x = (option_to_list (option_map module_view x.0), option_map module_view x.1)
 
--- a statement in its place: the module that it ends, if any, and the open module behind it
+-- a statement at its place: the module that it ends, if any, and the open module after it
 unfoldable pub read_step : List ℕ → Option PlainModule → List Token → Result (List PlainModule × Option PlainModule) ParseFault
 read_step text None s = then_read (read_header_of text s) (λ x. Ok ([], Some (record { name = x.0; line = line_of s; heads = x.1; items = [] })))
 read_step text (Some m) s =
@@ -113,7 +113,7 @@ abbrev pub read_first : List ℕ → Option PlainModule → List Token → Optio
 read_first text open_module tokens None go = at_end open_module tokens
 read_first text open_module tokens (Some x) go = then_read (read_step text open_module x.0) (λ y. with_modules y.0 (go y.1 x.1))
 
--- at most so many statements, where a module may be open
+-- at most n statements, where a module may be open
 abbrev pub read_from : List ℕ → ℕ → Option PlainModule → List Token → Result (List PlainModule) ParseFault
 read_from text zero open_module tokens = at_end open_module tokens
 read_from text (suc n) open_module tokens = read_first text open_module tokens (first_statement tokens) (read_from text n)

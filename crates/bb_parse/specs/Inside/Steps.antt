@@ -5,7 +5,7 @@ use Rattle.bb_lex.specs.declared.mark.Mark.TheVariants.{Comma}
 use Rattle.bb_parse.specs.declared.stop.Stop.{Stop}
 use Rattle.bb_parse.specs.declared.stop.Stop.TheVariants.{Amiss, NoMemory}
 use Rattle.bb_parse.specs.Symbols.{Symbol, Identifier, Reserved, SizedNumber, PlainNumber, Sign}
-use Rattle.bb_parse.specs.Inside.Symbols.{is_next, behind}
+use Rattle.bb_parse.specs.Inside.Symbols.{is_next, after}
 
 -- what is read, and what is left
 abbrev pub Read : Type 0 → Type 0
@@ -28,14 +28,14 @@ abbrev pub ◌>>=◌ : {A B : Type 0} → Read A → (A × List Symbol → Read 
 None >>= f = None
 (Some x) >>= f = f x
 
--- with these in front of a list that was read
-abbrev pub with_front : {A : Type 0} → List A → Read (List A) → Read (List A)
-with_front front None = None
-with_front front (Some x) = Some (front ++ x.0, x.1)
+-- with these before a list that was read
+abbrev pub with_prefix : {A : Type 0} → List A → Read (List A) → Read (List A)
+with_prefix prefix None = None
+with_prefix prefix (Some x) = Some (prefix ++ x.0, x.1)
 
--- the mark, which stands for nothing more
+-- the mark, which has no value
 abbrev pub read_mark : Mark → List Symbol → Read (Unit {0})
-read_mark mark ts = if is_next mark ts then Some (tt, behind ts) else None
+read_mark mark ts = if is_next mark ts then Some (tt, after ts) else None
 
 abbrev pub read_name : List Symbol → Read (List ℕ)
 read_name [] = None
@@ -61,10 +61,10 @@ read_plain (SizedNumber b ∷ ts) = None
 read_plain (PlainNumber n ∷ ts) = Some (n, ts)
 read_plain (Sign m ∷ ts) = None
 
--- at most so many commas, each with what follows it
+-- at most n commas, each with an element after it
 abbrev pub read_more : {A : Type 0} → (List Symbol → Read A) → ℕ → List Symbol → Read (List A)
 read_more read zero ts = Some ([], ts)
-read_more read (suc n) ts = if is_next Comma ts then read (behind ts) >>= (λ x. with_front (x.0 ∷ []) (read_more read n x.1)) else Some ([], ts)
+read_more read (suc n) ts = if is_next Comma ts then read (after ts) >>= (λ x. with_prefix (x.0 ∷ []) (read_more read n x.1)) else Some ([], ts)
 
 abbrev pub read_list : {A : Type 0} → (List Symbol → Read A) → List Symbol → Read (List A)
-read_list read ts = read ts >>= (λ x. with_front (x.0 ∷ []) (read_more read (length x.1) x.1))
+read_list read ts = read ts >>= (λ x. with_prefix (x.0 ∷ []) (read_more read (length x.1) x.1))

@@ -68,9 +68,9 @@ is_next mark (SizedNumber b ∷ ts) = false
 is_next mark (PlainNumber n ∷ ts) = false
 is_next mark (Sign m ∷ ts) = mark_number m == mark_number mark
 
-abbrev pub behind : List Symbol → List Symbol
-behind [] = []
-behind (t ∷ ts) = ts
+abbrev pub after : List Symbol → List Symbol
+after [] = []
+after (t ∷ ts) = ts
 
 -- what kind of symbol comes next
 abbrev pub next_kind : List Symbol → Option Kind

@@ -1,5 +1,5 @@
--- Points of a Boolean function: a bit for each variable, the first one first. They are ordered as the numbers that they spell,
--- so 0 comes before 1 and the first variable is the most significant.
+-- Points of a Boolean function: a bit for each variable, the first one first. They are ordered as the numbers that they
+-- spell, so 0 comes before 1 and the first variable is the most significant.
 use Rattle.std.specs.Prelude.{◌≡◌, ◌≤◌, ℕ, Bool, List, length, take}
 use Rattle.bb_bits.specs.Numbers.{number_of}
 use Rattle.bb_bits.specs.Truth.{Truth, truth_at}

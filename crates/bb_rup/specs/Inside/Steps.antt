@@ -7,15 +7,15 @@ use Rattle.bb_rup.specs.Inside.Trails.{IsReached}
 use Rattle.bb_rup.specs.declared.addition.Step.{Step}
 use Rattle.bb_rup.specs.declared.addition.Step.TheVariants as steps
 
--- the addition of this number stands there, and follows from the clauses and those before it
+-- there is an addition of this number, and it follows from the clauses and the additions before it
 pub record FollowsThere (given adds : List (List Lit)) (k : ℕ) : Type 0 where
   pub clause : List Lit
-  pub stands : slice_get adds k ≡ Some clause
+  pub occurs : slice_get adds k ≡ Some clause
   pub follows : Follows (given ++ take k adds) clause
 
 pub record StaysThere (given adds : List (List Lit)) (k : ℕ) : Type 0 where
   pub clause : List Lit
-  pub stands : slice_get adds k ≡ Some clause
+  pub occurs : slice_get adds k ≡ Some clause
   pub stays : Stays (given ++ take k adds) clause
 
 abbrev pub Comes : List (List Lit) → List (List Lit) → ℕ → Literals → Step → Type 0

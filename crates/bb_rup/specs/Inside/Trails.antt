@@ -16,9 +16,9 @@ marked marks l = slice_index_or marks (mark_place l) false
 abbrev pub marked_by : Trail → Literals
 marked_by t = marked t.marks.items
 
--- no literal stands twice
+-- no literal is on it twice
 abbrev pub AreOnce : List Lit → Type 0
-AreOnce lits = (front : List Lit) (l : Lit) (back : List Lit) → lits ≡ front ++ l ∷ back → literals_of front l ≡ false
+AreOnce lits = (prefix : List Lit) (l : Lit) (back : List Lit) → lits ≡ prefix ++ l ∷ back → literals_of prefix l ≡ false
 
 -- the literals of the list are marked, and no others
 pub record IsTrail (t : Trail) : Type 0 where

@@ -2,7 +2,7 @@
 use Rattle.std.specs.Prelude.{◌≡◌, ℕ, ◌==◌, ◌≤◌, Bool, true, false, not, Ok, List, [], ◌++◌, length, map, filter, flat_map, codes, decimal, if◌then◌else◌}
 use Rattle.std.specs.List.{list_all, AllByRecursion}
 use Rattle.bb_cnf.specs.declared.clauses.Lit.{Lit}
-use Rattle.bb_cnf.specs.Clauses.{IsWithin}
+use Rattle.bb_cnf.specs.Clauses.{HasVariablesWithin}
 use Rattle.bb_rup.specs.Dimacs.{dimacs_of, additions_of}
 
 -- comments and then a clause, or a deletion
@@ -27,7 +27,7 @@ entry_text entry =
     ++ flat_map literal_text entry.clause
     ++ codes "0\n"
 
--- the lines of entries, and comments behind them
+-- the lines of entries, and comments after them
 abbrev pub proof_text : List Entry → List (List ℕ) → List ℕ
 proof_text entries last = flat_map entry_text entries ++ flat_map comment_line last
 
@@ -57,8 +57,8 @@ HaveLines entries = AllByRecursion (λ entry. AreLines entry.comments) entries
 pub record WrittenLaws : Type 0 where
   pub formula : (first last : List (List ℕ)) (vars : ℕ) (entries : List Entry)
       → AreLines first → HaveLines entries → AreLines last → AllByRecursion (λ entry. entry.deletion ≡ false) entries
-      → vars ≤ 8000000 → length entries ≤ 8000000 → IsWithin vars (all_clauses entries)
+      → vars ≤ 8000000 → length entries ≤ 8000000 → HasVariablesWithin vars (all_clauses entries)
       → dimacs_of (formula_text first vars entries last) ≡ Ok (record { vars = vars; clauses = all_clauses entries })
   pub additions : (vars : ℕ) (entries : List Entry) (last : List (List ℕ)) → HaveLines entries → AreLines last
-      → vars ≤ 8000000 → IsWithin vars (all_clauses entries)
+      → vars ≤ 8000000 → HasVariablesWithin vars (all_clauses entries)
       → additions_of (proof_text entries last) vars ≡ Ok (added_clauses entries)

@@ -12,7 +12,7 @@ bit net x place = bit_of (flat net x []) place
 abbrev pub gate_bit : List Bool → (ℕ → Bool) → Cell → Bool
 gate_bit x value cell = gate [] x (λ b p ins. false) value cell
 
--- at most so many cells are added at the end of a netlist without boxes, and nothing else changes
+-- at most `most` cells are added at the end of a netlist without boxes, and nothing else changes
 pub record Extends (old new : Netlist) (most : ℕ) : Type 0 where
   pub before : IsNetlist old
   pub after : IsNetlist new

@@ -1,7 +1,7 @@
 -- The miter of two netlists without boxes (Brand, Verification of large synthesized designs, 1993): each of its outputs
 -- is the exclusive or of the two outputs with its number. The disjunction of these is left out.
 use Rattle.std.specs.Prelude.{◌≡◌, ℕ, ◌<◌, Bool, List, [], length}
-use Rattle.bb_net.specs.Agreement.{out_bit, wanted_bit}
+use Rattle.bb_net.specs.Equivalence.{out_bit, wanted_bit}
 use Rattle.bb_net.specs.Netlists.{Netlist}
 use Rattle.bb_net.specs.Values.{flat, xor}
 

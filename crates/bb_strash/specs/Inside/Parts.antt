@@ -5,7 +5,8 @@ use Rattle.bb_net.specs.declared.cell.Cell.TheVariants.{Const, Input, Not, And, 
 use Rattle.bb_net.specs.Netlists.{Netlist}
 use Rattle.bb_strash.specs.Inside.Extensions.{bit}
 
--- a cell that was at one place is at another one now, where the first list has the old places and the second the new ones
+-- a cell that was at one place is at another one now, where the first list has the old places and the second the new
+-- ones
 abbrev pub IsMoved : List ℕ → List ℕ → ℕ → ℕ → Type 0
 IsMoved known places old new = (i : ℕ) × (i < length known) × (i < length places)
     × (slice_index known i ≡ old) × (slice_index places i ≡ new)

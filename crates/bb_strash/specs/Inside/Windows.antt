@@ -1,8 +1,8 @@
 -- A window of a netlist at a cell, cut at cells that are its inputs, as netlists are cut where cones are too large
--- (Kuehlmann and Krohm, Equivalence checking using cuts and heaps, 1997). Its one output is the cell; where it is cut is
--- left open.
+-- (Kuehlmann and Krohm, Equivalence checking using cuts and heaps, 1997). Its one output is the cell; where it is cut
+-- is left open.
 use Rattle.std.specs.Prelude.{◌≡◌, ℕ, Bool, List, [], length, map}
-use Rattle.bb_net.specs.Agreement.{out_bit}
+use Rattle.bb_net.specs.Equivalence.{out_bit}
 use Rattle.bb_net.specs.Netlists.{Netlist}
 use Rattle.bb_net.specs.Values.{flat}
 use Rattle.bb_strash.specs.Inside.Extensions.{bit}

@@ -4,7 +4,7 @@ use Rattle.bb_bits.specs.Truth.{Truth, truth_at}
 use Rattle.bb_uniq.specs.Inside.Nodes.{NodeStore, IsRef}
 use Rattle.bb_uniq.specs.Inside.Meaning.{truth_of}
 
--- a table of n variables does not depend on v: at points that differ in v alone it has one bit
+-- a table of n variables does not depend on v: at points that differ only in v it has one bit
 abbrev pub IsIndependent : ℕ → Truth → ℕ → Type 0
 IsIndependent n t v = (point : List Bool) → length point ≡ n → truth_at t (slice_set point v false) ≡ truth_at t (slice_set point v true)
 

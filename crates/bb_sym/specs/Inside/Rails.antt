@@ -1,7 +1,7 @@
 -- Values in three values as two tables (the dual-rail encoding): where a value is known to be 1, and where to be 0.
 use Rattle.std.specs.Prelude.{◌≡◌, ◌<◌, ℕ, false, not, List, [], ◌∷◌, ◌++◌, length, map, slice_index_or}
 use Rattle.std.specs.List.{flat_map}
-use Rattle.bb_bits.specs.Truth.{Truth, constant, variable, complement}
+use Rattle.bb_bits.specs.Truth.{Truth, constant, variable, complement_of_table}
 use Rattle.bb_net.specs.declared.cell.Cell.{Cell}
 use Rattle.bb_net.specs.declared.cell.Cell.TheVariants.{Const, Input, Not, And, Or, Xor, Mux, BoxOut}
 use Rattle.bb_net.specs.Netlists.{Netlist}
@@ -11,7 +11,7 @@ use Rattle.bb_uniq.specs.Inside.Meaning.{truth_of}
 use Rattle.bb_sym.specs.declared.known_gates.DualRail.{DualRail}
 use Rattle.bb_sym.specs.Functions.{spec_bit, high, low, both, either, sum_table, sum_tables, choice_table, choice_tables, cell_tables, known_tables}
 use Rattle.bb_sym.specs.Plain.{table, tables, variables, places}
-use Rattle.bb_sym.specs.Inside.Made.{StandsFor, StandForAll}
+use Rattle.bb_sym.specs.Inside.Made.{Represents, RepresentAll}
 
 pub record Rails : Type 0 where
   pub one : Truth
@@ -30,8 +30,8 @@ AreRails s r = IsRef s r.one.0 × IsRef s r.zero.0
 
 -- and have these tables
 pub record HaveRails (s : NodeStore) (t : Rails) (r : DualRail) : Type 0 where
-  pub one : StandsFor s t.one r.one
-  pub zero : StandsFor s t.zero r.zero
+  pub one : Represents s t.one r.one
+  pub zero : Represents s t.zero r.zero
 
 -- the Refs at a place of a list; after the last ones count leaves
 abbrev pub pair_at : List DualRail → ℕ → DualRail
@@ -50,10 +50,10 @@ HaveAllRails s t made = (place : ℕ) → place < length made → HaveRails s (t
 
 -- the tables of a gate, by those of its operands, and those that are made for it
 abbrev pub input_rails : ℕ → ℕ → Rails
-input_rails n i = rails (variable n i) (complement (variable n i))
+input_rails n i = rails (variable n i) (complement_of_table (variable n i))
 
 abbrev pub input_tables : ℕ → ℕ → List Truth
-input_tables n i = variable n i ∷ complement (variable n i) ∷ []
+input_tables n i = variable n i ∷ complement_of_table (variable n i) ∷ []
 
 abbrev pub and_rails : Rails → Rails → Rails
 and_rails a b = rails (both a.one b.one) (either a.zero b.zero)
@@ -98,12 +98,12 @@ tables_made n at cell = cell_tables n (λ place. (at place).one) (λ place. (at 
 abbrev pub known_rails : Netlist → ℕ → Rails
 known_rails imp place = rails (high imp place) (low imp place)
 
--- Refs for the cells of both nets over the inputs, by their places: the bits of the specification, and what is known of those
--- of the implementation
+-- Refs for the cells of both nets over the inputs, by their places: the bits of the specification, and what is known of
+-- those of the implementation
 pub record HaveKnown (s : NodeStore) (spec imp : Netlist) (of_spec : List Ref) (of_imp : List DualRail) : Type 0 where
   pub spec_whole : length of_spec ≡ length spec.cells
   pub imp_whole : length of_imp ≡ length imp.cells
-  pub spec_cells : StandForAll s (λ place. table imp.inputs (spec_bit spec place)) of_spec
+  pub spec_cells : RepresentAll s (λ place. table imp.inputs (spec_bit spec place)) of_spec
   pub imp_cells : HaveAllRails s (known_rails imp) of_imp
 
 -- the variables and the cells of both nets
@@ -112,7 +112,7 @@ known_functions spec imp = variables imp.inputs ++ (tables imp.inputs (map (spec
 
 -- where a bit is known and is not the wanted one, and that of which it is made
 abbrev pub known_wrong_table : Rails → Truth → Truth
-known_wrong_table known wanted = sum_table known.one (complement wanted) known.zero wanted
+known_wrong_table known wanted = sum_table known.one (complement_of_table wanted) known.zero wanted
 
 abbrev pub known_wrong_tables : Rails → Truth → List Truth
-known_wrong_tables known wanted = complement wanted ∷ sum_tables known.one (complement wanted) known.zero wanted
+known_wrong_tables known wanted = complement_of_table wanted ∷ sum_tables known.one (complement_of_table wanted) known.zero wanted

@@ -1,6 +1,5 @@
--- Lane k of a word is its bit
--- of the weight 2^k; a pass has a pattern in each lane. A value in three values is two words: the lanes where it is known to be 1,
--- and those where it is known to be 0.
+-- Lane k of a word is its bit of the weight 2^k; a pass has a pattern in each lane. A value in three values is two
+-- words: the lanes where it is known to be 1, and those where it is known to be 0.
 use Rattle.std.specs.Prelude.{◌≡◌, ℕ, ◌<◌, Bool, true, false, ◌==◌, MatchBool, List, Option, Some, None, slice_index_or, slice_index, length, []}
 use Rattle.std.specs.Int.{bit_at}
 use Rattle.bb_net.specs.declared.cell.Cell.{Cell}
@@ -8,7 +7,7 @@ use Rattle.bb_bits.specs.Bits.{xor}
 use Rattle.bb_net.specs.Netlists.{Netlist, ReadsBefore, cell_at}
 use Rattle.bb_net.specs.Values.{bit_of, gate, flat}
 use Rattle.bb_net.specs.Ternary.{tern_of, gate3, tern}
-use Rattle.bb_net.specs.Agreement.{IsOutput}
+use Rattle.bb_net.specs.Equivalence.{IsOutput}
 use Rattle.bb_net.specs.Pairs.{NetPair}
 use Rattle.bb_net.specs.Conditions.{MayBeRight, IsKnownWrong}
 use Rattle.bb_tern.specs.declared.lanes.Known.{Known}
@@ -99,16 +98,16 @@ AreWords cells ins out bound = (k : ℕ) (x : List Bool) (bit : ℕ → Bool) �
 abbrev pub AreKnowns : List Cell → List ℕ → List Known → ℕ → Type 0
 AreKnowns cells ins out bound = (k : ℕ) (x : List Bool) (value : ℕ → Option Bool) → k < 64 → HasPattern ins k x → AreValuesOf cells x value → HasValues out bound k value
 
--- lane k of a word tells whether one of the first outputs is wrong
-abbrev pub TellsWrong : (ℕ → Bool) → (ℕ → Option Bool) → List ℕ → List ℕ → ℕ → ℕ → ℕ → Type 0
-TellsWrong bit value spec_outs imp_outs count word k = MatchBool (lane word k)
+-- lane k of a word is 1 where one of the first outputs is wrong
+abbrev pub ReportsWrong : (ℕ → Bool) → (ℕ → Option Bool) → List ℕ → List ℕ → ℕ → ℕ → ℕ → Type 0
+ReportsWrong bit value spec_outs imp_outs count word k = MatchBool (lane word k)
     ((j : ℕ) × (j < count) × (wrong_at bit value spec_outs imp_outs j ≡ true))
     ((j : ℕ) → j < count → wrong_at bit value spec_outs imp_outs j ≡ false)
 
 -- in all lanes, by the words of the cells
-abbrev pub TellsAll : List ℕ → List ℕ → List ℕ → List Known → ℕ → Type 0
-TellsAll spec_outs imp_outs wanted known word = (k : ℕ) (bit : ℕ → Bool) (value : ℕ → Option Bool) → k < 64
-    → HasBits wanted (length wanted) k bit → HasValues known (length known) k value → TellsWrong bit value spec_outs imp_outs (length imp_outs) word k
+abbrev pub ReportsAll : List ℕ → List ℕ → List ℕ → List Known → ℕ → Type 0
+ReportsAll spec_outs imp_outs wanted known word = (k : ℕ) (bit : ℕ → Bool) (value : ℕ → Option Bool) → k < 64
+    → HasBits wanted (length wanted) k bit → HasValues known (length known) k value → ReportsWrong bit value spec_outs imp_outs (length imp_outs) word k
 
 -- the first output that is wrong in lane k, if one is
 abbrev pub IsFirstWrong : (ℕ → Bool) → (ℕ → Option Bool) → List ℕ → List ℕ → Option ℕ → Type 0
@@ -120,7 +119,7 @@ abbrev pub FindsFirst : List ℕ → List ℕ → List ℕ → List Known → �
 FindsFirst spec_outs imp_outs wanted known k found = (bit : ℕ → Bool) (value : ℕ → Option Bool)
     → HasBits wanted (length wanted) k bit → HasValues known (length known) k value → IsFirstWrong bit value spec_outs imp_outs found
 
--- in the lane of each pattern stand the bits of the specification's cells, and the values of the implementation's
+-- the lane of each pattern has the bits of the specification's cells, and the values of the implementation's
 abbrev pub AreFilled : Netlist → Netlist → List (List Bool) → List ℕ → List Known → Type 0
 AreFilled spec imp patterns wanted known = (k : ℕ) → k < length patterns →
     HasBits wanted (length wanted) k (bit_of (flat spec (pattern_at patterns k) []))

@@ -1,5 +1,5 @@
--- The cofactors of a diagram at a variable (Shannon expansion): two diagrams of later variables, where it is 0 and where it
--- is 1; and the step of a recursion, which makes a result from those of its cofactors.
+-- The cofactors of a diagram at a variable (Shannon expansion): two diagrams of later variables, where it is 0 and
+-- where it is 1; and the step of a recursion, which makes a result from those of its cofactors.
 use Rattle.std.specs.Prelude.{◌≡◌, ℕ, suc, ◌==◌, if◌then◌else◌}
 use Rattle.bb_bits.specs.Truth.{Truth, Halves, IsTruthTable, lifted}
 use Rattle.bb_uniq.specs.declared.store.View.{View}
@@ -12,7 +12,7 @@ abbrev pub variable_seen : ℕ → View → ℕ
 variable_seen n (seen.Leaf b) = n
 variable_seen n (seen.Node v lo hi) = v
 
--- the variable at which r stands
+-- the variable of r
 abbrev pub top_of : NodeStore → ℕ → ℕ
 top_of s r = variable_seen s.vars (view_of s r)
 
@@ -37,8 +37,8 @@ pub record AreCofactors (s : NodeStore) (v m r lo hi : ℕ) : Type 0 where
   pub lo_table : truth_of s lo ≡ lifted (suc v) first
   pub hi_table : truth_of s hi ≡ lifted (suc v) second
 
--- since the store was `old`, nothing was added but beads of t, and the node of v with the children lo and hi is to have the
--- table t
+-- since the store was `old`, nothing was added but beads of t, and the node of v with the children lo and hi is to have
+-- the table t
 pub record IsReady (old now : NodeStore) (v : ℕ) (t : Truth) (lo hi : ℕ) : Type 0 where
   pub kept : Keeps old now
   pub held : (b : Truth) → IsHeld now b → IsHeldWith old t b

@@ -1,5 +1,5 @@
--- The meaning of a Ref is its truth table over all variables of its store. A store holds a bead where it is a bead of the
--- table of one of its Refs.
+-- The meaning of a Ref is its truth table over all variables of its store. A store holds a bead where it is a bead of
+-- the table of one of its Refs.
 use Rattle.std.specs.Prelude.{◌≡◌, ◌<◌, ◌↔◌, ◌⊎◌, ◌==◌, ◌+◌, ℕ, zero, suc, if◌then◌else◌, List, Option, Some, None}
 use Rattle.bb_bits.specs.Truth.{Truth, Bit, Halves, IsBeadOf, IsBeadOfAny, chosen, constant, variable}
 use Rattle.bb_bits.specs.TruthSets.{HasMoreThan, HasAtMost}
@@ -8,8 +8,8 @@ use Rattle.bb_uniq.specs.declared.store.View.{View}
 use Rattle.bb_uniq.specs.declared.store.View.TheVariants as seen
 use Rattle.bb_uniq.specs.Inside.Nodes.{NodeStore, node_at, IsRef, IsBelow, view_of}
 
--- the halves at the variable of which m follow, from the tables over those: the children's where the node is one of that
--- variable, and else the table of the Ref twice
+-- the halves at the variable of which m follow, from the tables over those: the children's where the node is one of
+-- that variable, and else the table of the Ref twice
 abbrev pub halves_by : ℕ → ℕ → ℕ → (ℕ → Truth) → Option Node → Truth
 halves_by n m r table None = Halves (table r) (table r)
 halves_by n m r table (Some node) = if node.var + suc m == n then Halves (table node.lo) (table node.hi) else Halves (table r) (table r)
@@ -59,7 +59,8 @@ IsTooMany s t = HasMoreThan (IsHeldWith s t) s.limit
 abbrev pub branch : NodeStore → ℕ → ℕ → ℕ → Truth
 branch s v lo hi = chosen (variable s.vars v) (truth_of s hi) (truth_of s lo)
 
--- what is seen at r gives its table: a leaf's is its bit everywhere, a node's is its branch, with both children below its variable
+-- what is seen at r gives its table: a leaf's is its bit everywhere, a node's is its branch, with both children below
+-- its variable
 abbrev pub ViewMeans : NodeStore → ℕ → View → Type 0
 ViewMeans s r (seen.Leaf b) = truth_of s r ≡ constant s.vars b
 ViewMeans s r (seen.Node v lo hi) = (v < s.vars) × IsBelow s v lo.0 × IsBelow s v hi.0 × (truth_of s r ≡ branch s v lo.0 hi.0)

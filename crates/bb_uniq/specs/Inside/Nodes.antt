@@ -1,6 +1,7 @@
 -- A store of the nodes of reduced ordered decision diagrams (Bryant; Knuth, The Art of Computer Programming, volume 4A,
--- section 7.1.4). A Ref is a number: 0 is the leaf false, 1 the leaf true, and the nodes follow in the order in which they were made.
--- A node has a variable, the first one being 0, and two children: lo where the variable is 0, hi where it is 1.
+-- section 7.1.4). A Ref is a number: 0 is the leaf false, 1 the leaf true, and the nodes follow in the order in which
+-- they were made. A node has a variable, the first one being 0, and two children: lo where the variable is 0, hi where
+-- it is 1.
 use Rattle.std.specs.Prelude.{◌≡◌, ◌≢◌, ◌<◌, ◌≤◌, ◌+◌, ℕ, zero, suc, List, [], ◌∷◌, ◌++◌, length, Option, Some, None, MatchOption, slice_get, ◌==◌}
 use Rattle.bb_uniq.specs.declared.store.Node.{Node}
 use Rattle.bb_uniq.specs.declared.store.View.{View}
@@ -50,12 +51,12 @@ pub record IsStore (s : NodeStore) : Type 0 where
 abbrev pub with_node : NodeStore → ℕ → ℕ → ℕ → NodeStore
 with_node s v lo hi = record s { nodes = s.nodes ++ record { var = v; lo = lo; hi = hi } ∷ [] }
 
--- a node with these children is to stand in the store, and does not yet
+-- the children differ, so a node is needed, and the store does not have it
 abbrev pub IsNew : NodeStore → ℕ → ℕ → ℕ → Type 0
 IsNew s v lo hi = (lo ≢ hi) × ((r : ℕ) → node_at s.nodes r ≢ Some (record { var = v; lo = lo; hi = hi }))
 
--- r is "hi where the variable v is 1, else lo": the child where both are one; the node where the store has it; else the node
--- is new, stands last, and is the only one that is added
+-- r is "hi where the variable v is 1, else lo": the child where both are the same; the node where the store has it;
+-- else the node is new, comes last, and is the only one that is added
 pub data Gives (old new : NodeStore) (v lo hi r : ℕ) : Type 0 where
   Same : lo ≡ hi → new ≡ old → r ≡ lo → Gives old new v lo hi r
   Found : lo ≢ hi → new ≡ old → node_at old.nodes r ≡ Some (record { var = v; lo = lo; hi = hi }) → Gives old new v lo hi r

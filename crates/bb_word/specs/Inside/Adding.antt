@@ -1,4 +1,4 @@
--- Cells that are added behind others, and the formulas of places.
+-- Cells that are added after others, and the formulas of places.
 use Rattle.std.specs.Prelude.{◌≡◌, ℕ, ◌<◌, ◌≤◌, ◌+◌, true, false, List, [], ◌∷◌, ◌++◌, All, length, map}
 use Rattle.bb_net.specs.declared.cell.Cell.{Cell}
 use Rattle.bb_net.specs.declared.cell.Cell.TheVariants as cells
@@ -18,7 +18,7 @@ with_cells net more = record net { cells = net.cells ++ more }
 abbrev pub with_outs : Netlist → List ℕ → Netlist
 with_outs net places = record net { outs = net.outs ++ places }
 
--- the constants 0 and 1 stand first
+-- the constants 0 and 1 come first
 pub record HasConstants (all : List Cell) : Type 0 where
   pub zero : cell_at all 0 ≡ cells.Const false
   pub one : cell_at all 1 ≡ cells.Const true
@@ -56,13 +56,13 @@ joint_cell joints.Both a b = cells.And a b
 joint_cell joints.Either a b = cells.Or a b
 joint_cell joints.Differ a b = cells.Xor a b
 
--- the cells of one bit of a sum, where the first stands at place n
+-- the cells of one bit of a sum, where the first is at place n
 abbrev pub digit_cells : ℕ → ℕ → ℕ → ℕ → List Cell
 digit_cells n a b c = cells.Xor a b ∷ cells.Xor n c ∷ cells.And a b ∷ cells.And n c ∷ cells.Or (n + 2) (n + 3) ∷ []
 
--- the cells of one bit of a test whether two words are alike
-abbrev pub alike_cells : ℕ → ℕ → ℕ → List Cell
-alike_cells n a b = cells.Xor a b ∷ cells.Not n ∷ []
+-- the cells of one bit of a test whether two words are equal
+abbrev pub equality_cells : ℕ → ℕ → ℕ → List Cell
+equality_cells n a b = cells.Xor a b ∷ cells.Not n ∷ []
 
 -- the cells of one bit of a comparison
 abbrev pub less_cells : ℕ → ℕ → ℕ → ℕ → List Cell

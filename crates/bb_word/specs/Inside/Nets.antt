@@ -6,12 +6,13 @@ use Rattle.bb_net.specs.Netlists.{Netlist}
 use Rattle.bb_word.specs.Gates.{Made}
 use Rattle.bb_word.specs.Laws.Formulas.{Formula, Input, cell_formula, formula_at}
 
--- so many inputs from one on, as formulas
+-- count inputs from one on, as formulas
 abbrev pub inputs_from : ℕ → ℕ → List Formula
 inputs_from first count = map Input (range_with_len first count)
 
--- the netlist has so many inputs and no boxes, behind the constants and the inputs its cells are those that a circuit makes, in
--- their order, and its outputs are the bits that it gives; that a netlist begins with constants and inputs is what every one keeps
+-- the netlist has this number of inputs and no boxes, after the constants and the inputs its cells are those that a
+-- circuit makes, in their order, and its outputs are the bits that it gives; that a netlist begins with constants and
+-- inputs is what every one keeps
 pub record IsCircuit (net : Netlist) (width : ℕ) (circuit : Made Formula) : Type 0 where
   pub inputs : net.inputs ≡ width
   pub boxes : net.boxes ≡ []

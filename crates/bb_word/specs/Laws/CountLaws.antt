@@ -1,5 +1,5 @@
--- How many cells the circuits make, and how many bits they give. The laws hold for gates of every kind, also for those that no type of
--- the code stands for: so they are proved here, and the function of the crate has them as contract for formulas.
+-- How many cells the circuits make, and how many bits they give. The laws hold for gates of every kind, also for those
+-- of no type of the code: so they are proved here, and the function of the crate has them as contract for formulas.
 use Rattle.std.proofs.Common.{◌≡◌, ◌∙◌, ◌+◌, ◌*◌, ◌-◌, ℕ, suc, List, [], ◌∷◌, ◌++◌, length, reverse, drop, replicate, refl, sym, ap, arith}
 use Rattle.std.specs.Prelude.{min}
 use Rattle.std.proofs.lemmas.List.{length-reverse, length-append, length-map, length-replicate, length-drop, length-take}
@@ -8,7 +8,7 @@ use Rattle.bb_ast.specs.declared.operators.WordOp.TheVariants as ops
 use Rattle.bb_ast.specs.declared.operators.FoldOp.{FoldOp}
 use Rattle.bb_ast.specs.declared.operators.FoldOp.TheVariants as folds
 use Rattle.bb_word.specs.Gates.{Gates, Made}
-use Rattle.bb_word.specs.Circuits.{complements, sum, difference, alike, joined, joined_all, folded, inverted, equal, less, choices, up, down, shifted, truths}
+use Rattle.bb_word.specs.Circuits.{complements, sum, difference, equal_bits, accumulated, joined_all, folded, inverted, equal, less, choices, up, down, shifted, truths}
 use Rattle.bb_word.specs.Words.{word_circuit, word_cells, HaveOneWidth}
 use Rattle.bb_word.specs.Folds.{fold_circuit, fold_cells}
 use Rattle.bb_word.specs.Meanings.{word_width}
@@ -25,13 +25,13 @@ module _ {A : Type 0} (g : Gates A) where
   count-sum c (x ∷ xs) [] same = absurd (omega (arith, same))
   count-sum c (x ∷ xs) (y ∷ ys) same = omega (arith, count-sum (g.either (g.both x y) (g.both (g.differ x y) c)) xs ys (omega (arith, same)))
 
-  count-joined : (op : A → A → A) (a : A) (xs : List A) → (length (joined op a xs).cells ≡ length xs) × (length (joined op a xs).bits ≡ 1)
-  count-joined op a [] = (refl, refl)
-  count-joined op a (x ∷ xs) = let rest = count-joined op (op a x) xs in (ap suc rest.0, rest.1)
+  count-accumulated : (op : A → A → A) (a : A) (xs : List A) → (length (accumulated op a xs).cells ≡ length xs) × (length (accumulated op a xs).bits ≡ 1)
+  count-accumulated op a [] = (refl, refl)
+  count-accumulated op a (x ∷ xs) = let rest = count-accumulated op (op a x) xs in (ap suc rest.0, rest.1)
 
   pub count-joined_all : (op : A → A → A) (o : A) (xs : List A) → (length (joined_all op o xs).cells ≡ length xs - 1) × (length (joined_all op o xs).bits ≡ 1)
   count-joined_all op o [] = (refl, refl)
-  count-joined_all op o (x ∷ xs) = let rest = count-joined op x xs in (omega (arith, rest.0), rest.1)
+  count-joined_all op o (x ∷ xs) = let rest = count-accumulated op x xs in (omega (arith, rest.0), rest.1)
 
   pub count-folded : (op : A → A → A) (o : A) (xs : List A) → (length (folded op o xs).cells ≡ length xs - 1) × (length (folded op o xs).bits ≡ 1)
   count-folded op o xs = let all = count-joined_all op o (reverse xs) in (omega (arith, all.0, length-reverse xs), all.1)
@@ -39,16 +39,16 @@ module _ {A : Type 0} (g : Gates A) where
   count-inverted : (made : Made A) → length made.bits ≡ 1 → length (inverted g made).cells ≡ length made.cells + 1
   count-inverted made one = length-append made.cells (complements g made.bits) ∙ ap (λ n. length made.cells + n) (length-map made.bits g.inverse ∙ one)
 
-  pub count-alike : (xs ys : List A) → length xs ≡ length ys → (length (alike g xs ys).cells ≡ 2 * length xs) × (length (alike g xs ys).bits ≡ length xs)
-  count-alike [] ys same = (refl, refl)
-  count-alike (x ∷ xs) [] same = absurd (omega (arith, same))
-  count-alike (x ∷ xs) (y ∷ ys) same = let rest = count-alike xs ys (omega (arith, same)) in (omega (arith, rest.0), ap suc rest.1)
+  pub count-equal_bits : (xs ys : List A) → length xs ≡ length ys → (length (equal_bits g xs ys).cells ≡ 2 * length xs) × (length (equal_bits g xs ys).bits ≡ length xs)
+  count-equal_bits [] ys same = (refl, refl)
+  count-equal_bits (x ∷ xs) [] same = absurd (omega (arith, same))
+  count-equal_bits (x ∷ xs) (y ∷ ys) same = let rest = count-equal_bits xs ys (omega (arith, same)) in (omega (arith, rest.0), ap suc rest.1)
 
   count-equal : (xs ys : List A) → length xs ≡ length ys → (length (equal g xs ys).cells ≡ 2 * length xs + (length xs - 1)) × (length (equal g xs ys).bits ≡ 1)
   count-equal xs ys same =
-      let first = count-alike xs ys same in
-      let all = count-folded g.both g.one (alike g xs ys).bits in
-      (omega (arith, length-append (alike g xs ys).cells (folded g.both g.one (alike g xs ys).bits).cells, first.0, first.1, all.0), all.1)
+      let first = count-equal_bits xs ys same in
+      let all = count-folded g.both g.one (equal_bits g xs ys).bits in
+      (omega (arith, length-append (equal_bits g xs ys).cells (folded g.both g.one (equal_bits g xs ys).bits).cells, first.0, first.1, all.0), all.1)
 
   count-less : (c : A) (xs ys : List A) → length xs ≡ length ys → (length (less g c xs ys).cells ≡ 2 * length xs) × (length (less g c xs ys).bits ≡ 1)
   count-less c [] ys same = (refl, refl)

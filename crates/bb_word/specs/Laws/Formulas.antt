@@ -38,12 +38,12 @@ cell_formula part (cells.Xor a b) = Xor (part a) (part b)
 cell_formula part (cells.Mux c t e) = Mux (part c) (part t) (part e)
 cell_formula part (cells.BoxOut b p) = Const false
 
--- the same by at most so many steps from operand to operand
+-- the same, going from operand to operand at most n times
 unfoldable pub formula_within : List Cell → ℕ → ℕ → Formula
 formula_within all zero place = Const false
 formula_within all (suc n) place = cell_formula (formula_within all n) (cell_at all place)
 
--- operands stand earlier, so one step more than the place is enough
+-- operands are earlier, so one step more than the place is enough
 abbrev pub formula_at : List Cell → ℕ → Formula
 formula_at all place = formula_within all (suc place) place
 

@@ -4,7 +4,7 @@ use Rattle.std.proofs.Common.{◌≡◌, ◌⊎◌, ◌≤◌, ◌+◌, ℕ, Lis
 use Rattle.std.specs.Prelude.{min}
 use Rattle.std.proofs.lemmas.List.{length-reverse}
 use Rattle.std.proofs.lemmas.List.Elements.{Contains-append_left, Contains-append_right, Contains-append_cases}
-use Rattle.bb_lists.proofs.Members.{contains_here, contains_there, none_in_nil}
+use Rattle.bb_lemmas.proofs.Members.{contains_here, contains_there, none_in_nil}
 use Rattle.bb_ast.specs.declared.operators.WordOp.{WordOp}
 use Rattle.bb_ast.specs.declared.operators.WordOp.TheVariants as ops
 use Rattle.bb_ast.specs.declared.operators.FoldOp.{FoldOp}
@@ -12,9 +12,9 @@ use Rattle.bb_ast.specs.declared.operators.FoldOp.TheVariants as folds
 use Rattle.bb_word.specs.Words.{word_circuit}
 use Rattle.bb_word.specs.Folds.{fold_circuit}
 use Rattle.bb_word.specs.Gates.{Gates, Made}
-use Rattle.bb_word.specs.Circuits.{complements, sum, difference, alike, joined, joined_all, folded, inverted, equal, less, choices, up, down, shifted, truths}
-use Rattle.bb_lists.proofs.Each.{Each, each_nil, each_cons, each_append, each_head, each_tail, each_replicate, each_take, each_drop, each_reverse}
-use Rattle.bb_word.specs.Laws.CountLaws.{count-alike, count-folded}
+use Rattle.bb_word.specs.Circuits.{complements, sum, difference, equal_bits, accumulated, joined_all, folded, inverted, equal, less, choices, up, down, shifted, truths}
+use Rattle.bb_lemmas.proofs.Each.{Each, each_nil, each_cons, each_append, each_head, each_tail, each_replicate, each_take, each_drop, each_reverse}
+use Rattle.bb_word.specs.Laws.CountLaws.{count-equal_bits, count-folded}
 
 module _ {A : Type 0} where
   -- these are known, and those are too
@@ -39,13 +39,13 @@ module _ {A : Type 0} where
     pub cells : AreGates g P made.cells
     pub bits : Each made.bits (With P made.cells)
 
-  -- a list that is empty has a bit that stands for it
+  -- the list has a bit, or else the other holds
   abbrev pub SomeOr : List A → Type 0 → Type 0
   SomeOr xs other = (1 ≤ length xs) ⊎ other
 
-  -- and so have two lists of one length
-  abbrev pub SomeAlike : List A → List A → Type 0 → Type 0
-  SomeAlike xs ys other = ((1 ≤ length xs) × (length xs ≡ length ys)) ⊎ other
+  -- two lists of one length have bits, or else the other holds
+  abbrev pub SomeEqual : List A → List A → Type 0 → Type 0
+  SomeEqual xs ys other = ((1 ≤ length xs) × (length xs ≡ length ys)) ⊎ other
 
 module _ {A : Type 0} (g : Gates A) where
   gate_more : (P Q : A → Type 0) → ((t : A) → P t → Q t) → (c : A) → IsGate g P c → IsGate g Q c
@@ -63,7 +63,7 @@ module _ {A : Type 0} (g : Gates A) where
   gates_more P Q more [] h = tt
   gates_more P Q more (c ∷ cells) h = (gate_more P Q more c h.0, gates_more (With P (c ∷ [])) (With Q (c ∷ [])) (with_more P Q more (c ∷ [])) cells h.1)
 
-  -- what is known with one list behind another
+  -- what is known with one list after another
   with_both : (P : A → Type 0) (xs ys : List A) (t : A) → With (With P xs) ys t → With P (xs ++ ys) t
   with_both P xs ys t (inl (inl h)) = inl h
   with_both P xs ys t (inl (inr h)) = inr (Contains-append_left xs ys t h)
@@ -87,9 +87,9 @@ module _ {A : Type 0} (g : Gates A) where
   each_known : (P Q : A → Type 0) → ((t : A) → P t → Q t) → (xs : List A) → Each xs P → Each xs Q
   each_known P Q more xs h t has = more t (h t has)
 
-  -- a circuit behind cells that are made before
-  pub built_behind : (P : A → Type 0) (cells : List A) (made : Made A) → AreGates g P cells → IsBuilt g (With P cells) made → IsBuilt g P (record { bits = made.bits; cells = cells ++ made.cells })
-  built_behind P cells made h k = record {
+  -- a circuit after cells that are made before
+  pub built_after : (P : A → Type 0) (cells : List A) (made : Made A) → AreGates g P cells → IsBuilt g (With P cells) made → IsBuilt g P (record { bits = made.bits; cells = cells ++ made.cells })
+  built_after P cells made h k = record {
     cells = gates_append P cells made.cells h k.cells;
     bits = each_known (With (With P cells) made.cells) (With P (cells ++ made.cells)) (with_both P cells made.cells) made.bits k.bits;
   }
@@ -114,11 +114,11 @@ module _ {A : Type 0} (g : Gates A) where
       let x = g.both a b in
       let y = g.both d c in
       let next = g.either x y in
-      let front = d ∷ s ∷ x ∷ y ∷ next ∷ [] in
-      let Q = With P front in
+      let prefix = d ∷ s ∷ x ∷ y ∷ next ∷ [] in
+      let Q = With P prefix in
       let pa = each_head P a xs p in
       let pb = each_head P b ys q in
-      let here : AreGates g P front = (
+      let here : AreGates g P prefix = (
         differ a b pa pb refl,
         (
           differ d c (inr (contains_here d [])) (inl first) refl,
@@ -130,28 +130,28 @@ module _ {A : Type 0} (g : Gates A) where
       ) in
       let last : Q next = inr (contains_there d (s ∷ x ∷ y ∷ next ∷ []) next (contains_there s (x ∷ y ∷ next ∷ []) next (contains_there x (y ∷ next ∷ []) next (contains_there y (next ∷ []) next (contains_here next []))))) in
       let rest = built_sum Q next xs ys last (each_known P Q (λ t h. inl h) xs (each_tail P a xs p)) (each_known P Q (λ t h. inl h) ys (each_tail P b ys q)) in
-      let all = built_behind P front (sum g next xs ys) here rest in
-      record { cells = all.cells; bits = each_cons (With P (front ++ (sum g next xs ys).cells)) s (sum g next xs ys).bits (inr (contains_there d (s ∷ x ∷ y ∷ next ∷ (sum g next xs ys).cells) s (contains_here s (x ∷ y ∷ next ∷ (sum g next xs ys).cells)))) all.bits }
+      let all = built_after P prefix (sum g next xs ys) here rest in
+      record { cells = all.cells; bits = each_cons (With P (prefix ++ (sum g next xs ys).cells)) s (sum g next xs ys).bits (inr (contains_there d (s ∷ x ∷ y ∷ next ∷ (sum g next xs ys).cells) s (contains_here s (x ∷ y ∷ next ∷ (sum g next xs ys).cells)))) all.bits }
 
   built_difference : (P : A → Type 0) (xs ys : List A) → P g.one → Each xs P → Each ys P → IsBuilt g P (difference g xs ys)
   built_difference P xs ys one p q =
       let other = complements g ys in
       let first = built_complements P ys q in
       let Q = With P other in
-      built_behind P other (sum g g.one xs other) first.0 (built_sum Q g.one xs other (inl one) (each_known P Q (λ t h. inl h) xs p) first.1)
+      built_after P other (sum g g.one xs other) first.0 (built_sum Q g.one xs other (inl one) (each_known P Q (λ t h. inl h) xs p) first.1)
 
-  built_alike : (P : A → Type 0) (xs ys : List A) → Each xs P → Each ys P → IsBuilt g P (alike g xs ys)
-  built_alike P [] ys p q = record { cells = tt; bits = each_nil (With P []) }
-  built_alike P (a ∷ xs) [] p q = record { cells = tt; bits = each_nil (With P []) }
-  built_alike P (a ∷ xs) (b ∷ ys) p q =
+  built_equality : (P : A → Type 0) (xs ys : List A) → Each xs P → Each ys P → IsBuilt g P (equal_bits g xs ys)
+  built_equality P [] ys p q = record { cells = tt; bits = each_nil (With P []) }
+  built_equality P (a ∷ xs) [] p q = record { cells = tt; bits = each_nil (With P []) }
+  built_equality P (a ∷ xs) (b ∷ ys) p q =
       let d = g.differ a b in
       let same = g.inverse d in
-      let front = d ∷ same ∷ [] in
-      let Q = With P front in
-      let here : AreGates g P front = (differ a b (each_head P a xs p) (each_head P b ys q) refl, (inverse d (inr (contains_here d [])) refl, tt)) in
-      let rest = built_alike Q xs ys (each_known P Q (λ t h. inl h) xs (each_tail P a xs p)) (each_known P Q (λ t h. inl h) ys (each_tail P b ys q)) in
-      let all = built_behind P front (alike g xs ys) here rest in
-      record { cells = all.cells; bits = each_cons (With P (front ++ (alike g xs ys).cells)) same (alike g xs ys).bits (inr (contains_there d (same ∷ (alike g xs ys).cells) same (contains_here same (alike g xs ys).cells))) all.bits }
+      let prefix = d ∷ same ∷ [] in
+      let Q = With P prefix in
+      let here : AreGates g P prefix = (differ a b (each_head P a xs p) (each_head P b ys q) refl, (inverse d (inr (contains_here d [])) refl, tt)) in
+      let rest = built_equality Q xs ys (each_known P Q (λ t h. inl h) xs (each_tail P a xs p)) (each_known P Q (λ t h. inl h) ys (each_tail P b ys q)) in
+      let all = built_after P prefix (equal_bits g xs ys) here rest in
+      record { cells = all.cells; bits = each_cons (With P (prefix ++ (equal_bits g xs ys).cells)) same (equal_bits g xs ys).bits (inr (contains_there d (same ∷ (equal_bits g xs ys).cells) same (contains_here same (equal_bits g xs ys).cells))) all.bits }
 
   -- a gate of two operands
   abbrev Joins : (A → A → A) → Type 1
@@ -166,12 +166,12 @@ module _ {A : Type 0} (g : Gates A) where
   joins_differ : Joins g.differ
   joins_differ P a b p q = differ a b p q refl
 
-  built_joined : (op : A → A → A) → Joins op → (P : A → Type 0) (x : A) (xs : List A) → P x → Each xs P → IsBuilt g P (joined op x xs)
+  built_joined : (op : A → A → A) → Joins op → (P : A → Type 0) (x : A) (xs : List A) → P x → Each xs P → IsBuilt g P (accumulated op x xs)
   built_joined op is P x [] first p = record { cells = tt; bits = each_cons (With P []) x [] (inl first) (each_nil (With P [])) }
   built_joined op is P x (y ∷ ys) first p =
       let c = op x y in
       let Q = With P (c ∷ []) in
-      built_behind P (c ∷ []) (joined op c ys) (is P x y first (each_head P y ys p), tt) (built_joined op is Q c ys (inr (contains_here c [])) (each_known P Q (λ t h. inl h) ys (each_tail P y ys p)))
+      built_after P (c ∷ []) (accumulated op c ys) (is P x y first (each_head P y ys p), tt) (built_joined op is Q c ys (inr (contains_here c [])) (each_known P Q (λ t h. inl h) ys (each_tail P y ys p)))
 
   built_joined_all : (op : A → A → A) → Joins op → (P : A → Type 0) (none : A) (xs : List A) → SomeOr xs (P none) → Each xs P → IsBuilt g P (joined_all op none xs)
   built_joined_all op is P none [] (inl some) p = absurd (omega (arith, some))
@@ -188,16 +188,16 @@ module _ {A : Type 0} (g : Gates A) where
   built_inverted : (P : A → Type 0) (made : Made A) → IsBuilt g P made → IsBuilt g P (inverted g made)
   built_inverted P made first =
       let rest = built_complements (With P made.cells) made.bits first.bits in
-      built_behind P made.cells (record { bits = complements g made.bits; cells = complements g made.bits }) first.cells (record { cells = rest.0; bits = rest.1 })
+      built_after P made.cells (record { bits = complements g made.bits; cells = complements g made.bits }) first.cells (record { cells = rest.0; bits = rest.1 })
 
-  built_equal : (P : A → Type 0) (xs ys : List A) → SomeAlike xs ys (P g.one) → Each xs P → Each ys P → IsBuilt g P (equal g xs ys)
+  built_equal : (P : A → Type 0) (xs ys : List A) → SomeEqual xs ys (P g.one) → Each xs P → Each ys P → IsBuilt g P (equal g xs ys)
   built_equal P xs ys given p q =
-      let each = alike g xs ys in
-      let first = built_alike P xs ys p q in
-      built_behind P each.cells (folded g.both g.one each.bits) first.cells (built_folded g.both joins_both (With P each.cells) g.one each.bits (by given) first.bits)
+      let each = equal_bits g xs ys in
+      let first = built_equality P xs ys p q in
+      built_after P each.cells (folded g.both g.one each.bits) first.cells (built_folded g.both joins_both (With P each.cells) g.one each.bits (by given) first.bits)
     where
-      by : SomeAlike xs ys (P g.one) → SomeOr (alike g xs ys).bits (With P (alike g xs ys).cells g.one)
-      by (inl some) = inl (omega (arith, some.0, (count-alike g xs ys some.1).1))
+      by : SomeEqual xs ys (P g.one) → SomeOr (equal_bits g xs ys).bits (With P (equal_bits g xs ys).cells g.one)
+      by (inl some) = inl (omega (arith, some.0, (count-equal_bits g xs ys some.1).1))
       by (inr one) = inr (inl one)
 
   built_less : (P : A → Type 0) (so_far : A) (xs ys : List A) → P so_far → Each xs P → Each ys P → IsBuilt g P (less g so_far xs ys)
@@ -206,11 +206,11 @@ module _ {A : Type 0} (g : Gates A) where
   built_less P so_far (a ∷ xs) (b ∷ ys) first p q =
       let d = g.differ a b in
       let next = g.choice d b so_far in
-      let front = d ∷ next ∷ [] in
-      let Q = With P front in
+      let prefix = d ∷ next ∷ [] in
+      let Q = With P prefix in
       let pb = each_head P b ys q in
-      let here : AreGates g P front = (differ a b (each_head P a xs p) pb refl, (choice d b so_far (inr (contains_here d [])) (inl pb) (inl first) refl, tt)) in
-      built_behind P front (less g next xs ys) here (built_less Q next xs ys (inr (contains_there d (next ∷ []) next (contains_here next []))) (each_known P Q (λ t h. inl h) xs (each_tail P a xs p)) (each_known P Q (λ t h. inl h) ys (each_tail P b ys q)))
+      let here : AreGates g P prefix = (differ a b (each_head P a xs p) pb refl, (choice d b so_far (inr (contains_here d [])) (inl pb) (inl first) refl, tt)) in
+      built_after P prefix (less g next xs ys) here (built_less Q next xs ys (inr (contains_there d (next ∷ []) next (contains_here next []))) (each_known P Q (λ t h. inl h) xs (each_tail P a xs p)) (each_known P Q (λ t h. inl h) ys (each_tail P b ys q)))
 
   built_choices : (P : A → Type 0) (c : A) (ts es : List A) → P c → Each ts P → Each es P → AreGates g P (choices g c ts es)
   built_choices P c [] es first p q = tt
@@ -228,7 +228,7 @@ module _ {A : Type 0} (g : Gates A) where
   built_shifted move moves P null n (s ∷ amount) xs p q =
       let stage = choices g s (move n xs) xs in
       let Q = With P stage in
-      built_behind P stage (shifted g move (n + n) amount stage) (built_choices P s (move n xs) xs (each_head P s amount p) (moves P null n xs q) q)
+      built_after P stage (shifted g move (n + n) amount stage) (built_choices P s (move n xs) xs (each_head P s amount p) (moves P null n xs q) q)
       (built_shifted move moves Q (inl null) (n + n) amount stage (each_known P Q (λ t h. inl h) amount (each_tail P s amount p)) (λ t has. inr has))
 
   moves_up : Moves (up g.zero)
@@ -244,18 +244,18 @@ module _ {A : Type 0} (g : Gates A) where
       let Q = With P left.cells in
       let R = With P (left.cells ++ right.cells) in
       let first = built_folded g.either joins_either P g.zero xs some p in
-      let second = built_behind P left.cells right first.cells (built_folded g.either joins_either Q g.zero ys (by other) (each_known P Q (λ t h. inl h) ys q)) in
-      let left_bits = each_known Q R (λ t. front t) left.bits first.bits in
-      built_behind P (left.cells ++ right.cells) (joined_all op g.zero (left.bits ++ right.bits)) second.cells
+      let second = built_after P left.cells right first.cells (built_folded g.either joins_either Q g.zero ys (by other) (each_known P Q (λ t h. inl h) ys q)) in
+      let left_bits = each_known Q R (λ t. prefix t) left.bits first.bits in
+      built_after P (left.cells ++ right.cells) (joined_all op g.zero (left.bits ++ right.bits)) second.cells
       (built_joined_all op is R g.zero (left.bits ++ right.bits) (inl (one left.bits right.bits (left_one xs))) (each_append R left.bits right.bits left_bits second.bits))
     where
       by : SomeOr ys (P g.zero) → SomeOr ys (With P (folded g.either g.zero xs).cells g.zero)
       by (inl h) = inl h
       by (inr h) = inr (inl h)
 
-      front : (t : A) → With P (folded g.either g.zero xs).cells t → With P ((folded g.either g.zero xs).cells ++ (folded g.either g.zero ys).cells) t
-      front t (inl h) = inl h
-      front t (inr h) = inr (Contains-append_left (folded g.either g.zero xs).cells (folded g.either g.zero ys).cells t h)
+      prefix : (t : A) → With P (folded g.either g.zero xs).cells t → With P ((folded g.either g.zero xs).cells ++ (folded g.either g.zero ys).cells) t
+      prefix t (inl h) = inl h
+      prefix t (inr h) = inr (Contains-append_left (folded g.either g.zero xs).cells (folded g.either g.zero ys).cells t h)
 
       left_one : (zs : List A) → 1 ≤ length (folded g.either g.zero zs).bits
       left_one zs = omega (arith, (count-folded g g.either g.zero zs).1)
@@ -268,8 +268,8 @@ module _ {A : Type 0} (g : Gates A) where
   abbrev pub Reads : (A → Type 0) → WordOp → List A → List A → Type 0
   Reads P ops.Plus xs ys = P g.zero
   Reads P ops.Minus xs ys = P g.one
-  Reads P ops.Equal xs ys = SomeAlike xs ys (P g.one)
-  Reads P ops.NotEqual xs ys = SomeAlike xs ys (P g.one)
+  Reads P ops.Equal xs ys = SomeEqual xs ys (P g.one)
+  Reads P ops.NotEqual xs ys = SomeEqual xs ys (P g.one)
   Reads P ops.Less xs ys = P g.zero
   Reads P ops.LessEqual xs ys = P g.zero
   Reads P ops.Greater xs ys = P g.zero

@@ -1,14 +1,14 @@
 -- What is so of each bit of the operands, and goes through gates that are among some cells, is so of all that a circuit makes where
 -- its cells are among them.
 use Rattle.std.proofs.Common.{List, [], ◌∷◌, Contains, sym, subst, inl, inr}
-use Rattle.bb_lists.proofs.Members.{contains_cases, none_in_nil}
+use Rattle.bb_lemmas.proofs.Members.{contains_cases, none_in_nil}
 use Rattle.bb_ast.specs.declared.operators.WordOp.{WordOp}
 use Rattle.bb_ast.specs.declared.operators.WordOp.TheVariants as ops
 use Rattle.bb_ast.specs.declared.operators.FoldOp.{FoldOp}
 use Rattle.bb_word.specs.Words.{word_circuit}
 use Rattle.bb_word.specs.Folds.{fold_circuit}
 use Rattle.bb_word.specs.Gates.{Gates, Made}
-use Rattle.bb_lists.proofs.Each.{Each, AreIn, each_nil, each_cons, each_head, each_tail}
+use Rattle.bb_lemmas.proofs.Each.{Each, AreIn, each_nil, each_cons, each_head, each_tail}
 use Rattle.bb_word.specs.Laws.GateLaws.{With, IsGate, inverse, both, either, differ, choice, AreGates, IsBuilt, Reads, word_built, fold_built}
 
 module _ {A : Type 0} where

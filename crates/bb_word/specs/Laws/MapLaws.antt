@@ -1,10 +1,10 @@
--- Maps of gates go through circuits. The laws hold for gates of every kind, also for those that no type of the code stands for: so they
--- are proved here, and the function of the crate has them as contract for formulas and bits.
+-- Maps of gates go through circuits. The laws hold for gates of every kind, also for those of no type of the code: so
+-- they are proved here, and the function of the crate has them as contract for formulas and bits.
 use Rattle.std.proofs.Common.{◌≡◌, ◌∙◌, ◌+◌, ℕ, zero, List, [], ◌∷◌, ◌++◌, map, length, reverse, take, drop, replicate, refl, sym, ap}
 use Rattle.std.specs.Prelude.{min}
 use Rattle.std.proofs.Math.Path.{ap₂}
 use Rattle.std.proofs.lemmas.List.{length-map, map-append, take-map, drop-map}
-use Rattle.bb_lists.proofs.Maps.{replicate-map, reverse-map}
+use Rattle.bb_lemmas.proofs.Maps.{replicate-map, reverse-map}
 use Rattle.bb_ast.specs.declared.operators.WordOp.{WordOp}
 use Rattle.bb_ast.specs.declared.operators.WordOp.TheVariants as ops
 use Rattle.bb_ast.specs.declared.operators.FoldOp.{FoldOp}
@@ -12,7 +12,7 @@ use Rattle.bb_ast.specs.declared.operators.FoldOp.TheVariants as folds
 use Rattle.bb_word.specs.Words.{word_circuit}
 use Rattle.bb_word.specs.Folds.{fold_circuit}
 use Rattle.bb_word.specs.Gates.{Gates, Made, IsMap, mapped}
-use Rattle.bb_word.specs.Circuits.{complements, sum, difference, alike, joined, joined_all, folded, inverted, equal, less, choices, up, down, shifted, truths}
+use Rattle.bb_word.specs.Circuits.{complements, sum, difference, equal_bits, accumulated, joined_all, folded, inverted, equal, less, choices, up, down, shifted, truths}
 
 pub made_same : {A : Type 0} (a b : Made A) → a.bits ≡ b.bits → a.cells ≡ b.cells → a ≡ b
 made_same {A} a b p q = ap₂ {C = Made A} (λ x y. record { bits = x; cells = y }) p q
@@ -52,18 +52,18 @@ module _ {A B : Type 0} (g : Gates A) (h : Gates B) (f : A → B) (m : IsMap g h
       let o = m.one in
       made_same _ _ (simp (rb, n, o)) (map-append f (complements g ys) (sum g g.one xs (complements g ys)).cells ∙ simp (rc, n, o))
 
-  pub map-joined : (op : A → A → A) (po : B → B → B) → ((a b : A) → f (op a b) ≡ po (f a) (f b)) → (so_far : A) (xs : List A) → mapped f (joined op so_far xs) ≡ joined po (f so_far) (map f xs)
-  map-joined op po each so_far [] = refl
-  map-joined op po each so_far (x ∷ xs) =
+  pub map-accumulated : (op : A → A → A) (po : B → B → B) → ((a b : A) → f (op a b) ≡ po (f a) (f b)) → (so_far : A) (xs : List A) → mapped f (accumulated op so_far xs) ≡ accumulated po (f so_far) (map f xs)
+  map-accumulated op po each so_far [] = refl
+  map-accumulated op po each so_far (x ∷ xs) =
       let e = each so_far x in
-      let rest = map-joined op po each (op so_far x) xs in
+      let rest = map-accumulated op po each (op so_far x) xs in
       let rb = ap (λ z. z.bits) rest in
       let rc = ap (λ z. z.cells) rest in
       made_same _ _ (simp (rb, e)) (simp (rc, e))
 
   pub map-joined_all : (op : A → A → A) (po : B → B → B) → ((a b : A) → f (op a b) ≡ po (f a) (f b)) → (o : A) (xs : List A) → mapped f (joined_all op o xs) ≡ joined_all po (f o) (map f xs)
   map-joined_all op po each o [] = refl
-  map-joined_all op po each o (x ∷ xs) = map-joined op po each x xs
+  map-joined_all op po each o (x ∷ xs) = map-accumulated op po each x xs
 
   pub map-folded : (op : A → A → A) (po : B → B → B) → ((a b : A) → f (op a b) ≡ po (f a) (f b)) → (o : A) (p : B) → f o ≡ p → (xs : List A) → mapped f (folded op o xs) ≡ folded po p (map f xs)
   map-folded op po each o p none xs = map-joined_all op po each o (reverse xs) ∙ ap₂ (joined_all po) none (reverse-map f xs)
@@ -75,26 +75,26 @@ module _ {A B : Type 0} (g : Gates A) (h : Gates B) (f : A → B) (m : IsMap g h
       let n = map-complements a.bits in
       made_same _ _ (simp (n, sb)) (map-append f a.cells (complements g a.bits) ∙ simp (n, sb, sc))
 
-  pub map-alike : (xs ys : List A) → mapped f (alike g xs ys) ≡ alike h (map f xs) (map f ys)
-  map-alike [] ys = refl
-  map-alike (x ∷ xs) [] = refl
-  map-alike (x ∷ xs) (y ∷ ys) =
+  pub map-equal_bits : (xs ys : List A) → mapped f (equal_bits g xs ys) ≡ equal_bits h (map f xs) (map f ys)
+  map-equal_bits [] ys = refl
+  map-equal_bits (x ∷ xs) [] = refl
+  map-equal_bits (x ∷ xs) (y ∷ ys) =
       let d = m.differ x y in
       let i = m.inverse (g.differ x y) in
-      let rest = map-alike xs ys in
+      let rest = map-equal_bits xs ys in
       let rb = ap (λ z. z.bits) rest in
       let rc = ap (λ z. z.cells) rest in
       made_same _ _ (simp (rb, i, d)) (simp (rc, i, d))
 
   pub map-equal : (xs ys : List A) → mapped f (equal g xs ys) ≡ equal h (map f xs) (map f ys)
   map-equal xs ys =
-      let first = map-alike xs ys in
+      let first = map-equal_bits xs ys in
       let fb = ap (λ z. z.bits) first in
       let fc = ap (λ z. z.cells) first in
-      let rest = map-folded g.both h.both m.both g.one h.one m.one (alike g xs ys).bits in
+      let rest = map-folded g.both h.both m.both g.one h.one m.one (equal_bits g xs ys).bits in
       let rb = ap (λ z. z.bits) rest ∙ ap (λ z. (folded h.both h.one z).bits) fb in
       let rc = ap (λ z. z.cells) rest ∙ ap (λ z. (folded h.both h.one z).cells) fb in
-      made_same _ _ rb (map-append f (alike g xs ys).cells (folded g.both g.one (alike g xs ys).bits).cells ∙ ap₂ (λ a b. a ++ b) fc rc)
+      made_same _ _ rb (map-append f (equal_bits g xs ys).cells (folded g.both g.one (equal_bits g xs ys).bits).cells ∙ ap₂ (λ a b. a ++ b) fc rc)
 
   pub map-less : (so_far : A) (xs ys : List A) → mapped f (less g so_far xs ys) ≡ less h (f so_far) (map f xs) (map f ys)
   map-less so_far [] ys = refl

@@ -1,5 +1,5 @@
--- What the circuits give on bits. Here words stand with their first bit the most significant one, so a circuit reads and gives them
--- in reverse.
+-- What the circuits give on bits. Here the first bit of a word is the most significant, so a circuit reads and gives
+-- words in reverse.
 use Rattle.std.specs.Prelude.{◌≡◌, Bool, List, [], ◌∷◌, length, reverse}
 use Rattle.bb_bits.specs.Numbers.{number_of}
 use Rattle.bb_ast.specs.declared.operators.WordOp.{WordOp}

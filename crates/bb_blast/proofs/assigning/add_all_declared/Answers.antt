@@ -3,8 +3,8 @@ use Rattle.std.specs.Prelude.{All}
 use Rattle.std.specs.List.{flat_map}
 use Rattle.bb_ast.specs.Inside.Views.{named_view}
 use Rattle.bb_design.specs.Constructs.{initial_construct}
-use Rattle.bb_blast.specs.Inside.Outlining.{IsMakeable, IsPartAt}
-use Rattle.bb_lists.proofs.Turns.{all_here, zip_flat, zip_begin, zip_end}
+use Rattle.bb_blast.specs.Inside.BitBlasting.{IsMakeable, IsPartAt}
+use Rattle.bb_lemmas.proofs.Turns.{all_here, zip_flat, zip_begin, zip_end}
 use Rattle.bb_blast.proofs.assigning.add_all_declared.Goals as goal
 
 pub add_declared-requires-clause-makeable : goal.add_declared-requires-clause-makeable

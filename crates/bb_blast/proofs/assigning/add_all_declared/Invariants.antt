@@ -2,7 +2,7 @@ use Rattle.std.proofs.Common.{◌++◌, List, map, take}
 use Rattle.std.specs.List.{AllZip, flat_map}
 use Rattle.bb_ast.specs.Inside.Views.{named_view}
 use Rattle.bb_design.specs.Constructs.{Construct, initial_construct}
-use Rattle.bb_blast.specs.Inside.Outlining.{IsPartAt}
+use Rattle.bb_blast.specs.Inside.BitBlasting.{IsPartAt}
 use Rattle.bb_blast.proofs.assigning.add_all_declared.Given as goal
 
 abbrev pub invariant-loop-net : goal.invariant-loop-net

@@ -1,13 +1,13 @@
 use Rattle.std.proofs.Common.{map}
 use Rattle.bb_ast.specs.Inside.Views.{arm_view}
-use Rattle.bb_expr.specs.Inside.Standing.{StandsAt}
+use Rattle.bb_expr.specs.Inside.Occurrences.{OccursAt}
 use Rattle.bb_design.specs.Constructs.{Assignment}
-use Rattle.bb_blast.specs.Inside.Outlining.{IsMakeable, IsPartAt}
-use Rattle.bb_lists.proofs.Turns.{all_here, zip_turn, zip_begin, zip_end}
+use Rattle.bb_blast.specs.Inside.BitBlasting.{IsMakeable, IsPartAt}
+use Rattle.bb_lemmas.proofs.Turns.{all_here, zip_turn, zip_begin, zip_end}
 use Rattle.bb_blast.proofs.assigning.add_assignments.Goals as goal
 
-pub assignment-requires-clause-stands : goal.assignment-requires-clause-stands
-assignment-requires-clause-stands c = all_here (λ x. StandsAt c.args.context.checked.now c.args.context.module x.0) arm_view c.args.all.now c.loop-left.left-index c.loop-left-item.result c.loop-left-test.true c.loop-left-item.is c.requires.stands
+pub assignment-requires-clause-occurs : goal.assignment-requires-clause-occurs
+assignment-requires-clause-occurs c = all_here (λ x. OccursAt c.args.context.checked.now c.args.context.module x.0) arm_view c.args.all.now c.loop-left.left-index c.loop-left-item.result c.loop-left-test.true c.loop-left-item.is c.requires.occurs
 
 pub assignment-requires-clause-makeable : goal.assignment-requires-clause-makeable
 assignment-requires-clause-makeable c =

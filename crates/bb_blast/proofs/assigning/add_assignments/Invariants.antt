@@ -2,7 +2,7 @@ use Rattle.std.proofs.Common.{◌++◌, List, map, take}
 use Rattle.std.specs.List.{AllZip}
 use Rattle.bb_ast.specs.Inside.Views.{arm_view}
 use Rattle.bb_design.specs.Constructs.{Construct, Assignment}
-use Rattle.bb_blast.specs.Inside.Outlining.{IsPartAt}
+use Rattle.bb_blast.specs.Inside.BitBlasting.{IsPartAt}
 use Rattle.bb_blast.proofs.assigning.add_assignments.Given as goal
 
 abbrev pub invariant-loop-left : goal.invariant-loop-left

@@ -1,4 +1,4 @@
-use Rattle.bb_blast.specs.declared.outline.Part.{Part}
+use Rattle.bb_blast.specs.declared.template.Part.{Part}
 use Rattle.std.proofs.Common.{◌≡◌, List, ◌++◌, [], ◌∷◌, sym, ap, subst}
 use Rattle.std.specs.Prelude.{All}
 use Rattle.std.specs.List.{AllZip}
@@ -6,8 +6,8 @@ use Rattle.std.proofs.lemmas.List.Elements.{All-head}
 use Rattle.bb_ast.specs.Syntax.{Net}
 use Rattle.bb_ast.specs.Inside.Views.{expression, optional_view, named_view}
 use Rattle.bb_design.specs.Constructs.{Assignment, initial_construct}
-use Rattle.bb_blast.specs.Inside.Outlining.{IsMakeable, IsPartAt}
-use Rattle.bb_lists.proofs.Turns.{zip_both}
+use Rattle.bb_blast.specs.Inside.BitBlasting.{IsMakeable, IsPartAt}
+use Rattle.bb_lemmas.proofs.Turns.{zip_both}
 use Rattle.bb_blast.proofs.assigning.add_declared.Goals as goal
 
 pub declared_assignment-requires-clause-makeable : goal.declared_assignment-requires-clause-makeable

@@ -6,10 +6,10 @@ use Rattle.bb_names.specs.Inside.Checked.{module_facts}
 use Rattle.bb_expr.specs.Inside.Fit.{AreFit, IsFit}
 use Rattle.bb_design.specs.Constructs.{SupplyNet}
 use Rattle.bb_design.specs.NetBits.{bits_named}
-use Rattle.bb_blast.specs.Inside.Outlining.{IsMakeable, IsPartAt}
+use Rattle.bb_blast.specs.Inside.BitBlasting.{IsMakeable, IsPartAt}
 use Rattle.bb_blast.proofs.LeftBits.{fit_here}
 use Rattle.bb_blast.proofs.ModulePlaces.{at_some, some_and, bits_meant}
-use Rattle.bb_lists.proofs.Turns.{all_here, zip_next, zip_begin, zip_end}
+use Rattle.bb_lemmas.proofs.Turns.{all_here, zip_next, zip_begin, zip_end}
 use Rattle.bb_blast.proofs.assigning.add_supplies.Goals as goal
 
 fits : (c : goal.After-net_bits-arg-1) → IsFit (module_facts c.scope_at-scope.result.now) (Net c.name-item.result)

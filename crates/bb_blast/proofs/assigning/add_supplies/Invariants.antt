@@ -1,7 +1,7 @@
 use Rattle.std.proofs.Common.{◌++◌, List, map, take}
 use Rattle.std.specs.List.{AllZip}
 use Rattle.bb_design.specs.Constructs.{Construct, SupplyNet}
-use Rattle.bb_blast.specs.Inside.Outlining.{IsPartAt}
+use Rattle.bb_blast.specs.Inside.BitBlasting.{IsPartAt}
 use Rattle.bb_blast.proofs.assigning.add_supplies.Given as goal
 
 abbrev pub invariant-loop-name : goal.invariant-loop-name

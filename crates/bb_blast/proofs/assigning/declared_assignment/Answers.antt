@@ -10,12 +10,12 @@ use Rattle.bb_expr.specs.Inside.Fit.{AreFit}
 use Rattle.bb_design.specs.Contexts.{width_of, made_in}
 use Rattle.bb_design.specs.NetBits.{bits_named, Bit}
 use Rattle.bb_blast.specs.Inside.Logic.{IsLogicOf}
-use Rattle.bb_blast.specs.Inside.Outlines.{AreBitsIn}
-use Rattle.bb_blast.specs.Inside.Outlining.{module_in, scope_of, IsMakeable}
+use Rattle.bb_blast.specs.Inside.ModuleTemplates.{AreBitsIn}
+use Rattle.bb_blast.specs.Inside.BitBlasting.{module_in, scope_of, IsMakeable}
 use Rattle.bb_design.specs.Constructs.{Assignment}
 use Rattle.bb_blast.proofs.LeftBits.{bits_long, fit_here}
 use Rattle.bb_blast.proofs.ModulePlaces.{at_some, module-is, beside_context, bits_meant}
-use Rattle.bb_lists.proofs.Ranges.{length-run}
+use Rattle.bb_lemmas.proofs.Ranges.{length-run}
 use Rattle.bb_blast.proofs.assigning.declared_assignment.Goals as goal
 
 module _ (checked : List ModuleFacts) (k : ℕ) (f : ModuleFacts) (there : slice_get checked k ≡ Some f) (n : List ℕ) (right : Expression) (makeable : IsMakeable checked k (Assignment (Net n) right)) (numbers : Vec ℕ Global)

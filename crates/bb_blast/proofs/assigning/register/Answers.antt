@@ -4,10 +4,10 @@ use Rattle.bb_names.specs.Inside.Checked.{module_facts}
 use Rattle.bb_names.specs.Widths.{Ranges, own_width}
 use Rattle.bb_design.specs.NetBits.{written_bits}
 use Rattle.bb_blast.specs.Inside.Logic.{IsLogicOf}
-use Rattle.bb_blast.specs.Inside.Outlines.{AreBitsIn}
-use Rattle.bb_blast.specs.Inside.Outlining.{module_in}
+use Rattle.bb_blast.specs.Inside.ModuleTemplates.{AreBitsIn}
+use Rattle.bb_blast.specs.Inside.BitBlasting.{module_in}
 use Rattle.bb_blast.proofs.LeftBits.{bits_long}
-use Rattle.bb_lists.proofs.Places.{only_one}
+use Rattle.bb_lemmas.proofs.Places.{only_one}
 use Rattle.bb_blast.proofs.ModulePlaces.{ranges-are, beside_context, bits_meant}
 use Rattle.bb_blast.proofs.assigning.register.Goals as goal
 

@@ -5,12 +5,12 @@ use Rattle.std.proofs.lemmas.Option.{slice_get_read}
 use Rattle.bb_ast.specs.Syntax.{PlainModule}
 use Rattle.bb_ast.specs.Inside.Views.{call_view}
 use Rattle.bb_names.specs.Inside.Checked.{syntax}
-use Rattle.bb_names.specs.Spots.{module_named}
+use Rattle.bb_names.specs.Sites.{module_named}
 use Rattle.bb_design.specs.Constructs.{connections}
 use Rattle.bb_design.specs.Hierarchy.{instance_of}
-use Rattle.bb_blast.specs.Inside.Outlining.{IsMakeable, IsPartAt}
-use Rattle.bb_lists.proofs.Places.{got-map}
-use Rattle.bb_lists.proofs.Turns.{all_flat, seen_there, zip_flat, zip_begin, zip_end}
+use Rattle.bb_blast.specs.Inside.BitBlasting.{IsMakeable, IsPartAt}
+use Rattle.bb_lemmas.proofs.Places.{got-map}
+use Rattle.bb_lemmas.proofs.Turns.{all_flat, seen_there, zip_flat, zip_begin, zip_end}
 use Rattle.bb_blast.proofs.calling.add_calls.Goals as goal
 
 pub add_conns-requires-clause-makeable : goal.add_conns-requires-clause-makeable

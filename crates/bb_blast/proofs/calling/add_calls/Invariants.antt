@@ -2,10 +2,10 @@ use Rattle.std.proofs.Common.{◌++◌, ℕ, List, map, take}
 use Rattle.std.specs.List.{AllZip, flat_map}
 use Rattle.bb_ast.specs.Inside.Views.{call_view}
 use Rattle.bb_names.specs.Inside.Checked.{syntax}
-use Rattle.bb_names.specs.Spots.{module_named}
+use Rattle.bb_names.specs.Sites.{module_named}
 use Rattle.bb_design.specs.Constructs.{Construct, connections}
 use Rattle.bb_design.specs.Hierarchy.{instance_of}
-use Rattle.bb_blast.specs.Inside.Outlining.{AreCallsAt, IsPartAt}
+use Rattle.bb_blast.specs.Inside.BitBlasting.{AreCallsAt, IsPartAt}
 use Rattle.bb_blast.proofs.calling.add_calls.Given as goal
 
 abbrev pub invariant-loop-k : goal.invariant-loop-k

@@ -4,7 +4,7 @@ use Rattle.std.specs.Result.{OnOk}
 use Rattle.bb_ast.specs.Syntax.{PlainConns, Order, Named}
 use Rattle.bb_ast.specs.Inside.Views.{optional_view, named_view, conns_view}
 use Rattle.bb_design.specs.Constructs.{connections}
-use Rattle.bb_blast.specs.Inside.Outlining.{module_in, IsPartAt}
+use Rattle.bb_blast.specs.Inside.BitBlasting.{module_in, IsPartAt}
 use Rattle.bb_blast.proofs.calling.add_conns.Goals as goal
 
 pub returns-in-Order : goal.returns-in-Order

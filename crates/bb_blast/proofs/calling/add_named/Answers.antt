@@ -2,10 +2,10 @@ use Rattle.std.proofs.Common.{Some, map}
 use Rattle.std.specs.Prelude.{option_to_list}
 use Rattle.bb_ast.specs.Syntax.{Named}
 use Rattle.bb_ast.specs.Inside.Views.{named_view}
-use Rattle.bb_names.specs.Spots.{pin_named}
+use Rattle.bb_names.specs.Sites.{pin_named}
 use Rattle.bb_design.specs.Constructs.{connection, connections}
-use Rattle.bb_blast.specs.Inside.Outlining.{module_in, IsMakeable, IsPartAt}
-use Rattle.bb_lists.proofs.Turns.{all_flat, seen_there, zip_flat, zip_added, zip_begin, zip_end}
+use Rattle.bb_blast.specs.Inside.BitBlasting.{module_in, IsMakeable, IsPartAt}
+use Rattle.bb_lemmas.proofs.Turns.{all_flat, seen_there, zip_flat, zip_added, zip_begin, zip_end}
 use Rattle.bb_blast.proofs.calling.add_named.Goals as goal
 
 pub connected-requires-clause-makeable : goal.connected-requires-clause-makeable

@@ -4,7 +4,7 @@ use Rattle.bb_ast.specs.Syntax.{Named}
 use Rattle.bb_ast.specs.Inside.Views.{named_view}
 use Rattle.bb_design.specs.Constructs.{Construct, connections}
 use Rattle.bb_design.specs.Hierarchy.{Instance}
-use Rattle.bb_blast.specs.Inside.Outlining.{IsCallAt, IsPartAt, module_in}
+use Rattle.bb_blast.specs.Inside.BitBlasting.{IsCallAt, IsPartAt, module_in}
 use Rattle.bb_blast.proofs.calling.add_named.Given as goal
 
 abbrev pub invariant-loop-port : goal.invariant-loop-port

@@ -4,12 +4,12 @@ use Rattle.std.specs.List.{enumerate_from}
 use Rattle.std.proofs.lemmas.Option.{slice_get_read}
 use Rattle.bb_ast.specs.Syntax.{Order}
 use Rattle.bb_ast.specs.Inside.Views.{optional_view}
-use Rattle.bb_names.specs.Spots.{pin_at}
+use Rattle.bb_names.specs.Sites.{pin_at}
 use Rattle.bb_design.specs.Constructs.{connection, connections}
-use Rattle.bb_blast.specs.Inside.Outlining.{module_in, IsMakeable, IsPartAt}
-use Rattle.bb_lists.proofs.Places.{got-map}
-use Rattle.bb_lists.proofs.Turns.{all_flat, zip_numbered, zip_added, zip_begin, zip_end}
-use Rattle.bb_lists.proofs.Numbered.{at-place}
+use Rattle.bb_blast.specs.Inside.BitBlasting.{module_in, IsMakeable, IsPartAt}
+use Rattle.bb_lemmas.proofs.Places.{got-map}
+use Rattle.bb_lemmas.proofs.Turns.{all_flat, zip_numbered, zip_added, zip_begin, zip_end}
+use Rattle.bb_lemmas.proofs.Numbered.{at-place}
 use Rattle.bb_blast.proofs.calling.add_ordered.Goals as goal
 
 zero-plus : (i : ℕ) → 0 + i ≡ i

@@ -4,7 +4,7 @@ use Rattle.bb_ast.specs.Syntax.{Order}
 use Rattle.bb_ast.specs.Inside.Views.{optional_view}
 use Rattle.bb_design.specs.Constructs.{Construct, connections}
 use Rattle.bb_design.specs.Hierarchy.{Instance}
-use Rattle.bb_blast.specs.Inside.Outlining.{IsCallAt, IsPartAt, module_in}
+use Rattle.bb_blast.specs.Inside.BitBlasting.{IsCallAt, IsPartAt, module_in}
 use Rattle.bb_blast.proofs.calling.add_ordered.Given as goal
 
 abbrev pub invariant-loop-k : goal.invariant-loop-k

@@ -7,10 +7,10 @@ use Rattle.bb_ast.specs.declared.module.Head.{Head}
 use Rattle.bb_ast.specs.Syntax.{PlainModule}
 use Rattle.bb_ast.specs.Inside.Views.{head_view, optional_view}
 use Rattle.bb_names.specs.Inside.Checked.{module_facts, syntax}
-use Rattle.bb_names.specs.Spots.{Pin, pin_named, pin_at}
+use Rattle.bb_names.specs.Sites.{Pin, pin_named, pin_at}
 use Rattle.bb_design.specs.Constructs.{connection}
-use Rattle.bb_blast.specs.Inside.Outlining.{module_in, IsMakeable, IsPartAt}
-use Rattle.bb_lists.proofs.Places.{got-map}
+use Rattle.bb_blast.specs.Inside.BitBlasting.{module_in, IsMakeable, IsPartAt}
+use Rattle.bb_lemmas.proofs.Places.{got-map}
 use Rattle.bb_blast.proofs.Connections.{pin-at, pin-past}
 use Rattle.bb_blast.proofs.calling.ordered.Goals as goal
 
@@ -27,7 +27,7 @@ connected-requires-clause-makeable c =
 
 pub returns-in-Some : goal.returns-in-Some
 returns-in-Some c = record {
-  part = λ called is. IfOk-weaker _ _ _ (λ part stands. subst (λ (p : Option Pin). AllZip (IsPartAt c.args.context.checked.now c.args.context.module) (option_to_list part) (connection called.name p (optional_view c.args.place.now))) (sym (head-at (module_in c.args.context.checked.now c.args.inner.target) (syntax (module_facts c.scope_at.result.now)) c.deref.result.now c.args.number c.in-Some.head.now c.scope_at.ensures.meant (ap (map head_view) (sym c.deref.ensures.value)) (slice_get_read c.deref.result.now (length c.deref.result.now) c.args.number c.in-Some.head.now refl c.in-Some.ensures.lookup.3.0 c.in-Some.ensures.lookup.1))) stands) (c.connected.ensures.part called is);
+  part = λ called is. IfOk-weaker _ _ _ (λ part occurs. subst (λ (p : Option Pin). AllZip (IsPartAt c.args.context.checked.now c.args.context.module) (option_to_list part) (connection called.name p (optional_view c.args.place.now))) (sym (head-at (module_in c.args.context.checked.now c.args.inner.target) (syntax (module_facts c.scope_at.result.now)) c.deref.result.now c.args.number c.in-Some.head.now c.scope_at.ensures.meant (ap (map head_view) (sym c.deref.ensures.value)) (slice_get_read c.deref.result.now (length c.deref.result.now) c.args.number c.in-Some.head.now refl c.in-Some.ensures.lookup.3.0 c.in-Some.ensures.lookup.1))) occurs) (c.connected.ensures.part called is);
 }
 
 pub returns-in-None : goal.returns-in-None

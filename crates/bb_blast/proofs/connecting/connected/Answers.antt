@@ -4,11 +4,11 @@ use Rattle.bb_ast.specs.declared.module.Dir.TheVariants as dirs
 use Rattle.bb_ast.specs.Inside.Views.{expression, optional_view}
 use Rattle.bb_names.specs.Inside.Checked.{module_facts}
 use Rattle.bb_names.specs.Declarations.{port_direction}
-use Rattle.bb_names.specs.Spots.{pin_named}
-use Rattle.bb_blast.specs.declared.outline.Part.TheVariants as part
+use Rattle.bb_names.specs.Sites.{pin_named}
+use Rattle.bb_blast.specs.declared.template.Part.TheVariants as part
 use Rattle.bb_design.specs.Constructs.{connection}
 use Rattle.bb_design.specs.NetBits.{bits_named, written_bits}
-use Rattle.bb_blast.specs.Inside.Outlining.{module_in, IsPartAt}
+use Rattle.bb_blast.specs.Inside.BitBlasting.{module_in, IsPartAt}
 use Rattle.bb_blast.proofs.Connections.{input_part, output_part}
 use Rattle.bb_blast.proofs.ModulePlaces.{bits_meant}
 use Rattle.bb_blast.proofs.connecting.connected.Goals as goal

@@ -11,8 +11,8 @@ use Rattle.bb_expr.specs.Lowered.{IsLowered}
 use Rattle.bb_design.specs.Contexts.{width_of}
 use Rattle.bb_blast.specs.declared.logic.Logic.{Logic}
 use Rattle.bb_blast.specs.Inside.Logic.{IsLogicOf}
-use Rattle.bb_blast.specs.Inside.Outlines.{IsMadeIn, IsWholeIn}
-use Rattle.bb_blast.specs.Inside.Outlining.{module_in, scope_of}
+use Rattle.bb_blast.specs.Inside.ModuleTemplates.{IsMadeIn, IsWholeIn}
+use Rattle.bb_blast.specs.Inside.BitBlasting.{module_in, scope_of}
 use Rattle.bb_blast.proofs.expression_steps.logic_alone.Goals as goal
 
 whole : (m : PlainModule) (e : Expression) (l : Lowered) (n : ℕ) (g : Logic) → IsMadeIn m l e (λ s. max 0 (width_of s e)) → n ≡ vec_len l.bits → IsLogicOf n l g → IsWholeIn m g e

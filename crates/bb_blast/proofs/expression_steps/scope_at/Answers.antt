@@ -3,7 +3,7 @@ use Rattle.std.specs.Prelude.{slice_get}
 use Rattle.std.proofs.lemmas.List.{length-map}
 use Rattle.std.proofs.lemmas.Option.{slice_get_read}
 use Rattle.bb_names.specs.Inside.Checked.{module_facts}
-use Rattle.bb_lists.proofs.Places.{got-map}
+use Rattle.bb_lemmas.proofs.Places.{got-map}
 use Rattle.bb_blast.proofs.ModulePlaces.{has_nets, module-is}
 use Rattle.bb_blast.proofs.expression_steps.scope_at.Goals as goal
 

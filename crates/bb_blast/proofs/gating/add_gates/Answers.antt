@@ -2,8 +2,8 @@ use Rattle.std.proofs.Common.{List, map, sym, subst}
 use Rattle.bb_ast.specs.declared.expr.Expr.{Expr}
 use Rattle.bb_ast.specs.Inside.Views.{expression, gate_view}
 use Rattle.bb_design.specs.Constructs.{gate_construct}
-use Rattle.bb_blast.specs.Inside.Outlining.{IsMakeable, IsPartAt}
-use Rattle.bb_lists.proofs.Turns.{all_here, zip_turn, zip_begin, zip_end}
+use Rattle.bb_blast.specs.Inside.BitBlasting.{IsMakeable, IsPartAt}
+use Rattle.bb_lemmas.proofs.Turns.{all_here, zip_turn, zip_begin, zip_end}
 use Rattle.bb_blast.proofs.gating.add_gates.Goals as goal
 
 pub gate_part-requires-clause-makeable : goal.gate_part-requires-clause-makeable

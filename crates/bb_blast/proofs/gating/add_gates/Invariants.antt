@@ -2,7 +2,7 @@ use Rattle.std.proofs.Common.{◌++◌, List, map, take}
 use Rattle.std.specs.List.{AllZip}
 use Rattle.bb_ast.specs.Inside.Views.{gate_view}
 use Rattle.bb_design.specs.Constructs.{Construct, gate_construct}
-use Rattle.bb_blast.specs.Inside.Outlining.{IsPartAt}
+use Rattle.bb_blast.specs.Inside.BitBlasting.{IsPartAt}
 use Rattle.bb_blast.proofs.gating.add_gates.Given as goal
 
 abbrev pub invariant-loop-call : goal.invariant-loop-call

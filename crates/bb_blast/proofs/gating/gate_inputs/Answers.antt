@@ -1,14 +1,14 @@
 use Rattle.std.proofs.Common.{◌≤◌, [], length}
 use Rattle.bb_ast.specs.Inside.Views.{expression}
-use Rattle.bb_expr.specs.Inside.Standing.{StandsAt}
+use Rattle.bb_expr.specs.Inside.Occurrences.{OccursAt}
 use Rattle.bb_design.specs.Contexts.{width_of, made_in}
-use Rattle.bb_blast.specs.Inside.Outlines.{IsWholeIn}
-use Rattle.bb_blast.specs.Inside.Outlining.{module_in, scope_of}
-use Rattle.bb_lists.proofs.Turns.{all_here, zip_next}
+use Rattle.bb_blast.specs.Inside.ModuleTemplates.{IsWholeIn}
+use Rattle.bb_blast.specs.Inside.BitBlasting.{module_in, scope_of}
+use Rattle.bb_lemmas.proofs.Turns.{all_here, zip_next}
 use Rattle.bb_blast.proofs.gating.gate_inputs.Goals as goal
 
-pub logic_alone-requires-clause-stands : goal.logic_alone-requires-clause-stands
-logic_alone-requires-clause-stands c = all_here (StandsAt c.args.context.checked.now c.args.context.module) expression c.args.terms.now c.loop-term.term-index c.term-item.result c.loop-term-test.true c.term-item.is c.requires.stands
+pub logic_alone-requires-clause-occurs : goal.logic_alone-requires-clause-occurs
+logic_alone-requires-clause-occurs c = all_here (OccursAt c.args.context.checked.now c.args.context.module) expression c.args.terms.now c.loop-term.term-index c.term-item.result c.loop-term-test.true c.term-item.is c.requires.occurs
 
 pub logic_alone-requires-clause-few : goal.logic_alone-requires-clause-few
 logic_alone-requires-clause-few c =

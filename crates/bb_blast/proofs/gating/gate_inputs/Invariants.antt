@@ -1,8 +1,8 @@
 use Rattle.std.proofs.Common.{map, take}
 use Rattle.std.specs.List.{AllZip}
 use Rattle.bb_ast.specs.Inside.Views.{expression}
-use Rattle.bb_blast.specs.Inside.Outlines.{IsWholeIn}
-use Rattle.bb_blast.specs.Inside.Outlining.{module_in}
+use Rattle.bb_blast.specs.Inside.ModuleTemplates.{IsWholeIn}
+use Rattle.bb_blast.specs.Inside.BitBlasting.{module_in}
 use Rattle.bb_blast.proofs.gating.gate_inputs.Given as goal
 
 abbrev pub invariant-loop-term : goal.invariant-loop-term

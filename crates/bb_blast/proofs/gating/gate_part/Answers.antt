@@ -10,20 +10,20 @@ use Rattle.bb_ast.specs.Syntax.{Expression}
 use Rattle.bb_ast.specs.Inside.Views.{expression}
 use Rattle.bb_names.specs.Inside.Checked.{module_facts}
 use Rattle.bb_expr.specs.Inside.Fit.{AreFit}
-use Rattle.bb_expr.specs.Inside.Standing.{StandsAt}
+use Rattle.bb_expr.specs.Inside.Occurrences.{OccursAt}
 use Rattle.bb_design.specs.Contexts.{width_of, made_in}
 use Rattle.bb_design.specs.Drivers.{terminal_terms}
 use Rattle.bb_design.specs.GateFunctions.{gate_cells}
 use Rattle.bb_design.specs.Hierarchy.{Scope}
 use Rattle.bb_design.specs.NetBits.{written_bits}
-use Rattle.bb_blast.specs.Inside.Outlines.{AreBitsIn, IsWholeIn}
-use Rattle.bb_blast.specs.Inside.Outlining.{module_in, scope_of}
+use Rattle.bb_blast.specs.Inside.ModuleTemplates.{AreBitsIn, IsWholeIn}
+use Rattle.bb_blast.specs.Inside.BitBlasting.{module_in, scope_of}
 use Rattle.bb_blast.proofs.ModulePlaces.{at_some, bits_meant}
 use Rattle.bb_blast.proofs.gating.gate_part.Goals as goal
 
 -- the outputs and the inputs among the terminals
-fronts : (gate : Gate) (terms front : List Expr) (n : ℕ) → n ≡ min (output_count gate (length terms)) (length terms) → front ≡ take n terms → map expression front ≡ take (output_count gate (length (map expression terms))) (map expression terms)
-fronts gate terms front n is e =
+prefixes : (gate : Gate) (terms prefix : List Expr) (n : ℕ) → n ≡ min (output_count gate (length terms)) (length terms) → prefix ≡ take n terms → map expression prefix ≡ take (output_count gate (length (map expression terms))) (map expression terms)
+prefixes gate terms prefix n is e =
     ap (map expression) (e ∙ ap (λ i. take i terms) is ∙ take_min (output_count gate (length terms)) terms) ∙ sym (take-map expression (output_count gate (length terms)) terms)
     ∙ ap (λ i. take (output_count gate i) (map expression terms)) (sym (length-map terms expression))
 
@@ -43,12 +43,12 @@ pub lefts_bits-requires-clause-fit : goal.lefts_bits-requires-clause-fit
 lefts_bits-requires-clause-fit c =
     let f = module_facts c.scope_at-scope.result.now in
     let fits = c.requires.makeable.fits.0 in
-    subst (All (AreFit f)) (sym (fronts c.args.gate c.args.terms.now c.split_at.result.0.now c.output_count.result c.output_count.ensures.outputs c.split_at.ensures.front))
+    subst (All (AreFit f)) (sym (prefixes c.args.gate c.args.terms.now c.split_at.result.0.now c.output_count.result c.output_count.ensures.outputs c.split_at.ensures.front))
     (λ i d lt. at_some (λ m. AreFit m (get_or (take (output_count c.args.gate (length (map expression c.args.terms.now))) (map expression c.args.terms.now)) i d)) (slice_get c.args.context.checked.now c.args.context.module) f c.scope_at-scope.ensures.there (fits i d lt))
 
-pub gate_inputs-requires-clause-stands : goal.gate_inputs-requires-clause-stands
-gate_inputs-requires-clause-stands c =
-    subst (All (StandsAt c.args.context.checked.now c.args.context.module)) (sym (backs c.args.gate c.args.terms.now c.split_at.result.1.now c.output_count.result c.output_count.ensures.outputs c.split_at.ensures.back)) c.requires.makeable.fits.1
+pub gate_inputs-requires-clause-occurs : goal.gate_inputs-requires-clause-occurs
+gate_inputs-requires-clause-occurs c =
+    subst (All (OccursAt c.args.context.checked.now c.args.context.module)) (sym (backs c.args.gate c.args.terms.now c.split_at.result.1.now c.output_count.result c.output_count.ensures.outputs c.split_at.ensures.back)) c.requires.makeable.fits.1
 
 pub gate_inputs-requires-clause-few : goal.gate_inputs-requires-clause-few
 gate_inputs-requires-clause-few c =
@@ -62,7 +62,7 @@ returns c =
     record {
       part = (
         refl,
-        subst (λ l. AreBitsIn m c.in_ok-outs.outs.items (λ s. flat_map (written_bits s) l)) (fronts c.args.gate c.args.terms.now c.split_at.result.0.now c.output_count.result c.output_count.ensures.outputs c.split_at.ensures.front)
+        subst (λ l. AreBitsIn m c.in_ok-outs.outs.items (λ s. flat_map (written_bits s) l)) (prefixes c.args.gate c.args.terms.now c.split_at.result.0.now c.output_count.result c.output_count.ensures.outputs c.split_at.ensures.front)
             (bits_meant c.args.context.checked.now c.args.context.module (module_facts c.scope_at-scope.result.now) c.scope_at-scope.ensures.there c.in_ok-outs.outs.items (λ s. flat_map (written_bits s) (map expression c.split_at.result.0.now)) c.in_ok-outs.ensures.bits),
         subst (AllZip (IsWholeIn m) c.in_ok-ins.ins.items) (backs c.args.gate c.args.terms.now c.split_at.result.1.now c.output_count.result c.output_count.ensures.outputs c.split_at.ensures.back) c.in_ok-ins.ensures.made,
       );

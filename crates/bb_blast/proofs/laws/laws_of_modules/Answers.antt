@@ -1,6 +1,6 @@
 use Rattle.bb_blast.proofs.ModulePlaces.{has_nets, module-is}
 use Rattle.bb_blast.proofs.NetNumbers.{net_bit_at}
-use Rattle.bb_blast.proofs.OutlinedDesigns.{meant_at}
+use Rattle.bb_blast.proofs.TemplatedDesigns.{meant_at}
 use Rattle.bb_blast.proofs.RegisterItems.{formed_left}
 use Rattle.bb_blast.proofs.laws.laws_of_modules.Goals as goal
 

@@ -12,9 +12,9 @@ use Rattle.bb_names.specs.Declarations.{range_of}
 use Rattle.bb_names.specs.Ranges.{place_of, distance}
 use Rattle.bb_expr.specs.Inside.Fit.{AreFit}
 use Rattle.bb_design.specs.NetBits.{bits_from, written_bits}
-use Rattle.bb_blast.specs.Inside.Outlines.{AreBitsIn}
+use Rattle.bb_blast.specs.Inside.ModuleTemplates.{AreBitsIn}
 use Rattle.bb_blast.proofs.LeftBits.{expression-net, expression-bit, expression-part, expression-concat, written-concat, fit_parts, bits_same}
-use Rattle.bb_lists.proofs.Turns.{all_here, flat-more}
+use Rattle.bb_lemmas.proofs.Turns.{all_here, flat-more}
 use Rattle.bb_blast.proofs.left_bits.+left.Goals as goal
 
 pub add_left-add_lefts-requires : goal.add_left-add_lefts-requires

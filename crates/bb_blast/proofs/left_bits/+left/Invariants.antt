@@ -4,7 +4,7 @@ use Rattle.bb_ast.specs.Inside.Views.{expression}
 use Rattle.bb_names.specs.Inside.Checked.{module_facts, syntax}
 use Rattle.bb_design.specs.Hierarchy.{Scope}
 use Rattle.bb_design.specs.NetBits.{Bit, written_bits}
-use Rattle.bb_blast.specs.Inside.Outlines.{AreBitsIn}
+use Rattle.bb_blast.specs.Inside.ModuleTemplates.{AreBitsIn}
 use Rattle.bb_blast.proofs.left_bits.+left.Given as goal
 
 abbrev pub invariant-add_lefts-loop-part : goal.invariant-add_lefts-loop-part

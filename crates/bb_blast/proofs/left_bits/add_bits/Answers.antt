@@ -3,7 +3,7 @@ use Rattle.std.specs.List.{range_with_len, slice_index_or}
 use Rattle.std.proofs.lemmas.Result.{on_ok_weaker}
 use Rattle.bb_names.specs.Inside.Checked.{module_facts, syntax}
 use Rattle.bb_design.specs.NetBits.{bits_from}
-use Rattle.bb_blast.specs.Inside.Outlines.{AreBitsIn}
+use Rattle.bb_blast.specs.Inside.ModuleTemplates.{AreBitsIn}
 use Rattle.bb_blast.proofs.LeftBits.{start_fits, bits_at, bits_both}
 use Rattle.bb_blast.proofs.left_bits.add_bits.Goals as goal
 

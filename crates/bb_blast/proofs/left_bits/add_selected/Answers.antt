@@ -4,7 +4,7 @@ use Rattle.bb_names.specs.Inside.Checked.{module_facts, syntax}
 use Rattle.bb_names.specs.Ranges.{place_of, distance}
 use Rattle.bb_expr.specs.Inside.Fit.{ranges_in}
 use Rattle.bb_design.specs.NetBits.{bits_from}
-use Rattle.bb_blast.specs.Inside.Outlines.{AreBitsIn}
+use Rattle.bb_blast.specs.Inside.ModuleTemplates.{AreBitsIn}
 use Rattle.bb_blast.proofs.left_bits.add_selected.Goals as goal
 
 pub returns : goal.returns

@@ -4,4 +4,4 @@ use Rattle.bb_blast.specs.Inside.Listing.{bit_count}
 use Rattle.bb_blast.proofs.listing.bit_count.Given as goal
 
 abbrev pub invariant-loop-scope : goal.invariant-loop-scope
-invariant-loop-scope l = l.count ≡ capped (bit_count (take l.scope-index l.placed) l.outlines)
+invariant-loop-scope l = l.count ≡ capped (bit_count (take l.scope-index l.placed) l.templates)

@@ -5,28 +5,28 @@ use Rattle.std.specs.Result.{OnOk}
 use Rattle.bb_ast.specs.Syntax.{Expression, PlainBody, Nets, Supply, Assign, Gates, Calls}
 use Rattle.bb_ast.specs.Inside.Views.{always_view, arm_view, body_view, call_view, gate_view, named_view}
 use Rattle.bb_names.specs.Inside.Checked.{syntax}
-use Rattle.bb_expr.specs.Inside.Standing.{StandsAt, item_expressions}
+use Rattle.bb_expr.specs.Inside.Occurrences.{OccursAt, item_expressions}
 use Rattle.bb_design.specs.Constructs.{Assignment, Register, initial_construct, gate_construct, body_constructs}
 use Rattle.bb_design.specs.Hierarchy.{instances_in}
-use Rattle.bb_blast.specs.Inside.Outlining.{AreCallsAt, IsMakeable, IsPartAt}
+use Rattle.bb_blast.specs.Inside.BitBlasting.{AreCallsAt, IsMakeable, IsPartAt}
 use Rattle.std.proofs.lemmas.List.Elements.{All-contains}
-use Rattle.bb_lists.proofs.Members.{all_from, into_flat, contains_here}
-use Rattle.bb_lists.proofs.Turns.{all_each, all_mapped, zip_added}
+use Rattle.bb_lemmas.proofs.Members.{all_from, into_flat, contains_here}
+use Rattle.bb_lemmas.proofs.Turns.{all_each, all_mapped, zip_added}
 use Rattle.bb_blast.proofs.module_parts.add_body.Goals as goal
 
 -- the left sides among both sides
-lefts_stand : (P : Expression → Type 0) (all : List (Expression × Expression)) → All P (flat_map (λ x. x.0 ∷ x.1 ∷ []) all) → All (λ x. P x.0) all
-lefts_stand P all each = all_from (λ x. P x.0) all (λ x has. All-contains P (flat_map (λ x. x.0 ∷ x.1 ∷ []) all) x.0 each (into_flat (λ x. x.0 ∷ x.1 ∷ []) all x x.0 has (contains_here x.0 (x.1 ∷ []))))
+lefts_occur : (P : Expression → Type 0) (all : List (Expression × Expression)) → All P (flat_map (λ x. x.0 ∷ x.1 ∷ []) all) → All (λ x. P x.0) all
+lefts_occur P all each = all_from (λ x. P x.0) all (λ x has. All-contains P (flat_map (λ x. x.0 ∷ x.1 ∷ []) all) x.0 each (into_flat (λ x. x.0 ∷ x.1 ∷ []) all x x.0 has (contains_here x.0 (x.1 ∷ []))))
 
 pub add_all_declared-requires-clause-makeable : goal.add_all_declared-requires-clause-makeable
 add_all_declared-requires-clause-makeable c =
     let view : body_view c.args.body.now ≡ Nets c.in-Nets.field-0 (map named_view c.deref.result.now) = ap body_view c.in-Nets.is ∙ ap (λ l. Nets c.in-Nets.field-0 (map named_view l)) (sym c.deref.ensures.value) in
     all_each (IsMakeable c.args.context.checked.now c.args.context.module) initial_construct (map named_view c.deref.result.now) (subst (λ b. All (IsMakeable c.args.context.checked.now c.args.context.module) (body_constructs (map syntax c.args.context.checked.now) b)) view c.requires.makeable)
 
-pub add_assignments-requires-clause-stands : goal.add_assignments-requires-clause-stands
-add_assignments-requires-clause-stands c =
+pub add_assignments-requires-clause-occurs : goal.add_assignments-requires-clause-occurs
+add_assignments-requires-clause-occurs c =
     let view : body_view c.args.body.now ≡ Assign (map arm_view c.deref-in-Assign.result.now) = ap body_view c.in-Assign.is ∙ ap (λ l. Assign (map arm_view l)) (sym c.deref-in-Assign.ensures.value) in
-    lefts_stand (StandsAt c.args.context.checked.now c.args.context.module) (map arm_view c.deref-in-Assign.result.now) (subst (λ b. All (StandsAt c.args.context.checked.now c.args.context.module) (item_expressions b)) view c.requires.stands)
+    lefts_occur (OccursAt c.args.context.checked.now c.args.context.module) (map arm_view c.deref-in-Assign.result.now) (subst (λ b. All (OccursAt c.args.context.checked.now c.args.context.module) (item_expressions b)) view c.requires.occurs)
 
 pub add_assignments-requires-clause-makeable : goal.add_assignments-requires-clause-makeable
 add_assignments-requires-clause-makeable c =

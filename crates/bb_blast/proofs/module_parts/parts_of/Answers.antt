@@ -8,10 +8,10 @@ use Rattle.bb_ast.specs.Inside.Views.{body_view, item_view}
 use Rattle.bb_names.specs.Inside.Checked.{module_facts, syntax}
 use Rattle.bb_design.specs.Constructs.{body_constructs}
 use Rattle.bb_design.specs.Hierarchy.{instances_in}
-use Rattle.bb_blast.specs.Inside.Outlining.{AreCallsAt, IsMakeable, IsPartAt, module_in}
-use Rattle.bb_lists.proofs.Places.{got-map}
-use Rattle.bb_blast.proofs.ModuleItems.{calls_in_item, item_stands}
-use Rattle.bb_lists.proofs.Turns.{all_flat, seen_there, flat-more, zip_flat, zip_end}
+use Rattle.bb_blast.specs.Inside.BitBlasting.{AreCallsAt, IsMakeable, IsPartAt, module_in}
+use Rattle.bb_lemmas.proofs.Places.{got-map}
+use Rattle.bb_blast.proofs.ModuleItems.{calls_in_item, item_occurs}
+use Rattle.bb_lemmas.proofs.Turns.{all_flat, seen_there, flat-more, zip_flat, zip_end}
 use Rattle.bb_blast.proofs.module_parts.parts_of.Goals as goal
 
 -- the items as the code and as the definitions see them
@@ -19,7 +19,7 @@ items-are : (m n : PlainModule) (items seen : List Item) → m ≡ n → n.items
 items-are m n items seen meant are is = ap (λ (x : PlainModule). x.items) meant ∙ are ∙ ap (map item_view) (sym is)
 
 pub loop-item-init : goal.loop-item-init
-loop-item-init c = record { count = refl; stands = subst (λ l. AllZip (IsPartAt c.args.context.checked.now c.args.context.module) l []) (sym c.new-parts.ensures.items) tt }
+loop-item-init c = record { count = refl; occurs = subst (λ l. AllZip (IsPartAt c.args.context.checked.now c.args.context.module) l []) (sym c.new-parts.ensures.items) tt }
 
 pub add_body-requires-clause-calls : goal.add_body-requires-clause-calls
 add_body-requires-clause-calls c =
@@ -31,12 +31,12 @@ add_body-requires-clause-calls c =
     (subst (λ items. AreCallsAt c.args.context.checked.now c.args.context.module c.args.targets.modules.now 0 (flat_map (λ (x : PlainItem). instances_in x.body) items)) are c.requires.calls)
     (c.loop-item.invariant.count ∙ ap (λ l. length (flat_map (λ (x : PlainItem). instances_in x.body) l)) (sym (take-map item_view i seen)))
 
-pub add_body-requires-clause-stands : goal.add_body-requires-clause-stands
-add_body-requires-clause-stands c =
+pub add_body-requires-clause-occurs : goal.add_body-requires-clause-occurs
+add_body-requires-clause-occurs c =
     let seen = c.deref-item-items.result.now in
     let item = c.item-item.result in
     let are = items-are (module_in c.args.context.checked.now c.args.context.module) (syntax (module_facts c.scope_at.result.now)) c.scope_at.result.now.module.items.items seen c.scope_at.ensures.meant refl c.deref-item-items.ensures.value in
-    item_stands c.args.context.checked.now c.args.context.module (module_facts c.scope_at.result.now) c.scope_at.ensures.there (item_view item) (subst (λ l. Contains l (item_view item)) (sym are) (seen_there item_view seen c.loop-item.item-index item c.loop-item-test.true c.item-item.is))
+    item_occurs c.args.context.checked.now c.args.context.module (module_facts c.scope_at.result.now) c.scope_at.ensures.there (item_view item) (subst (λ l. Contains l (item_view item)) (sym are) (seen_there item_view seen c.loop-item.item-index item c.loop-item-test.true c.item-item.is))
 
 pub add_body-requires-clause-makeable : goal.add_body-requires-clause-makeable
 add_body-requires-clause-makeable c =
@@ -72,7 +72,7 @@ loop-item-preserved c =
     let constructs = λ (x : PlainItem). body_constructs (map syntax c.args.context.checked.now) x.body in
     record {
       count = counted c.loop-item.first c.instance_count-first.result seen i item c.loop-item-test.true c.item-item.is c.loop-item.invariant.count c.instance_count-first.ensures.count;
-      stands = zip_flat r item_view seen i item c.loop-item-test.true c.item-item.is constructs [] c.loop-item.parts.items c.add_body.new.parts.items c.loop-item.invariant.stands c.in_ok-add_body.ensures.parts;
+      occurs = zip_flat r item_view seen i item c.loop-item-test.true c.item-item.is constructs [] c.loop-item.parts.items c.add_body.new.parts.items c.loop-item.invariant.occurs c.in_ok-add_body.ensures.parts;
     }
 
 pub returns : goal.returns
@@ -82,5 +82,5 @@ returns c =
     let are = items-are (module_in c.args.context.checked.now c.args.context.module) (syntax (module_facts c.scope_at.result.now)) c.scope_at.result.now.module.items.items seen c.scope_at.ensures.meant refl c.deref-item-items.ensures.value in
     let constructs = λ (x : PlainItem). body_constructs (map syntax c.args.context.checked.now) x.body in
     record {
-      parts = subst (λ l. AllZip r c.loop-item.parts.items (flat_map constructs l)) (sym are) (zip_end r (λ l. flat_map constructs (map item_view l)) seen c.loop-item.item-index [] c.loop-item.parts.items c.loop-item-test.false c.loop-item.invariant.stands);
+      parts = subst (λ l. AllZip r c.loop-item.parts.items (flat_map constructs l)) (sym are) (zip_end r (λ l. flat_map constructs (map item_view l)) seen c.loop-item.item-index [] c.loop-item.parts.items c.loop-item-test.false c.loop-item.invariant.occurs);
     }

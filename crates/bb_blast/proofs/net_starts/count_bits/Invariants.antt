@@ -1,5 +1,5 @@
 use Rattle.std.proofs.Common.{◌≡◌, take}
-use Rattle.bb_blast.specs.Inside.Outlining.{bit_count}
+use Rattle.bb_blast.specs.Inside.BitBlasting.{bit_count}
 use Rattle.bb_blast.proofs.net_starts.count_bits.Given as goal
 
 abbrev pub invariant-loop-net : goal.invariant-loop-net

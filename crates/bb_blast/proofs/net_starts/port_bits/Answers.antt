@@ -5,9 +5,9 @@ use Rattle.std.proofs.lemmas.Option.{slice_get_read, slice_get_within, get_or_fr
 use Rattle.std.proofs.lemmas.List.{take_all}
 use Rattle.bb_names.specs.Ranges.{range_width}
 use Rattle.bb_design.specs.NetBits.{bits_of_net}
-use Rattle.bb_blast.specs.Inside.Outlines.{net_start}
+use Rattle.bb_blast.specs.Inside.ModuleTemplates.{net_start}
 use Rattle.bb_bits.specs.Inside.Places.{AreAt}
-use Rattle.bb_blast.specs.Inside.Outlining.{is_port_of}
+use Rattle.bb_blast.specs.Inside.BitBlasting.{is_port_of}
 use Rattle.bb_blast.proofs.NetNumbers.{net_fits, chosen_more, passed_over}
 use Rattle.bb_blast.proofs.net_starts.port_bits.Goals as goal
 use Rattle.bb_blast.proofs.net_starts.port_bits.Goals.{then-is_port_of+in_ok-add_run, else-is_port_of}

@@ -4,7 +4,7 @@ use Rattle.std.specs.List.{flat_map}
 use Rattle.bb_design.specs.Hierarchy.{Path}
 use Rattle.bb_design.specs.NetBits.{bits_of_net}
 use Rattle.bb_bits.specs.Inside.Places.{AreAt}
-use Rattle.bb_blast.specs.Inside.Outlining.{is_port_of}
+use Rattle.bb_blast.specs.Inside.BitBlasting.{is_port_of}
 use Rattle.bb_blast.proofs.net_starts.port_bits.Given as goal
 
 abbrev pub invariant-loop-k : goal.invariant-loop-k

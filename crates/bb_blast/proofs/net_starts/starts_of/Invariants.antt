@@ -1,7 +1,7 @@
 use Rattle.std.proofs.Common.{◌≡◌, ◌<◌, ℕ, Some, take, length}
 use Rattle.std.specs.Prelude.{slice_get}
-use Rattle.bb_blast.specs.Inside.Outlines.{net_start}
-use Rattle.bb_blast.specs.Inside.Outlining.{bit_count}
+use Rattle.bb_blast.specs.Inside.ModuleTemplates.{net_start}
+use Rattle.bb_blast.specs.Inside.BitBlasting.{bit_count}
 use Rattle.bb_blast.proofs.net_starts.starts_of.Given as goal
 
 abbrev pub invariant-loop-net : goal.invariant-loop-net

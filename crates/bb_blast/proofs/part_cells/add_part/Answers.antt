@@ -1,5 +1,5 @@
 use Rattle.std.proofs.Common.{All, length, subst, sym}
-use Rattle.bb_blast.specs.declared.outline.Part.TheVariants as part
+use Rattle.bb_blast.specs.declared.template.Part.TheVariants as part
 use Rattle.bb_blast.specs.Inside.Listing.{IsPartAmong}
 use Rattle.bb_blast.specs.Inside.Logic.{IsLogicAmong}
 use Rattle.bb_blast.proofs.part_cells.add_part.Goals as goal

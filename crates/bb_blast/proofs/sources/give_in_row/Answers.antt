@@ -10,7 +10,7 @@ loop-bit-init c = (refl, sym (ap capped (omega arith) ∙ capped_small c.args.ba
 
 pub loop-bit-preserved : goal.loop-bit-preserved
 loop-bit-preserved c = (
-  row_next c.args.sources.now c.give.new.sources c.args.first c.args.base c.behind.result c.loop-bit.place c.args.bits.now c.loop-bit.bit-index c.loop-bit-test.true c.behind.ensures.number c.loop-bit.invariant.1
-      (c.give.ensures.given ∙ ap (λ s. given_one s (c.behind.result, c.loop-bit.place)) c.loop-bit.invariant.0),
-  c.behind-place.ensures.number ∙ place_next c.args.base c.loop-bit.place c.loop-bit.bit-index c.loop-bit.invariant.1,
+  row_next c.args.sources.now c.give.new.sources c.args.first c.args.base c.after.result c.loop-bit.place c.args.bits.now c.loop-bit.bit-index c.loop-bit-test.true c.after.ensures.number c.loop-bit.invariant.1
+      (c.give.ensures.given ∙ ap (λ s. given_one s (c.after.result, c.loop-bit.place)) c.loop-bit.invariant.0),
+  c.after-place.ensures.number ∙ place_next c.args.base c.loop-bit.place c.loop-bit.bit-index c.loop-bit.invariant.1,
 )

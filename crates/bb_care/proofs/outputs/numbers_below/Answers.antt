@@ -1,6 +1,6 @@
 use Rattle.std.proofs.Common.{◌≡◌, ◌+◌, ◌++◌, ◌∷◌, [], sym, ap, ◌∙◌, arith}
 use Rattle.std.specs.List.{range_with_len}
-use Rattle.bb_lists.proofs.Ranges.{range_last}
+use Rattle.bb_lemmas.proofs.Ranges.{range_last}
 use Rattle.bb_care.proofs.outputs.numbers_below.Goals as goal
 
 pub loop-i-preserved : goal.loop-i-preserved

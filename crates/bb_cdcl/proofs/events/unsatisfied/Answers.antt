@@ -8,12 +8,12 @@ use Rattle.bb_cdcl.proofs.Happens.{satisfied_at, member_in_range}
 use Rattle.bb_cdcl.proofs.events.unsatisfied.Goals as goal
 
 pub returns-in-False-clause-comes : goal.returns-in-False-clause-comes
-returns-in-False-clause-comes c = record { clause = c.clause_at.result.now; stands = c.clause_at.ensures; is_false = c.in-False.ensures }
+returns-in-False-clause-comes c = record { clause = c.clause_at.result.now; occurs = c.clause_at.ensures; is_false = c.in-False.ensures }
 
 pub returns-in-Unit-clause-comes : goal.returns-in-Unit-clause-comes
 returns-in-Unit-clause-comes c = record {
   clause = c.clause_at.result.now;
-  stands = c.clause_at.ensures;
+  occurs = c.clause_at.ensures;
   is_unit = c.in-Unit.ensures;
   in_range = member_in_range _ _ _ _ _ c.clause_at.ensures c.requires c.in-Unit.ensures.own;
 }

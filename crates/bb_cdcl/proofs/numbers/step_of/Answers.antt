@@ -1,5 +1,5 @@
 use Rattle.std.proofs.Common.{◌<◌, ◌^◌, ◌-◌, ℕ, All, sym, subst}
-use Rattle.bb_lists.proofs.Turns.{all_mapped}
+use Rattle.bb_lemmas.proofs.Turns.{all_mapped}
 use Rattle.bb_cdcl.specs.Laws.Numbers.{moved_number, moved_pair}
 use Rattle.bb_cdcl.proofs.Dates.{numbers_now}
 use Rattle.bb_cdcl.proofs.numbers.step_of.Goals as goal

@@ -5,18 +5,18 @@ use Rattle.bb_cnf.specs.declared.clauses.Lit.{Lit}
 use Rattle.bb_cnf.specs.Clauses.{lists_of}
 use Rattle.bb_cdcl.specs.Inside.Trails.{moved_entry}
 use Rattle.bb_cdcl.specs.Inside.States.{all_clauses}
-use Rattle.bb_cdcl.proofs.Resumed.{reasons_short, derived_taken_in, ready_taken_in, length_front}
+use Rattle.bb_cdcl.proofs.Resumed.{reasons_short, derived_taken_in, ready_taken_in, length_prefix}
 use Rattle.bb_cdcl.proofs.resumption.move_trail.Goals as goal
 
 pub move_reasons-requires : goal.move_reasons-requires
 move_reasons-requires c =
     let given = lists_of c.args.given.now in
     let count = length-map c.args.given.now (λ (clause : SmallVec Lit). clause.items) in
-    let front = length_front c.args.known given (let k = c.requires.known in omega (arith, k, count)) in
+    let prefix = length_prefix c.args.known given (let k = c.requires.known in omega (arith, k, count)) in
     let more = length-map c.args.s.now.learned.items (λ (clause : SmallVec Lit). clause.items) in
     let all = length-append (take c.args.known given) (lists_of c.args.s.now.learned.items) in
     reasons_short (all_clauses (take c.args.known given) c.args.s.now) c.args.s.now.trail.entries.items c.args.known (length c.args.given.now - c.args.known) 18446744073709551616
-    (omega (arith, count, front, more, all, c.args.s.now.learned.ok.0, c.args.s.now.learned.small, c.requires.known)) c.requires.derived.reasons
+    (omega (arith, count, prefix, more, all, c.args.s.now.learned.ok.0, c.args.s.now.learned.small, c.requires.known)) c.requires.derived.reasons
 
 pub returns-clause-derived : goal.returns-clause-derived
 returns-clause-derived c =

@@ -1,5 +1,5 @@
 use Rattle.std.proofs.Common.{◌≡◌, ◌+◌, ◌-◌, subst, sym, ap, ◌∙◌, length, All, arith}
-use Rattle.bb_cnf.specs.Clauses.{lists_of, IsWithin}
+use Rattle.bb_cnf.specs.Clauses.{lists_of, HasVariablesWithin}
 use Rattle.bb_cdcl.specs.Inside.Events.{IsSatisfied}
 use Rattle.bb_cdcl.specs.Inside.States.{Ends}
 use Rattle.bb_cdcl.proofs.solver.outcome.Goals as goal
@@ -13,5 +13,5 @@ returns-in_ok-bits-clause-sat c vars old whole within end =
     let below : vars ≡ length c.deref.result.now - 1 = omega (arith, count) in
     let bits = c.in_ok-bits.ensures.length in (
       omega (arith, bits, count),
-      c.in_ok-bits.ensures.satisfies given (subst (λ n. IsWithin n given) below within) (subst (λ vs. All (IsSatisfied vs) given) (sym values) ends.satisfied),
+      c.in_ok-bits.ensures.satisfies given (subst (λ n. HasVariablesWithin n given) below within) (subst (λ vs. All (IsSatisfied vs) given) (sym values) ends.satisfied),
     )

@@ -4,7 +4,7 @@ use Rattle.bb_cdcl.proofs.trail.pop_to.Given as goal
 
 abbrev pub invariant-loop-trail : goal.invariant-loop-trail
 invariant-loop-trail l = record {
-  front : l.trail.entries.items ≡ take (length l.trail.entries.items) l.initial.trail.entries.items;
+  prefix : l.trail.entries.items ≡ take (length l.trail.entries.items) l.initial.trail.entries.items;
   long : l.place ≤ length l.trail.entries.items;
   values : AreValues l.trail.entries.items l.trail.values.items;
   room : HasRoom l.trail.entries.items l.trail.values.items;

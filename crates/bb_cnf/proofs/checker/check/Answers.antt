@@ -16,4 +16,4 @@ pub returns-clause-none : goal.returns-clause-none
 returns-clause-none c =
     IfOk-weaker c.refutes.result (λ yes. IsTrue yes ↔ IsRefutation c.args.cnf.now.clauses c.args.refutation.now.steps.items)
     (λ yes. IsTrue yes → HaveNoModel c.args.cnf.now.clauses)
-    (λ yes exact told. refutations_are_sound _ _ (exact.0 told)) (returns-clause-exact c)
+    (λ yes exact reported. refutations_are_sound _ _ (exact.0 reported)) (returns-clause-exact c)

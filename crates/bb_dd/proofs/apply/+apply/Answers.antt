@@ -64,8 +64,8 @@ pub returns-in_err-lo-clause-full : goal.returns-in_err-lo-clause-full
 returns-in_err-lo-clause-full t c =
     let at = (goal.at.returns-in_err-lo-clause-full t c).After-first_cofactors-at in
     let s = c.args.store.now in
-    let told : IsErrOf c.from_residual.result Full → IsTooMany s (result_table s (value_of c.args.call.operation) c.first_cofactors-at.result.f.0.0 c.first_cofactors-at.result.g.0.0 c.first_cofactors-at.result.h.0.0) = search rules in
-    λ full. refused_first (laws_at t at) s (value_of c.args.call.operation) (result_table c.args.store.now (value_of c.args.call.operation) c.args.call.f.0 c.args.call.g.0 c.args.call.h.0) c.first_cofactors-at.result.var (c.args.store.now.vars - c.first_cofactors-at.result.var - 1) c.first_cofactors-at.result.f.0.0 c.first_cofactors-at.result.g.0.0 c.first_cofactors-at.result.h.0.0 c.first_cofactors-at.result.f.1.0 c.first_cofactors-at.result.g.1.0 c.first_cofactors-at.result.h.1.0 (halves t at) (told full)
+    let reported : IsErrOf c.from_residual.result Full → IsTooMany s (result_table s (value_of c.args.call.operation) c.first_cofactors-at.result.f.0.0 c.first_cofactors-at.result.g.0.0 c.first_cofactors-at.result.h.0.0) = search rules in
+    λ full. refused_first (laws_at t at) s (value_of c.args.call.operation) (result_table c.args.store.now (value_of c.args.call.operation) c.args.call.f.0 c.args.call.g.0 c.args.call.h.0) c.first_cofactors-at.result.var (c.args.store.now.vars - c.first_cofactors-at.result.var - 1) c.first_cofactors-at.result.f.0.0 c.first_cofactors-at.result.g.0.0 c.first_cofactors-at.result.h.0.0 c.first_cofactors-at.result.f.1.0 c.first_cofactors-at.result.g.1.0 c.first_cofactors-at.result.h.1.0 (halves t at) (reported full)
 
 pub apply-requires-2 : goal.apply-requires-2
 apply-requires-2 t c =
@@ -89,8 +89,8 @@ returns-in_err-hi-clause-full t c =
     let at = (goal.at.returns-in_err-hi-clause-full t c).After-first_cofactors-at in
     let s = c.args.store.now in
     let mid = c.apply.new.store in
-    let told : IsErrOf c.from_residual-in_err-hi.result Full → IsTooMany mid (result_table mid (value_of c.args.call.operation) c.first_cofactors-at.result.f.1.0 c.first_cofactors-at.result.g.1.0 c.first_cofactors-at.result.h.1.0) = search rules in
-    λ full. refused_second (laws_at t at) s (value_of c.args.call.operation) (result_table c.args.store.now (value_of c.args.call.operation) c.args.call.f.0 c.args.call.g.0 c.args.call.h.0) c.first_cofactors-at.result.var (c.args.store.now.vars - c.first_cofactors-at.result.var - 1) c.first_cofactors-at.result.f.0.0 c.first_cofactors-at.result.g.0.0 c.first_cofactors-at.result.h.0.0 c.first_cofactors-at.result.f.1.0 c.first_cofactors-at.result.g.1.0 c.first_cofactors-at.result.h.1.0 (halves t at) mid c.in_ok-lo.lo.0 c.in_ok-lo.ensures.ok (told full)
+    let reported : IsErrOf c.from_residual-in_err-hi.result Full → IsTooMany mid (result_table mid (value_of c.args.call.operation) c.first_cofactors-at.result.f.1.0 c.first_cofactors-at.result.g.1.0 c.first_cofactors-at.result.h.1.0) = search rules in
+    λ full. refused_second (laws_at t at) s (value_of c.args.call.operation) (result_table c.args.store.now (value_of c.args.call.operation) c.args.call.f.0 c.args.call.g.0 c.args.call.h.0) c.first_cofactors-at.result.var (c.args.store.now.vars - c.first_cofactors-at.result.var - 1) c.first_cofactors-at.result.f.0.0 c.first_cofactors-at.result.g.0.0 c.first_cofactors-at.result.h.0.0 c.first_cofactors-at.result.f.1.0 c.first_cofactors-at.result.g.1.0 c.first_cofactors-at.result.h.1.0 (halves t at) mid c.in_ok-lo.lo.0 c.in_ok-lo.ensures.ok (reported full)
 
 pub returns-in_err-hi-clause-leaves : goal.returns-in_err-hi-clause-leaves
 returns-in_err-hi-clause-leaves t c =
@@ -139,8 +139,8 @@ returns-in_err-r-clause-full t c =
     let s = c.args.store.now in
     let last = c.apply-2.new.store in
     λ full.
-    let told : IsTooMany last (branch last c.first_cofactors-at.result.var c.in_ok-lo.lo.0 c.in_ok-hi.hi.0) = c.in_err-r.ensures.too_many (refused_full c.in_err-r.field-0.0) in
-    c.steps.ensures.node_refused s last c.first_cofactors-at.result.var (result_table c.args.store.now (value_of c.args.call.operation) c.args.call.f.0 c.args.call.g.0 c.args.call.h.0) c.in_ok-lo.lo.0 c.in_ok-hi.hi.0 (joined t ((goal.at.returns-in_err-r-clause-full t c).In_ok-hi) (halves t ((goal.at.returns-in_err-r-clause-full t c).After-first_cofactors-at))) told
+    let reported : IsTooMany last (branch last c.first_cofactors-at.result.var c.in_ok-lo.lo.0 c.in_ok-hi.hi.0) = c.in_err-r.ensures.too_many (refused_full c.in_err-r.field-0.0) in
+    c.steps.ensures.node_refused s last c.first_cofactors-at.result.var (result_table c.args.store.now (value_of c.args.call.operation) c.args.call.f.0 c.args.call.g.0 c.args.call.h.0) c.in_ok-lo.lo.0 c.in_ok-hi.hi.0 (joined t ((goal.at.returns-in_err-r-clause-full t c).In_ok-hi) (halves t ((goal.at.returns-in_err-r-clause-full t c).After-first_cofactors-at))) reported
 
 pub returns-in_err-r-clause-leaves : goal.returns-in_err-r-clause-leaves
 returns-in_err-r-clause-leaves t c =

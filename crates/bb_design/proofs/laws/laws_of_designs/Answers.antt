@@ -2,7 +2,7 @@ use Rattle.std.proofs.Common.{subst, ◌≡◌, true}
 use Rattle.bb_design.specs.NetBits.{Bit, same_bit}
 use Rattle.bb_design.proofs.AllowedDesigns.{wired, ends, bits_there, legal, part_of}
 use Rattle.bb_design.proofs.BitByBit.{gate_bits}
-use Rattle.bb_design.proofs.CalledInstances.{stands, meant, called_here, children_are}
+use Rattle.bb_design.proofs.CalledInstances.{occurs, meant, called_here, children_are}
 use Rattle.bb_design.proofs.CauseDecisions.{cycle, depends_driven, recursion}
 use Rattle.bb_design.proofs.DistinctBits.{distinct_bits}
 use Rattle.bb_design.proofs.KnownNets.{declared_net, filtered_there, header_net}
@@ -12,10 +12,10 @@ use Rattle.bb_design.proofs.PinTexts.{pin_texts_by_modules}
 use Rattle.bb_design.proofs.RefusalLaws.{first_refusals_are_one, not_sound_and_refused}
 use Rattle.bb_design.proofs.RegisterItems.{always_item}
 use Rattle.bb_design.proofs.ScopeLaws.{paths_lead_to_scopes}
-use Rattle.bb_design.proofs.SoundConstructs.{body_legal, clock_right, sound_constructs_are_legal, spot_sound}
+use Rattle.bb_design.proofs.SoundConstructs.{body_legal, clock_right, sound_constructs_are_legal, site_sound}
 use Rattle.bb_design.proofs.SoundModules.{sound_texts_have_modules_apart}
 use Rattle.bb_design.proofs.SoundNames.{sound_texts_have_names_apart}
-use Rattle.bb_design.proofs.SoundSpots.{net_used, source_there}
+use Rattle.bb_design.proofs.SoundSites.{net_used, source_there}
 use Rattle.bb_design.proofs.StageRefusals.{and_clear, none_clear, refused, sound_design}
 use Rattle.bb_design.proofs.TextLaws.{dotted_more}
 use Rattle.bb_design.proofs.WalksByPlaces.{walks_are_by_places}
@@ -26,7 +26,7 @@ use Rattle.bb_design.proofs.laws.laws_of_designs.Goals as goal
 
 pub returns : goal.returns
 returns c = record {
-  told_apart = λ b x. (same_bit_is b x, λ e. subst (λ (y : Bit). same_bit b y ≡ true) e (same_bit_self b));
+  distinguished = λ b x. (same_bit_is b x, λ e. subst (λ (y : Bit). same_bit b y ≡ true) e (same_bit_self b));
   found = λ b bits. (any_from b bits, any_there b bits);
   net_bits = bits_long;
   of_scope = filtered_there;
@@ -52,11 +52,11 @@ returns c = record {
   recursion = recursion;
   cycle = cycle;
   causes = λ d. record { first = none_clear d; next = and_clear d; refused = refused d; sound = sound_design d };
-  instances = λ text sound m here. record { stands = stands text sound m here; meant = meant text sound m here; called = called_here text sound m here; children = children_are text sound m here };
+  instances = λ text sound m here. record { occurs = occurs text sound m here; meant = meant text sound m here; called = called_here text sound m here; children = children_are text sound m here };
   paths_grow = dotted_more;
   modules_apart = sound_texts_have_modules_apart;
   walks = walks_are_by_places;
-  sound_spots = spot_sound;
+  sound_sites = site_sound;
   items_legal = body_legal;
   clock_width = clock_right;
   used_net = net_used;

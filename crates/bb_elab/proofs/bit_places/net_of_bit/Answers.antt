@@ -6,9 +6,9 @@ use Rattle.std.proofs.lemmas.List.Sums.{sum_by_more}
 use Rattle.std.proofs.lemmas.Option.{get_or_from_slice_get}
 use Rattle.bb_names.specs.declared.net.NetInfo.{NetInfo}
 use Rattle.bb_names.specs.Ranges.{range_width}
-use Rattle.bb_blast.specs.Inside.Outlines.{net_start}
-use Rattle.bb_blast.specs.Inside.Outlining.{bit_count}
-use Rattle.bb_lists.proofs.Orders.{less_or_past}
+use Rattle.bb_blast.specs.Inside.ModuleTemplates.{net_start}
+use Rattle.bb_blast.specs.Inside.BitBlasting.{bit_count}
+use Rattle.bb_lemmas.proofs.Orders.{less_or_past}
 use Rattle.bb_elab.proofs.bit_places.net_of_bit.Goals as goal
 
 module _ (nets : List NetInfo) (starts : List ℕ) (each : (k : ℕ) → k < length nets → slice_get starts k ≡ Some (net_start nets k)) (k : ℕ) (lt : k < length nets) (net : NetInfo) (there : slice_get nets k ≡ Some net) where

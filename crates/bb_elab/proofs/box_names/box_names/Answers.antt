@@ -1,6 +1,6 @@
 use Rattle.std.proofs.Common.{map, ap, ◌∙◌}
 use Rattle.std.proofs.lemmas.List.{take_all}
-use Rattle.bb_cells.specs.Stands.{box_number, box_texts}
+use Rattle.bb_implements.specs.Implements.{box_number, box_texts}
 use Rattle.bb_elab.proofs.NamedBits.{boxes_turn}
 use Rattle.bb_elab.proofs.box_names.box_names.Goals as goal
 

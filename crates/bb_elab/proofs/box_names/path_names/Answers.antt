@@ -4,7 +4,7 @@ use Rattle.std.proofs.lemmas.Option.{slice_get-get_or}
 use Rattle.bb_design.specs.Hierarchy.{Scope, boxes}
 use Rattle.bb_blast.specs.Inside.Placements.{IsScopeAt}
 use Rattle.bb_design.specs.Texts.{path_text}
-use Rattle.bb_lists.proofs.Zips.{zip_length}
+use Rattle.bb_lemmas.proofs.Zips.{zip_length}
 use Rattle.bb_elab.proofs.NamedBits.{zipped_more}
 use Rattle.bb_elab.proofs.box_names.path_names.Goals as goal
 

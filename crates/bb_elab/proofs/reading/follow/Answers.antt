@@ -1,6 +1,6 @@
 use Rattle.std.proofs.Common.{true, set, refl}
 use Rattle.bb_elab.proofs.CopyMarks.{follow_goes}
-use Rattle.bb_lists.proofs.Marks.{unmarked_less}
+use Rattle.bb_lemmas.proofs.Marks.{unmarked_less}
 use Rattle.bb_elab.proofs.reading.follow.Goals as goal
 
 pub loop-place-smaller : goal.loop-place-smaller

@@ -1,5 +1,5 @@
 use Rattle.bb_elab.proofs.CopyMarks.{AreFollowed}
-use Rattle.bb_lists.proofs.Marks.{unmarked}
+use Rattle.bb_lemmas.proofs.Marks.{unmarked}
 use Rattle.bb_elab.proofs.reading.follow.Given as goal
 
 abbrev pub invariant-loop-place : goal.invariant-loop-place

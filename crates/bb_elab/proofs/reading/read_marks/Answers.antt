@@ -2,10 +2,10 @@ use Rattle.std.proofs.Common.{◌+◌, ◌<◌, false, List, Bool, length, map, 
 use Rattle.std.proofs.lemmas.List.Elements.{All-contains}
 use Rattle.std.specs.List.{Contains}
 use Rattle.bb_blast.specs.declared.stored.Stored.{Stored}
-use Rattle.bb_cells.specs.Inside.ReadPlaces.{AreClosed}
-use Rattle.bb_lists.proofs.Members.{all_from, from_map}
+use Rattle.bb_implements.specs.Inside.ReadPlaces.{AreClosed}
+use Rattle.bb_lemmas.proofs.Members.{all_from, from_map}
 use Rattle.bb_elab.proofs.CopyMarks.{all_marked}
-use Rattle.bb_lists.proofs.Turns.{written_back}
+use Rattle.bb_lemmas.proofs.Turns.{written_back}
 use Rattle.bb_elab.proofs.reading.read_marks.Goals as goal
 
 pub returns-clause-read : goal.returns-clause-read

@@ -5,4 +5,4 @@ use Rattle.bb_elab.specs.Inside.StoredNumbers.{scope_stored, AreNotes}
 use Rattle.bb_elab.proofs.registers.note_scopes.Given as goal
 
 abbrev pub invariant-loop-scope : goal.invariant-loop-scope
-invariant-loop-scope l = (all : List Stored) → AreNotes all l.initial.notes → AreNotes (all ++ flat_map (scope_stored l.outlines) (take l.scope-index l.placed)) l.notes
+invariant-loop-scope l = (all : List Stored) → AreNotes all l.initial.notes → AreNotes (all ++ flat_map (scope_stored l.templates) (take l.scope-index l.placed)) l.notes

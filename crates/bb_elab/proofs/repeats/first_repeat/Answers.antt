@@ -6,18 +6,18 @@ use Rattle.std.proofs.lemmas.List.Folds.{list_any-append}
 use Rattle.std.proofs.lemmas.Option.{slice_get_read}
 use Rattle.bb_bits.specs.Names.{same_name}
 use Rattle.bb_bits.specs.Closures.{IsFirstRepeat}
-use Rattle.bb_lists.proofs.Members.{any_there, none_of}
+use Rattle.bb_lemmas.proofs.Members.{any_there, none_of}
 use Rattle.bb_elab.proofs.NamedBits.{taken-push}
-use Rattle.bb_lists.proofs.Places.{split}
-use Rattle.bb_lists.proofs.Apart.{push_name}
-use Rattle.bb_lists.proofs.Names.{same_equal, same_self, any-inserted}
+use Rattle.bb_lemmas.proofs.Places.{split}
+use Rattle.bb_lemmas.proofs.Apart.{push_name}
+use Rattle.bb_lemmas.proofs.Names.{same_equal, same_self, any-inserted}
 use Rattle.bb_elab.proofs.repeats.first_repeat.Goals as goal
 
--- the name stands there already
+-- the name is there already
 repeat_here : (names : List (List ℕ)) (k : ℕ) (x : List ℕ) → slice_get names k ≡ Some x → AllPairs ◌≢◌ (take k names) → list_any (same_name x) (take k names) ≡ true → IsFirstRepeat names x
 repeat_here names k x there apart again =
     let y = any_there (same_name x) (take k names) again in
-    record { before = take k names; after = drop (suc k) names; stands = split names k x there; again = subst (Contains (take k names)) (sym (same_equal x y.0 y.2)) y.1; earlier = apart }
+    record { before = take k names; after = drop (suc k) names; occurs = split names k x there; again = subst (Contains (take k names)) (sym (same_equal x y.0 y.2)) y.1; earlier = apart }
 
 -- it does not
 still_apart : (names : List (List ℕ)) (k : ℕ) (x : List ℕ) → k < length names → x ≡ get_or names k x → AllPairs ◌≢◌ (take k names) → list_any (same_name x) (take k names) ≡ false → AllPairs ◌≢◌ (take (k + 1) names)

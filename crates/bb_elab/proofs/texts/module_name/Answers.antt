@@ -8,7 +8,7 @@ use Rattle.bb_blast.specs.declared.placed.Placed.{Placed}
 use Rattle.bb_blast.specs.Inside.Placements.{IsScopeAt, ArePlaced}
 use Rattle.bb_blast.specs.Laws.ModuleLaws.{ModuleLaws}
 use Rattle.bb_design.specs.Hierarchy.{Design, Scope, scopes}
-use Rattle.bb_lists.proofs.Places.{some_at}
+use Rattle.bb_lemmas.proofs.Places.{some_at}
 use Rattle.bb_elab.proofs.texts.module_name.Goals as goal
 
 -- the module of a scope by its place in the text

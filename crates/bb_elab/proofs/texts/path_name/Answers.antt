@@ -11,7 +11,7 @@ use Rattle.bb_elab.proofs.texts.path_name.Goals as goal
 pub add_path-requires-clause-rooted : goal.add_path-requires-clause-rooted
 add_path-requires-clause-rooted c = are_rooted c.requires.design.0 c.args.placed.now c.requires.design.1
 
--- the text of the path behind nothing
+-- the text of the path after nothing
 named : (all : List Placed) (scope : ℕ) (n text items none : List ℕ) → n ≡ text → text ≡ items → none ≡ [] → ((path : Path) → IsPathAt all scope path → items ≡ none ++ path_text path)
     → (d : Design) → ArePlaced d all → (s : Scope) → IsScopeAt d scope s → n ≡ path_text s.path
 named all scope n text items none is made empty path d are s at = is ∙ made ∙ path s.path (path_there d all are scope s at) ∙ ap (λ l. l ++ path_text s.path) empty

@@ -2,7 +2,7 @@ use Rattle.std.proofs.Common.{◌<◌, ◌≤◌, ◌^◌, subst, arith}
 use Rattle.bb_net.specs.Completions.{table_bits}
 use Rattle.bb_net.specs.Kinds.{shown}
 use Rattle.bb_net.specs.Netlists.{Netlist}
-use Rattle.bb_expand.proofs.TurnLemmas.{large_tables}
+use Rattle.bb_expand.proofs.IterationLemmas.{large_tables}
 use Rattle.bb_expand.proofs.decision.admit.Goals as goal
 
 pub returns-then-not-is_within_budget-clause-clauses : goal.returns-then-not-is_within_budget-clause-clauses

@@ -3,7 +3,7 @@ use Rattle.std.proofs.lemmas.List.{map-append}
 use Rattle.smallvec.specs.SmallVec.{SmallVec}
 use Rattle.bb_cnf.specs.declared.clauses.Lit.{Lit}
 use Rattle.bb_cdcl.specs.Inside.Outcomes.{formula}
-use Rattle.bb_cnf.specs.Clauses.{IsWithin, lists_of}
+use Rattle.bb_cnf.specs.Clauses.{HasVariablesWithin, lists_of}
 use Rattle.bb_expand.proofs.FreeCounts.{all_variables_fit, free_pushed}
 use Rattle.bb_expand.proofs.free_clauses.free_clauses.Goals as goal
 
@@ -56,7 +56,7 @@ invariant_of-result c =
     c.in_ok-push_free_cells-2.ensures c.in_ok-push_differences.ensures
     (ap lists_of c.in_ok-push.ensures.items ∙ map-append (λ (clause : SmallVec Lit). clause.items) c.push_differences.new.clauses.items _) c.in_ok-some_differs.ensures in
     let vars = ap₂ (λ m n. m + n) (ap₂ (λ m n. m + n) (ap₂ (λ m n. m + n) c.inputs-inputs.ensures.inputs (ap length c.cells.ensures.cells)) (ap length c.cells-2.ensures.cells)) (ap length c.outs.ensures.outs) in
-    subst (λ n. IsWithin n (lists_of c.push.new.self.items)) (sym vars) (subst (IsWithin _) (sym clauses) within)
+    subst (λ n. HasVariablesWithin n (lists_of c.push.new.self.items)) (sym vars) (subst (HasVariablesWithin _) (sym clauses) within)
 
 pub returns-clause-cnf : goal.returns-clause-cnf
 returns-clause-cnf c =

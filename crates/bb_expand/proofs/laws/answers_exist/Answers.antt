@@ -13,6 +13,6 @@ returns-clause-answer c = answers_exist (record {
   counted = c.expansions_and_tables.ensures.counted;
   within = c.expansions_and_tables.ensures.within;
   each = c.expansions_and_tables.ensures.each;
-  distinct = c.forced_are_distinct.ensures;
+  distinct = c.distinguishing_vectors_are_distinct.ensures;
   few = c.vectors_are_few.ensures;
 })

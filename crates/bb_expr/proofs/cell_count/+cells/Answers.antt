@@ -1,7 +1,7 @@
 -- What an operand needs, and that the cells of operands are added up.
 use Rattle.std.proofs.Common.{◌≡◌, ◌+◌, ◌-◌, ◌*◌, map, drop, refl, sym, ap, ap₂, ◌∙◌, subst, arith, rules}
 use Rattle.std.specs.Prelude.{◌^◌, All, sum_by, min}
-use Rattle.bb_lists.proofs.Turns.{all_here}
+use Rattle.bb_lemmas.proofs.Turns.{all_here}
 use Rattle.bb_ast.specs.Inside.Views.{expression, operand_view, arm_view}
 use Rattle.bb_ast.specs.declared.expr.Expr.{the_lemmas}
 use Rattle.bb_names.specs.Inside.Checked.{module_facts}

@@ -1,5 +1,5 @@
 use Rattle.std.proofs.Common.{◌≡◌, map, take}
-use Rattle.bb_expr.specs.Inside.Pasting.{moved}
+use Rattle.bb_expr.specs.Inside.Instantiation.{moved}
 use Rattle.bb_expr.proofs.circuits.moved_outs.Given as goal
 
 abbrev pub invariant-loop-out : goal.invariant-loop-out

@@ -1,5 +1,5 @@
 use Rattle.std.proofs.Common.{◌≡◌, false, take}
-use Rattle.bb_expr.specs.Inside.Pasting.{is_out}
+use Rattle.bb_expr.specs.Inside.Instantiation.{is_out}
 use Rattle.bb_expr.proofs.circuits.some_out.Given as goal
 
 abbrev pub invariant-loop-out : goal.invariant-loop-out

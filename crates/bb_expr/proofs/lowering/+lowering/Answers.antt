@@ -13,7 +13,7 @@ use Rattle.bb_word.specs.Folds.{fold_cells}
 use Rattle.bb_expr.specs.Inside.Growing.{most_steps}
 use Rattle.bb_expr.specs.Inside.Levels.{AreReady, taken, words_on}
 use Rattle.bb_expr.proofs.LevelLemmas.{words-made}
-use Rattle.bb_expr.proofs.ReadyLemmas.{ready-step, asked-left, asked-ready, asked-folded, are-widths, IsWorded, words-more, words-ended}
+use Rattle.bb_expr.proofs.ReadyLemmas.{ready-step, requested-left, requested-ready, requested-folded, are-widths, IsWorded, words-more, words-ended}
 use Rattle.bb_expr.proofs.Loops.{rest-here}
 use Rattle.bb_ast.specs.Inside.Views.{expression, operand_view, arm_view}
 use Rattle.bb_ast.specs.declared.expr.Expr.{the_lemmas}
@@ -29,8 +29,8 @@ use Rattle.bb_expr.specs.Terms.{Const}
 use Rattle.bb_expr.proofs.ViewLemmas.{expression-net, expression-bit, expression-part, expression-sized, expression-plain, expression-not, expression-chain, expression-cond, expression-concat, expression-repeat, expression-fold, expression-words}
 use Rattle.bb_expr.proofs.ValueLemmas.{length-copies}
 use Rattle.bb_expr.proofs.OperandLemmas.{fit-folded, fit-left, fit-words, fit-here, fit-first, fit-operands, fit-arms, fit-last, fit-parts, fit-copied}
-use Rattle.bb_expr.proofs.AskLemmas.{IsAsked, asked-not, asked-odd, asked-first, asked-operands, asked-chain, asked-arms, asked-last, asked-cond, asked-concat, asked-repeat}
-use Rattle.bb_lists.proofs.Turns.{all_here}
+use Rattle.bb_expr.proofs.RequestLemmas.{IsRequired, requested-not, requested-odd, requested-first, requested-operands, requested-chain, requested-arms, requested-last, requested-cond, requested-concat, requested-repeat}
+use Rattle.bb_lemmas.proofs.Turns.{all_here}
 use Rattle.bb_expr.proofs.Loops.{sum-here, last-share}
 use Rattle.bb_expr.proofs.ShareLemmas.{one-share}
 use Rattle.bb_expr.proofs.OperatorLemmas.{op-some}
@@ -49,9 +49,9 @@ lower_at-lower_at-requires t c =
     let m = module_facts c.args.scope.now in
     let view : expression c.args.expr.now ≡ Not c.in-Not.count (expression c.deref-in-Not.result.now)
     = expression-not c.args.expr.now c.in-Not.count c.in-Not.operand c.in-Not.is ∙ ap (λ e. Not c.in-Not.count (expression e)) (sym c.deref-in-Not.ensures) in
-    let asked = asked-not m c.in-Not.count (expression c.deref-in-Not.result.now) c.args.width (length c.args.steps.now.items)
-    (subst (λ e. IsAsked m e c.args.width (length c.args.steps.now.items)) view (record { fit = c.requires.fit; own = c.requires.own; room = c.requires.room; few = c.requires.few })) in
-    (search (rules, the_lemmas), (asked.fit, (asked.own, (c.requires.width, (asked.room, asked.few)))))
+    let requested = requested-not m c.in-Not.count (expression c.deref-in-Not.result.now) c.args.width (length c.args.steps.now.items)
+    (subst (λ e. IsRequired m e c.args.width (length c.args.steps.now.items)) view (record { fit = c.requires.fit; own = c.requires.own; room = c.requires.room; few = c.requires.few })) in
+    (search (rules, the_lemmas), (requested.fit, (requested.own, (c.requires.width, (requested.room, requested.few)))))
 
 pub lower_at-inverted-requires : goal.lower_at-inverted-requires
 lower_at-inverted-requires t c =
@@ -59,14 +59,14 @@ lower_at-inverted-requires t c =
     let e = expression c.deref-in-Not.result.now in
     let view : expression c.args.expr.now ≡ Not c.in-Not.count e
     = expression-not c.args.expr.now c.in-Not.count c.in-Not.operand c.in-Not.is ∙ ap (λ e. Not c.in-Not.count (expression e)) (sym c.deref-in-Not.ensures) in
-    let whole = subst (λ e. IsAsked m e c.args.width (length c.args.steps.now.items)) view (record { fit = c.requires.fit; own = c.requires.own; room = c.requires.room; few = c.requires.few }) in
-    let asked = asked-not m c.in-Not.count e c.args.width (length c.args.steps.now.items) whole in
+    let whole = subst (λ e. IsRequired m e c.args.width (length c.args.steps.now.items)) view (record { fit = c.requires.fit; own = c.requires.own; room = c.requires.room; few = c.requires.few }) in
+    let requested = requested-not m c.in-Not.count e c.args.width (length c.args.steps.now.items) whole in
     let odd = sym c.is_odd.ensures ∙ c.if-is_odd.true in
     omega (
       arith,
-      asked-odd m c.in-Not.count e c.args.width (length c.args.steps.now.items) odd whole,
-      steps-few c.args.scope.now.nets.items (ranges_in m) e c.args.width c.args.steps.now.items c.lower_at.new.steps.items c.in_ok-bits-in-Not.bits.items asked.own c.in_ok-bits-in-Not.ensures,
-      bits-long c.args.scope.now.nets.items (ranges_in m) e c.args.width c.args.steps.now.items c.lower_at.new.steps.items c.in_ok-bits-in-Not.bits.items asked.own c.in_ok-bits-in-Not.ensures,
+      requested-odd m c.in-Not.count e c.args.width (length c.args.steps.now.items) odd whole,
+      steps-few c.args.scope.now.nets.items (ranges_in m) e c.args.width c.args.steps.now.items c.lower_at.new.steps.items c.in_ok-bits-in-Not.bits.items requested.own c.in_ok-bits-in-Not.ensures,
+      bits-long c.args.scope.now.nets.items (ranges_in m) e c.args.width c.args.steps.now.items c.lower_at.new.steps.items c.in_ok-bits-in-Not.bits.items requested.own c.in_ok-bits-in-Not.ensures,
       ap length c.deref-then-is_odd.ensures.value,
     )
 
@@ -134,8 +134,8 @@ lower_at-lower_at-requires-in-Chain t c =
     let n = length c.args.steps.now.items in
     let view : expression c.args.expr.now ≡ Chain e (operands xs)
     = expression-chain c.args.expr.now c.in-Chain.first c.in-Chain.rest c.in-Chain.is ∙ ap (λ e. Chain (expression e) (operands xs)) (sym c.deref-in-Chain.ensures) in
-    let whole = subst (λ e. IsAsked m e c.args.width n) view (record { fit = c.requires.fit; own = c.requires.own; room = c.requires.room; few = c.requires.few }) in
-    (search (rules, the_lemmas), (fit-first m e xs whole.fit, (asked-first m e xs c.args.width n whole, (c.requires.width, (omega (arith, (asked-chain m e xs c.args.width n whole).0), omega (arith, (asked-chain m e xs c.args.width n whole).1))))))
+    let whole = subst (λ e. IsRequired m e c.args.width n) view (record { fit = c.requires.fit; own = c.requires.own; room = c.requires.room; few = c.requires.few }) in
+    (search (rules, the_lemmas), (fit-first m e xs whole.fit, (requested-first m e xs c.args.width n whole, (c.requires.width, (omega (arith, (requested-chain m e xs c.args.width n whole).0), omega (arith, (requested-chain m e xs c.args.width n whole).1))))))
 
 pub lower_at-chain-requires : goal.lower_at-chain-requires
 lower_at-chain-requires t c =
@@ -146,13 +146,13 @@ lower_at-chain-requires t c =
     let nets = c.args.scope.now.nets.items in
     let view : expression c.args.expr.now ≡ Chain e (operands xs)
     = expression-chain c.args.expr.now c.in-Chain.first c.in-Chain.rest c.in-Chain.is ∙ ap₂ (λ e ys. Chain (expression e) (operands (map operand_view ys))) (sym c.deref-in-Chain.ensures) (sym c.deref-in-Chain-2.ensures.value) in
-    let whole = subst (λ e. IsAsked m e c.args.width n) view (record { fit = c.requires.fit; own = c.requires.own; room = c.requires.room; few = c.requires.few }) in
-    let own = asked-first m e xs c.args.width n whole in (
+    let whole = subst (λ e. IsRequired m e c.args.width n) view (record { fit = c.requires.fit; own = c.requires.own; room = c.requires.room; few = c.requires.few }) in
+    let own = requested-first m e xs c.args.width n whole in (
       search (rules, the_lemmas),
       (
         fit-operands m e xs whole.fit,
         (
-          asked-operands m e xs c.args.width n whole,
+          requested-operands m e xs c.args.width n whole,
           (
             c.requires.width,
             (
@@ -160,10 +160,10 @@ lower_at-chain-requires t c =
               (
                 omega (
                   arith,
-                  (asked-chain m e xs c.args.width n whole).0,
+                  (requested-chain m e xs c.args.width n whole).0,
                   steps-few nets (ranges_in m) e c.args.width c.args.steps.now.items c.lower_at-in-Chain.new.steps.items c.in_ok-bits-in-Chain.bits.items own c.in_ok-bits-in-Chain.ensures,
                 ),
-                omega (arith, (asked-chain m e xs c.args.width n whole).1),
+                omega (arith, (requested-chain m e xs c.args.width n whole).1),
               ),
             ),
           ),
@@ -273,8 +273,8 @@ lower_at-lower_at-requires-in-Cond t c =
     let n = length c.args.steps.now.items in
     let view : expression c.args.expr.now ≡ Cond (arms xs) e
     = expression-cond c.args.expr.now c.in-Cond.all c.in-Cond.last c.in-Cond.is ∙ ap (λ e. Cond (arms xs) (expression e)) (sym c.deref-in-Cond.ensures) in
-    let whole = subst (λ e. IsAsked m e c.args.width n) view (record { fit = c.requires.fit; own = c.requires.own; room = c.requires.room; few = c.requires.few }) in
-    (search (rules, the_lemmas), (fit-last m xs e whole.fit, (asked-last m xs e c.args.width n whole, (c.requires.width, (omega (arith, (asked-cond m xs e c.args.width n whole).0), omega (arith, (asked-cond m xs e c.args.width n whole).1))))))
+    let whole = subst (λ e. IsRequired m e c.args.width n) view (record { fit = c.requires.fit; own = c.requires.own; room = c.requires.room; few = c.requires.few }) in
+    (search (rules, the_lemmas), (fit-last m xs e whole.fit, (requested-last m xs e c.args.width n whole, (c.requires.width, (omega (arith, (requested-cond m xs e c.args.width n whole).0), omega (arith, (requested-cond m xs e c.args.width n whole).1))))))
 
 pub lower_at-conditional-requires : goal.lower_at-conditional-requires
 lower_at-conditional-requires t c =
@@ -285,14 +285,14 @@ lower_at-conditional-requires t c =
     let nets = c.args.scope.now.nets.items in
     let view : expression c.args.expr.now ≡ Cond (arms xs) e
     = expression-cond c.args.expr.now c.in-Cond.all c.in-Cond.last c.in-Cond.is ∙ ap₂ (λ ys e. Cond (arms (map arm_view ys)) (expression e)) (sym c.deref-in-Cond-2.ensures.value) (sym c.deref-in-Cond.ensures) in
-    let whole = subst (λ e. IsAsked m e c.args.width n) view (record { fit = c.requires.fit; own = c.requires.own; room = c.requires.room; few = c.requires.few }) in
-    let own = asked-last m xs e c.args.width n whole in
+    let whole = subst (λ e. IsRequired m e c.args.width n) view (record { fit = c.requires.fit; own = c.requires.own; room = c.requires.room; few = c.requires.few }) in
+    let own = requested-last m xs e c.args.width n whole in
     let some = (fit-here m e (fit-last m xs e whole.fit)).some in (
       search (rules, the_lemmas),
       (
         fit-arms m xs e whole.fit,
         (
-          asked-arms m xs e c.args.width n whole,
+          requested-arms m xs e c.args.width n whole,
           (
             c.requires.width,
             (
@@ -302,10 +302,10 @@ lower_at-conditional-requires t c =
                 (
                   omega (
                     arith,
-                    (asked-cond m xs e c.args.width n whole).0,
+                    (requested-cond m xs e c.args.width n whole).0,
                     steps-few nets (ranges_in m) e c.args.width c.args.steps.now.items c.lower_at-in-Cond.new.steps.items c.in_ok-bits-in-Cond.bits.items own c.in_ok-bits-in-Cond.ensures,
                   ),
-                  omega (arith, (asked-cond m xs e c.args.width n whole).1),
+                  omega (arith, (requested-cond m xs e c.args.width n whole).1),
                 ),
               ),
             ),
@@ -542,9 +542,9 @@ lower_at-side_by_side-requires t c =
     let xs = map expression c.deref-in-Concat.result.now in
     let n = length c.args.steps.now.items in
     let view : expression c.args.expr.now ≡ Concat (listed_parts xs) = expression-concat c.args.expr.now c.in-Concat.all c.in-Concat.is ∙ ap (λ ys. Concat (listed_parts (map expression ys))) (sym c.deref-in-Concat.ensures.value) in
-    let whole = subst (λ e. IsAsked m e c.args.width n) view (record { fit = c.requires.fit; own = c.requires.own; room = c.requires.room; few = c.requires.few }) in
-    let asked = asked-concat m xs c.args.width n whole in
-    (search (rules, the_lemmas), (fit-parts m xs whole.fit, (omega (arith, asked.0, sum-map (own_width (ranges_in m)) xs, c.requires.width), (omega (arith, asked.0, asked.1), omega (arith, asked.2)))))
+    let whole = subst (λ e. IsRequired m e c.args.width n) view (record { fit = c.requires.fit; own = c.requires.own; room = c.requires.room; few = c.requires.few }) in
+    let requested = requested-concat m xs c.args.width n whole in
+    (search (rules, the_lemmas), (fit-parts m xs whole.fit, (omega (arith, requested.0, sum-map (own_width (ranges_in m)) xs, c.requires.width), (omega (arith, requested.0, requested.1), omega (arith, requested.2)))))
 
 pub lower_at-extended-requires : goal.lower_at-extended-requires
 lower_at-extended-requires t c =
@@ -552,10 +552,10 @@ lower_at-extended-requires t c =
     let xs = map expression c.deref-in-Concat.result.now in
     let n = length c.args.steps.now.items in
     let view : expression c.args.expr.now ≡ Concat (listed_parts xs) = expression-concat c.args.expr.now c.in-Concat.all c.in-Concat.is ∙ ap (λ ys. Concat (listed_parts (map expression ys))) (sym c.deref-in-Concat.ensures.value) in
-    let whole = subst (λ e. IsAsked m e c.args.width n) view (record { fit = c.requires.fit; own = c.requires.own; room = c.requires.room; few = c.requires.few }) in
-    let asked = asked-concat m xs c.args.width n whole in
+    let whole = subst (λ e. IsRequired m e c.args.width n) view (record { fit = c.requires.fit; own = c.requires.own; room = c.requires.room; few = c.requires.few }) in
+    let requested = requested-concat m xs c.args.width n whole in
     let few = parts-few c.args.scope.now.nets.items (ranges_in m) xs c.args.steps.now.items c.side_by_side.new.steps.items c.in_ok-bits-in-Concat.bits.items c.in_ok-bits-in-Concat.ensures in
-    omega (arith, asked.0, asked.1, few.0, few.1, ap length c.deref-in-Concat-2.ensures.value)
+    omega (arith, requested.0, requested.1, few.0, few.1, ap length c.deref-in-Concat-2.ensures.value)
 
 pub lower_at-returns-in_ok-bits-in-Concat : goal.lower_at-returns-in_ok-bits-in-Concat
 lower_at-returns-in_ok-bits-in-Concat t c =
@@ -575,9 +575,9 @@ lower_at-side_by_side-requires-in-Repeat t c =
     let xs = map expression c.deref-in-Repeat.result.now in
     let n = length c.args.steps.now.items in
     let view : expression c.args.expr.now ≡ Repeat k (listed_parts xs) = expression-repeat c.args.expr.now k c.in-Repeat.all c.in-Repeat.is ∙ ap (λ ys. Repeat k (listed_parts (map expression ys))) (sym c.deref-in-Repeat.ensures.value) in
-    let whole = subst (λ e. IsAsked m e c.args.width n) view (record { fit = c.requires.fit; own = c.requires.own; room = c.requires.room; few = c.requires.few }) in
-    let asked = asked-repeat m k xs c.args.width n whole in
-    (search (rules, the_lemmas), (fit-copied m k xs whole.fit, (omega (arith, asked.0, sum-map (own_width (ranges_in m)) xs, c.requires.width), (omega (arith, asked.0, asked.1), omega (arith, asked.4)))))
+    let whole = subst (λ e. IsRequired m e c.args.width n) view (record { fit = c.requires.fit; own = c.requires.own; room = c.requires.room; few = c.requires.few }) in
+    let requested = requested-repeat m k xs c.args.width n whole in
+    (search (rules, the_lemmas), (fit-copied m k xs whole.fit, (omega (arith, requested.0, sum-map (own_width (ranges_in m)) xs, c.requires.width), (omega (arith, requested.0, requested.1), omega (arith, requested.4)))))
 
 pub lower_at-copied-requires : goal.lower_at-copied-requires
 lower_at-copied-requires t c =
@@ -586,9 +586,9 @@ lower_at-copied-requires t c =
     let xs = map expression c.deref-in-Repeat.result.now in
     let n = length c.args.steps.now.items in
     let view : expression c.args.expr.now ≡ Repeat k (listed_parts xs) = expression-repeat c.args.expr.now k c.in-Repeat.all c.in-Repeat.is ∙ ap (λ ys. Repeat k (listed_parts (map expression ys))) (sym c.deref-in-Repeat.ensures.value) in
-    let whole = subst (λ e. IsAsked m e c.args.width n) view (record { fit = c.requires.fit; own = c.requires.own; room = c.requires.room; few = c.requires.few }) in
+    let whole = subst (λ e. IsRequired m e c.args.width n) view (record { fit = c.requires.fit; own = c.requires.own; room = c.requires.room; few = c.requires.few }) in
     let few = parts-few c.args.scope.now.nets.items (ranges_in m) xs c.args.steps.now.items c.side_by_side-in-Repeat.new.steps.items c.in_ok-bits-in-Repeat.bits.items c.in_ok-bits-in-Repeat.ensures in
-    omega (arith, (asked-repeat m k xs c.args.width n whole).3, ap (λ s. k * s) (ap length c.deref-in-Repeat-2.ensures.value ∙ few.0), c.requires.width)
+    omega (arith, (requested-repeat m k xs c.args.width n whole).3, ap (λ s. k * s) (ap length c.deref-in-Repeat-2.ensures.value ∙ few.0), c.requires.width)
 
 pub lower_at-extended-requires-in-Repeat : goal.lower_at-extended-requires-in-Repeat
 lower_at-extended-requires-in-Repeat t c =
@@ -597,11 +597,11 @@ lower_at-extended-requires-in-Repeat t c =
     let xs = map expression c.deref-in-Repeat.result.now in
     let n = length c.args.steps.now.items in
     let view : expression c.args.expr.now ≡ Repeat k (listed_parts xs) = expression-repeat c.args.expr.now k c.in-Repeat.all c.in-Repeat.is ∙ ap (λ ys. Repeat k (listed_parts (map expression ys))) (sym c.deref-in-Repeat.ensures.value) in
-    let whole = subst (λ e. IsAsked m e c.args.width n) view (record { fit = c.requires.fit; own = c.requires.own; room = c.requires.room; few = c.requires.few }) in
-    let asked = asked-repeat m k xs c.args.width n whole in
+    let whole = subst (λ e. IsRequired m e c.args.width n) view (record { fit = c.requires.fit; own = c.requires.own; room = c.requires.room; few = c.requires.few }) in
+    let requested = requested-repeat m k xs c.args.width n whole in
     let few = parts-few c.args.scope.now.nets.items (ranges_in m) xs c.args.steps.now.items c.side_by_side-in-Repeat.new.steps.items c.in_ok-bits-in-Repeat.bits.items c.in_ok-bits-in-Repeat.ensures in
     let count = ap length (c.deref-in-Repeat-3.ensures.value ∙ c.in_ok-copies-in-Repeat.ensures ∙ ap (copies k) c.deref-in-Repeat-2.ensures.value) ∙ length-copies k c.in_ok-bits-in-Repeat.bits.items ∙ ap (λ s. k * s) few.0 in
-    omega (arith, asked.1, asked.3, few.1, count, copies-cover k (sum_by (own_width (ranges_in m)) xs) asked.2)
+    omega (arith, requested.1, requested.3, few.1, count, copies-cover k (sum_by (own_width (ranges_in m)) xs) requested.2)
 
 pub lower_at-returns-in_ok-copies-in-Repeat : goal.lower_at-returns-in_ok-copies-in-Repeat
 lower_at-returns-in_ok-copies-in-Repeat t c =
@@ -612,8 +612,8 @@ lower_at-returns-in_ok-copies-in-Repeat t c =
     let xs = map expression c.deref-in-Repeat.result.now in
     let old = c.args.steps.now.items in
     let view : expression c.args.expr.now ≡ Repeat k (listed_parts xs) = expression-repeat c.args.expr.now k c.in-Repeat.all c.in-Repeat.is ∙ ap (λ ys. Repeat k (listed_parts (map expression ys))) (sym c.deref-in-Repeat.ensures.value) in
-    let whole = subst (λ e. IsAsked m e c.args.width (length old)) view (record { fit = c.requires.fit; own = c.requires.own; room = c.requires.room; few = c.requires.few }) in
-    let some = (asked-repeat m k xs c.args.width (length old) whole).2 in
+    let whole = subst (λ e. IsRequired m e c.args.width (length old)) view (record { fit = c.requires.fit; own = c.requires.own; room = c.requires.room; few = c.requires.few }) in
+    let some = (requested-repeat m k xs c.args.width (length old) whole).2 in
     let places = c.deref-in-Repeat-3.ensures.value ∙ c.in_ok-copies-in-Repeat.ensures ∙ ap (copies k) c.deref-in-Repeat-2.ensures.value in
     IfOk-weaker c.extended-in-Repeat.result _ _
     (λ bits h. subst (λ x. Adds nets (made ranges x c.args.width) old c.extended-in-Repeat.new.steps.items bits.items) (sym view) (repeat-made nets ranges k xs c.args.width old c.extended-in-Repeat.new.steps.items bits.items h))
@@ -710,9 +710,9 @@ lower_at-lower_at-requires-in-Fold t c =
     let same = c.deref-in-Fold.ensures ∙ sym c.deref-in-Fold-2.ensures in
     let own : k ≡ own_width ranges e = c.width_of-own.ensures ∙ ap (λ y. own_width ranges (expression y)) same in
     let view : expression c.args.expr.now ≡ Fold c.in-Fold.op e = expression-fold c.args.expr.now c.in-Fold.op c.in-Fold.operand c.in-Fold.is ∙ ap (λ y. Fold c.in-Fold.op (expression y)) (sym c.deref-in-Fold-2.ensures) in
-    let whole = subst (λ y. IsAsked m y c.args.width n) view (record { fit = c.requires.fit; own = c.requires.own; room = c.requires.room; few = c.requires.few }) in
-    let asked = asked-folded m c.in-Fold.op e c.args.width n k whole own in
-    (search (rules, the_lemmas), (fit-folded m c.in-Fold.op e whole.fit, (omega (arith, own), (asked.1, (asked.2, asked.3)))))
+    let whole = subst (λ y. IsRequired m y c.args.width n) view (record { fit = c.requires.fit; own = c.requires.own; room = c.requires.room; few = c.requires.few }) in
+    let requested = requested-folded m c.in-Fold.op e c.args.width n k whole own in
+    (search (rules, the_lemmas), (fit-folded m c.in-Fold.op e whole.fit, (omega (arith, own), (requested.1, (requested.2, requested.3)))))
 
 pub lower_at-fold-requires-clause-some : goal.lower_at-fold-requires-clause-some
 lower_at-fold-requires-clause-some t c =
@@ -724,11 +724,11 @@ lower_at-fold-requires-clause-some t c =
     let k = c.width_of-own.result in
     let own : k ≡ own_width ranges e = c.width_of-own.ensures ∙ ap (λ y. own_width ranges (expression y)) (c.deref-in-Fold.ensures ∙ sym c.deref-in-Fold-2.ensures) in
     let view : expression c.args.expr.now ≡ Fold c.in-Fold.op e = expression-fold c.args.expr.now c.in-Fold.op c.in-Fold.operand c.in-Fold.is ∙ ap (λ y. Fold c.in-Fold.op (expression y)) (sym c.deref-in-Fold-2.ensures) in
-    let whole = subst (λ y. IsAsked m y c.args.width n) view (record { fit = c.requires.fit; own = c.requires.own; room = c.requires.room; few = c.requires.few }) in
-    let asked = asked-folded m c.in-Fold.op e c.args.width n k whole own in
+    let whole = subst (λ y. IsRequired m y c.args.width n) view (record { fit = c.requires.fit; own = c.requires.own; room = c.requires.room; few = c.requires.few }) in
+    let requested = requested-folded m c.in-Fold.op e c.args.width n k whole own in
     omega (
       arith,
-      asked.0,
+      requested.0,
       bits-long nets ranges e k c.args.steps.now.items c.lower_at-in-Fold.new.steps.items c.in_ok-bits-in-Fold.bits.items (omega (arith, own)) c.in_ok-bits-in-Fold.ensures,
       ap length c.deref-in-Fold-3.ensures.value,
     )
@@ -743,11 +743,11 @@ lower_at-fold-requires-clause-few t c =
     let k = c.width_of-own.result in
     let own : k ≡ own_width ranges e = c.width_of-own.ensures ∙ ap (λ y. own_width ranges (expression y)) (c.deref-in-Fold.ensures ∙ sym c.deref-in-Fold-2.ensures) in
     let view : expression c.args.expr.now ≡ Fold c.in-Fold.op e = expression-fold c.args.expr.now c.in-Fold.op c.in-Fold.operand c.in-Fold.is ∙ ap (λ y. Fold c.in-Fold.op (expression y)) (sym c.deref-in-Fold-2.ensures) in
-    let whole = subst (λ y. IsAsked m y c.args.width n) view (record { fit = c.requires.fit; own = c.requires.own; room = c.requires.room; few = c.requires.few }) in
-    let asked = asked-folded m c.in-Fold.op e c.args.width n k whole own in
+    let whole = subst (λ y. IsRequired m y c.args.width n) view (record { fit = c.requires.fit; own = c.requires.own; room = c.requires.room; few = c.requires.few }) in
+    let requested = requested-folded m c.in-Fold.op e c.args.width n k whole own in
     omega (
       arith,
-      asked.1,
+      requested.1,
       bits-long nets ranges e k c.args.steps.now.items c.lower_at-in-Fold.new.steps.items c.in_ok-bits-in-Fold.bits.items (omega (arith, own)) c.in_ok-bits-in-Fold.ensures,
       ap length c.deref-in-Fold-3.ensures.value,
     )
@@ -762,14 +762,14 @@ lower_at-fold-requires-clause-room t c =
     let k = c.width_of-own.result in
     let own : k ≡ own_width ranges e = c.width_of-own.ensures ∙ ap (λ y. own_width ranges (expression y)) (c.deref-in-Fold.ensures ∙ sym c.deref-in-Fold-2.ensures) in
     let view : expression c.args.expr.now ≡ Fold c.in-Fold.op e = expression-fold c.args.expr.now c.in-Fold.op c.in-Fold.operand c.in-Fold.is ∙ ap (λ y. Fold c.in-Fold.op (expression y)) (sym c.deref-in-Fold-2.ensures) in
-    let whole = subst (λ y. IsAsked m y c.args.width n) view (record { fit = c.requires.fit; own = c.requires.own; room = c.requires.room; few = c.requires.few }) in
-    let asked = asked-folded m c.in-Fold.op e c.args.width n k whole own in
+    let whole = subst (λ y. IsRequired m y c.args.width n) view (record { fit = c.requires.fit; own = c.requires.own; room = c.requires.room; few = c.requires.few }) in
+    let requested = requested-folded m c.in-Fold.op e c.args.width n k whole own in
     let long = ap length c.deref-in-Fold-3.ensures.value ∙ bits-long nets ranges e k c.args.steps.now.items c.lower_at-in-Fold.new.steps.items c.in_ok-bits-in-Fold.bits.items (omega (arith, own)) c.in_ok-bits-in-Fold.ensures in
     omega (
       arith,
-      asked.1,
-      asked.2,
-      asked.4,
+      requested.1,
+      requested.2,
+      requested.4,
       steps-few nets ranges e k c.args.steps.now.items c.lower_at-in-Fold.new.steps.items c.in_ok-bits-in-Fold.bits.items (omega (arith, own)) c.in_ok-bits-in-Fold.ensures,
       ap (fold_cells c.in-Fold.op) long,
     )
@@ -784,14 +784,14 @@ lower_at-extended-requires-in-Fold t c =
     let k = c.width_of-own.result in
     let own : k ≡ own_width ranges e = c.width_of-own.ensures ∙ ap (λ y. own_width ranges (expression y)) (c.deref-in-Fold.ensures ∙ sym c.deref-in-Fold-2.ensures) in
     let view : expression c.args.expr.now ≡ Fold c.in-Fold.op e = expression-fold c.args.expr.now c.in-Fold.op c.in-Fold.operand c.in-Fold.is ∙ ap (λ y. Fold c.in-Fold.op (expression y)) (sym c.deref-in-Fold-2.ensures) in
-    let whole = subst (λ y. IsAsked m y c.args.width n) view (record { fit = c.requires.fit; own = c.requires.own; room = c.requires.room; few = c.requires.few }) in
-    let asked = asked-folded m c.in-Fold.op e c.args.width n k whole own in
+    let whole = subst (λ y. IsRequired m y c.args.width n) view (record { fit = c.requires.fit; own = c.requires.own; room = c.requires.room; few = c.requires.few }) in
+    let requested = requested-folded m c.in-Fold.op e c.args.width n k whole own in
     let long = ap length c.deref-in-Fold-3.ensures.value ∙ bits-long nets ranges e k c.args.steps.now.items c.lower_at-in-Fold.new.steps.items c.in_ok-bits-in-Fold.bits.items (omega (arith, own)) c.in_ok-bits-in-Fold.ensures in
     omega (
       arith,
-      asked.1,
-      asked.2,
-      asked.4,
+      requested.1,
+      requested.2,
+      requested.4,
       c.requires.width,
       steps-few nets ranges e k c.args.steps.now.items c.lower_at-in-Fold.new.steps.items c.in_ok-bits-in-Fold.bits.items (omega (arith, own)) c.in_ok-bits-in-Fold.ensures,
       ap (fold_cells c.in-Fold.op) long,
@@ -841,13 +841,13 @@ lower_at-lower_at-requires-in-Words t c =
     let e = expression c.in-Words.first.value in
     let xs = map operand_view c.in-Words.rest.items in
     let k = c.taken_at-taken.result in
-    let whole = subst (λ y. IsAsked m y w n) (expression-words c.args.expr.now c.in-Words.first c.in-Words.rest c.in-Words.is) (record { fit = c.requires.fit; own = c.requires.own; room = c.requires.room; few = c.requires.few }) in
+    let whole = subst (λ y. IsRequired m y w n) (expression-words c.args.expr.now c.in-Words.first c.in-Words.rest c.in-Words.is) (record { fit = c.requires.fit; own = c.requires.own; room = c.requires.room; few = c.requires.few }) in
     let own : c.width_of-own-in-Words.result ≡ own_width ranges e = c.width_of-own-in-Words.ensures ∙ ap (λ y. own_width ranges (expression y)) c.deref-in-Words.ensures in
     let at : k ≡ taken ranges (own_width ranges e) xs w = c.taken_at-taken.ensures ∙ ap₂ (λ l ys. taken ranges l (map operand_view ys) w) own c.deref-in-Words-2.ensures.value in
-    let asked = asked-left m e xs w n whole c.requires.width k at in (
+    let requested = requested-left m e xs w n whole c.requires.width k at in (
       search (rules, the_lemmas),
       subst (λ y. AreFit m (expression y) × ((own_width ranges (expression y) ≤ k) × ((k ≤ 65536) × ((n + most_steps k (cell_count ranges (expression y) k) ≤ 2 ^ 31) × (cell_count ranges (expression y) k ≤ 2000000)))))
-          (sym c.deref-in-Words-3.ensures) (fit-left m e xs whole.fit, (asked.0, (asked.1, (asked.2, asked.3)))),
+          (sym c.deref-in-Words-3.ensures) (fit-left m e xs whole.fit, (requested.0, (requested.1, (requested.2, requested.3)))),
     )
 
 pub lower_at-words-requires : goal.lower_at-words-requires
@@ -862,15 +862,15 @@ lower_at-words-requires t c =
     let xs = map operand_view c.in-Words.rest.items in
     let l = c.width_of-own-in-Words.result in
     let k = c.taken_at-taken.result in
-    let whole = subst (λ y. IsAsked m y w n) (expression-words c.args.expr.now c.in-Words.first c.in-Words.rest c.in-Words.is) (record { fit = c.requires.fit; own = c.requires.own; room = c.requires.room; few = c.requires.few }) in
+    let whole = subst (λ y. IsRequired m y w n) (expression-words c.args.expr.now c.in-Words.first c.in-Words.rest c.in-Words.is) (record { fit = c.requires.fit; own = c.requires.own; room = c.requires.room; few = c.requires.few }) in
     let own : l ≡ own_width ranges e = c.width_of-own-in-Words.ensures ∙ ap (λ y. own_width ranges (expression y)) c.deref-in-Words.ensures in
     let at : k ≡ taken ranges l xs w = c.taken_at-taken.ensures ∙ ap (λ ys. taken ranges l (map operand_view ys) w) c.deref-in-Words-2.ensures.value in
-    let fits = (asked-left m e xs w n whole c.requires.width k (at ∙ ap (λ j. taken ranges j xs w) own)).0 in
+    let fits = (requested-left m e xs w n whole c.requires.width k (at ∙ ap (λ j. taken ranges j xs w) own)).0 in
     let adds : Adds nets (made ranges e k) old c.lower_at-in-Words.new.steps.items c.in_ok-bits-in-Words.bits.items
     = subst (λ y. Adds nets (made ranges (expression y) k) old c.lower_at-in-Words.new.steps.items c.in_ok-bits-in-Words.bits.items) c.deref-in-Words-3.ensures c.in_ok-bits-in-Words.ensures in (
       search (rules, the_lemmas),
       subst (λ ys. AreReady m (map operand_view ys) w l (length c.lower_at-in-Words.new.steps.items) (length c.in_ok-bits-in-Words.bits.items)) (sym c.deref-in-Words-4.ensures.value)
-          (asked-ready m e xs w n whole c.requires.width l k (length c.lower_at-in-Words.new.steps.items) (length c.in_ok-bits-in-Words.bits.items) own at
+          (requested-ready m e xs w n whole c.requires.width l k (length c.lower_at-in-Words.new.steps.items) (length c.in_ok-bits-in-Words.bits.items) own at
           (steps-few nets ranges e k old c.lower_at-in-Words.new.steps.items c.in_ok-bits-in-Words.bits.items fits adds)
           (bits-long nets ranges e k old c.lower_at-in-Words.new.steps.items c.in_ok-bits-in-Words.bits.items fits adds)),
     )

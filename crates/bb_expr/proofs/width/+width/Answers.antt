@@ -9,7 +9,7 @@ use Rattle.bb_expr.specs.Inside.Fit.{AreFit, ranges_in}
 use Rattle.bb_expr.proofs.ViewLemmas.{expression-not, expression-chain, expression-cond, expression-concat, expression-repeat, expression-words}
 use Rattle.bb_expr.proofs.OperandLemmas.{fit-not, fit-first, fit-operands, fit-left, fit-words, fit-arms, fit-last, fit-parts, fit-copied, parts-bounded, copied-bounded, copies-bounded, chain-width, cond-width, concat-width, repeat-width}
 use Rattle.std.proofs.lemmas.List.{at_drop_all}
-use Rattle.bb_lists.proofs.Turns.{all_here}
+use Rattle.bb_lemmas.proofs.Turns.{all_here}
 use Rattle.bb_expr.specs.Inside.Levels.{width_on}
 use Rattle.bb_expr.proofs.LevelLemmas.{level-width}
 use Rattle.bb_expr.proofs.Loops.{rest-here}

@@ -5,7 +5,7 @@ use Rattle.bb_net.specs.Netlists.{cell_at}
 use Rattle.bb_fill.specs.Lines.{line_text}
 use Rattle.bb_fill.specs.Filled.{cell_lines}
 use Rattle.bb_fill.proofs.Choices.{choices_more, choices_within, flat_twice}
-use Rattle.bb_fill.proofs.Sheets.{one_number_more, same}
+use Rattle.bb_fill.proofs.TextBuffers.{one_number_more, same}
 use Rattle.bb_fill.proofs.cells.put_cells.Goals as goal
 
 pub put_cell-requires-clause-room : goal.put_cell-requires-clause-room

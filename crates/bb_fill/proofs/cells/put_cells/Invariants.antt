@@ -4,7 +4,7 @@ use Rattle.bb_net.specs.Kinds.{spread}
 use Rattle.bb_net.specs.Netlists.{cell_at}
 use Rattle.bb_fill.specs.Lines.{line_text}
 use Rattle.bb_fill.specs.Filled.{cell_lines, first_choice}
-use Rattle.bb_fill.specs.Inside.Sheets.{Adds}
+use Rattle.bb_fill.specs.Inside.TextBuffers.{Adds}
 use Rattle.bb_fill.proofs.cells.put_cells.Given as goal
 
 abbrev pub invariant-loop-number : goal.invariant-loop-number

@@ -10,8 +10,8 @@ loop-o-init c = no_outputs c.args.flat.now c.args.texts.now.entries c.requires.e
 
 pub loop-o-preserved : goal.loop-o-preserved
 loop-o-preserved c =
-    output_more c.args.flat.now c.loop-o.texts.entries c.insert.new.self.entries c.loop-o.o c.register_count-behind.result (omega (arith, c.loop-o-test.true, c.output_count-o-end.ensures.count)) c.register_count-behind.ensures.count
-    (λ q. c.in_ok-insert.ensures.updates.0 q ∙ ap (λ k. cond (same_name k q) (Some c.register_count-behind.result) (lookup (same_name q) c.loop-o.texts.entries)) (c.in_ok-text.ensures.cases ∙ c.output_text.ensures.text))
+    output_more c.args.flat.now c.loop-o.texts.entries c.insert.new.self.entries c.loop-o.o c.register_count-after.result (omega (arith, c.loop-o-test.true, c.output_count-o-end.ensures.count)) c.register_count-after.ensures.count
+    (λ q. c.in_ok-insert.ensures.updates.0 q ∙ ap (λ k. cond (same_name k q) (Some c.register_count-after.result) (lookup (same_name q) c.loop-o.texts.entries)) (c.in_ok-text.ensures.cases ∙ c.output_text.ensures.text))
     c.loop-o.invariant
 
 pub returns : goal.returns

@@ -1,7 +1,7 @@
 use Rattle.std.proofs.Common.{◌++◌, codes, take}
 use Rattle.std.specs.List.{flat_map}
 use Rattle.bb_fill.specs.Words.{printed}
-use Rattle.bb_fill.specs.Inside.Sheets.{Adds}
+use Rattle.bb_fill.specs.Inside.TextBuffers.{Adds}
 use Rattle.bb_fill.proofs.lines.put_declarations.Given as goal
 
 abbrev pub invariant-loop-name : goal.invariant-loop-name

@@ -1,4 +1,4 @@
-use Rattle.bb_fill.proofs.Sheets.{both}
+use Rattle.bb_fill.proofs.TextBuffers.{both}
 use Rattle.bb_fill.proofs.lines.put_multiplexer.Goals as goal
 
 pub returns : goal.returns

@@ -1,7 +1,7 @@
 use Rattle.std.proofs.Common.{◌++◌, codes}
 use Rattle.std.proofs.lemmas.List.{take_all}
 use Rattle.bb_fill.specs.Words.{printed}
-use Rattle.bb_fill.proofs.Sheets.{all_of, one_more}
+use Rattle.bb_fill.proofs.TextBuffers.{all_of, one_more}
 use Rattle.bb_fill.proofs.lines.put_registers.Goals as goal
 
 pub loop-reg-preserved : goal.loop-reg-preserved

@@ -2,7 +2,7 @@ use Rattle.std.proofs.Common.{◌++◌, ap, codes}
 use Rattle.std.specs.List.{flat_map}
 use Rattle.bb_net.specs.declared.flat.Reg.{Reg}
 use Rattle.bb_fill.specs.Words.{printed}
-use Rattle.bb_fill.proofs.Sheets.{both, same}
+use Rattle.bb_fill.proofs.TextBuffers.{both, same}
 use Rattle.bb_fill.proofs.TextLists.{declared_text}
 use Rattle.bb_fill.proofs.sections.put_all_declarations.Goals as goal
 

@@ -1,7 +1,7 @@
 use Rattle.std.proofs.Common.{◌∙◌, ap, ap₂, false}
 use Rattle.bb_fill.specs.Inside.Ports.{begun_after, port_texts}
 use Rattle.bb_fill.proofs.PortLists.{ports_joined}
-use Rattle.bb_fill.proofs.Sheets.{both, same}
+use Rattle.bb_fill.proofs.TextBuffers.{both, same}
 use Rattle.bb_fill.proofs.sections.put_header.Goals as goal
 
 pub returns : goal.returns

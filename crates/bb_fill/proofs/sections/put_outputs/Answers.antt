@@ -3,7 +3,7 @@ use Rattle.std.specs.List.{flat_map, range_with_len}
 use Rattle.bb_fill.specs.Lines.{line_text}
 use Rattle.bb_fill.specs.Filled.{output_lines}
 use Rattle.bb_fill.proofs.Choices.{flat_twice}
-use Rattle.bb_fill.proofs.Sheets.{one_number_more, same}
+use Rattle.bb_fill.proofs.TextBuffers.{one_number_more, same}
 use Rattle.bb_fill.proofs.sections.put_outputs.Goals as goal
 
 pub loop-o-preserved : goal.loop-o-preserved

@@ -2,7 +2,7 @@ use Rattle.std.proofs.Common.{replicate}
 use Rattle.std.specs.List.{flat_map, range_with_len}
 use Rattle.bb_fill.specs.Lines.{line_text}
 use Rattle.bb_fill.specs.Filled.{output_lines}
-use Rattle.bb_fill.specs.Inside.Sheets.{Adds}
+use Rattle.bb_fill.specs.Inside.TextBuffers.{Adds}
 use Rattle.bb_fill.proofs.sections.put_outputs.Given as goal
 
 abbrev pub invariant-loop-o : goal.invariant-loop-o

@@ -1,6 +1,6 @@
 use Rattle.std.proofs.Common.{◌++◌, if◌then◌else◌, codes, [], subst}
 use Rattle.bb_fill.specs.Words.{printed}
-use Rattle.bb_fill.specs.Inside.Sheets.{Adds}
+use Rattle.bb_fill.specs.Inside.TextBuffers.{Adds}
 use Rattle.bb_fill.proofs.PortLists.{after_more, port_more}
 use Rattle.bb_fill.proofs.sections.put_ports.Goals as goal
 

@@ -1,6 +1,6 @@
 use Rattle.std.proofs.Common.{◌≡◌, take}
 use Rattle.bb_fill.specs.Inside.Ports.{begun_after, port_texts}
-use Rattle.bb_fill.specs.Inside.Sheets.{Adds}
+use Rattle.bb_fill.specs.Inside.TextBuffers.{Adds}
 use Rattle.bb_fill.proofs.sections.put_ports.Given as goal
 
 abbrev pub invariant-loop-name : goal.invariant-loop-name

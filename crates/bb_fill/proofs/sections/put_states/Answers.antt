@@ -3,7 +3,7 @@ use Rattle.std.specs.List.{flat_map}
 use Rattle.std.proofs.lemmas.List.{take_all}
 use Rattle.bb_fill.specs.Lines.{line_text}
 use Rattle.bb_fill.specs.Filled.{register_lines}
-use Rattle.bb_fill.proofs.Sheets.{same}
+use Rattle.bb_fill.proofs.TextBuffers.{same}
 use Rattle.bb_fill.proofs.TextLists.{register_more}
 use Rattle.bb_fill.proofs.sections.put_states.Goals as goal
 

@@ -2,7 +2,7 @@ use Rattle.std.proofs.Common.{replicate, take}
 use Rattle.std.specs.List.{flat_map}
 use Rattle.bb_fill.specs.Lines.{line_text}
 use Rattle.bb_fill.specs.Filled.{register_lines}
-use Rattle.bb_fill.specs.Inside.Sheets.{Adds}
+use Rattle.bb_fill.specs.Inside.TextBuffers.{Adds}
 use Rattle.bb_fill.proofs.sections.put_states.Given as goal
 
 abbrev pub invariant-loop-r : goal.invariant-loop-r

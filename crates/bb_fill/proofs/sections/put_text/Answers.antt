@@ -4,7 +4,7 @@ use Rattle.bb_bits.specs.Tables.{TableBits}
 use Rattle.bb_net.specs.Kinds.{spread}
 use Rattle.bb_fill.specs.Lines.{line_text}
 use Rattle.bb_fill.specs.Filled.{filled_lines}
-use Rattle.bb_fill.proofs.Sheets.{both, same}
+use Rattle.bb_fill.proofs.TextBuffers.{both, same}
 use Rattle.bb_fill.proofs.TextLists.{sections_text}
 use Rattle.bb_fill.proofs.sections.put_text.Goals as goal
 

@@ -1,7 +1,7 @@
 use Rattle.std.proofs.Common.{replicate, ◌∙◌, ◌/◌, length, arith, refl}
 use Rattle.bb_fill.specs.Words.{word_at}
 use Rattle.bb_fill.proofs.Levels.{left_of_tree, tree_text, two_halves}
-use Rattle.bb_fill.proofs.Sheets.{same, both}
+use Rattle.bb_fill.proofs.TextBuffers.{same, both}
 use Rattle.bb_fill.proofs.trees.+put_levels.Goals as goal
 
 pub returns-clause-adds : goal.returns-clause-adds

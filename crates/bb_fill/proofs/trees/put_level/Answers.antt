@@ -4,7 +4,7 @@ use Rattle.bb_fill.specs.Words.{word_at}
 use Rattle.bb_fill.specs.Lines.{line_text}
 use Rattle.bb_fill.specs.Inside.Levels.{level_choice, value_word}
 use Rattle.bb_fill.proofs.Levels.{level_text}
-use Rattle.bb_fill.proofs.Sheets.{one_number_more, same}
+use Rattle.bb_fill.proofs.TextBuffers.{one_number_more, same}
 use Rattle.bb_fill.proofs.trees.put_level.Goals as goal
 
 pub loop-i-preserved : goal.loop-i-preserved

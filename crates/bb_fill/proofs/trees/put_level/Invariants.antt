@@ -3,7 +3,7 @@ use Rattle.std.specs.List.{flat_map, range_with_len}
 use Rattle.bb_fill.specs.Words.{word_at}
 use Rattle.bb_fill.specs.Lines.{line_text}
 use Rattle.bb_fill.specs.Inside.Levels.{level_choice}
-use Rattle.bb_fill.specs.Inside.Sheets.{Adds}
+use Rattle.bb_fill.specs.Inside.TextBuffers.{Adds}
 use Rattle.bb_fill.proofs.trees.put_level.Given as goal
 
 abbrev pub invariant-loop-i : goal.invariant-loop-i

@@ -1,4 +1,4 @@
-use Rattle.bb_fill.proofs.Sheets.{both}
+use Rattle.bb_fill.proofs.TextBuffers.{both}
 use Rattle.bb_fill.proofs.trees.put_level_choice.Goals as goal
 
 pub returns : goal.returns

@@ -4,7 +4,7 @@ use Rattle.bb_fill.specs.Trees.{column}
 use Rattle.bb_fill.specs.declared.trees.Values.TheVariants.{Rows}
 use Rattle.bb_fill.specs.Inside.Levels.{level_words}
 use Rattle.bb_fill.proofs.Levels.{rooted, row_bits}
-use Rattle.bb_fill.proofs.Sheets.{same, both}
+use Rattle.bb_fill.proofs.TextBuffers.{same, both}
 use Rattle.bb_fill.proofs.trees.put_pin.Goals as goal
 
 pub returns : goal.returns

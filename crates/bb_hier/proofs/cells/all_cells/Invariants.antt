@@ -2,7 +2,7 @@ use Rattle.std.proofs.Common.{◌≡◌, map, take}
 use Rattle.std.specs.Prelude.{sum_by}
 use Rattle.bb_ast.specs.Inside.Views.{expression}
 use Rattle.bb_expr.specs.Inside.Shares.{capped, own_cells}
-use Rattle.bb_expr.specs.Inside.Standing.{ranges_at}
+use Rattle.bb_expr.specs.Inside.Occurrences.{ranges_at}
 use Rattle.bb_hier.proofs.cells.all_cells.Given as goal
 
 abbrev pub invariant-loop-expr : goal.invariant-loop-expr

@@ -2,7 +2,7 @@ use Rattle.std.proofs.Common.{◌≡◌, map, take}
 use Rattle.std.specs.Prelude.{sum_by}
 use Rattle.bb_ast.specs.Inside.Views.{arm_view}
 use Rattle.bb_expr.specs.Inside.Shares.{capped}
-use Rattle.bb_expr.specs.Inside.Standing.{ranges_at}
+use Rattle.bb_expr.specs.Inside.Occurrences.{ranges_at}
 use Rattle.bb_hier.specs.Inside.Weights.{assignment_cells}
 use Rattle.bb_hier.proofs.cells.assignments_cells.Given as goal
 

@@ -3,7 +3,7 @@ use Rattle.std.specs.Prelude.{sum_by}
 use Rattle.bb_ast.specs.Syntax.{PlainConns}
 use Rattle.bb_ast.specs.Inside.Views.{call_view}
 use Rattle.bb_expr.specs.Inside.Shares.{capped, own_cells}
-use Rattle.bb_expr.specs.Inside.Standing.{ranges_at, conns_expressions}
+use Rattle.bb_expr.specs.Inside.Occurrences.{ranges_at, conns_expressions}
 use Rattle.bb_hier.proofs.cells.call_cells.Given as goal
 
 abbrev pub invariant-loop-call : goal.invariant-loop-call

@@ -3,15 +3,15 @@ use Rattle.std.specs.Prelude.{◌^◌}
 use Rattle.bb_ast.specs.Syntax.{Expression}
 use Rattle.bb_ast.specs.Inside.Views.{expression, gate_view}
 use Rattle.bb_expr.specs.Inside.Shares.{capped}
-use Rattle.bb_expr.specs.Inside.Standing.{StandsAt, ranges_at}
+use Rattle.bb_expr.specs.Inside.Occurrences.{OccursAt, ranges_at}
 use Rattle.bb_hier.specs.Inside.Weights.{gate_weight}
 use Rattle.bb_hier.proofs.CellSums.{share_more, share_all, all_within}
 use Rattle.bb_hier.proofs.cells.gates_cells.Goals as goal
 
 pub gate_cells-requires : goal.gate_cells-requires
 gate_cells-requires c = record {
-  stands = subst (λ l. All (StandsAt c.args.checked.now c.args.place) (map expression l)) (sym c.as_slice.ensures)
-      (all_within (StandsAt c.args.checked.now c.args.place) (λ (x : Option (List ℕ) × List Expression). x.1) gate_view c.args.all.now c.loop-call.call-index c.call-item.result c.loop-call-test.true c.call-item.is c.requires.stands);
+  occurs = subst (λ l. All (OccursAt c.args.checked.now c.args.place) (map expression l)) (sym c.as_slice.ensures)
+      (all_within (OccursAt c.args.checked.now c.args.place) (λ (x : Option (List ℕ) × List Expression). x.1) gate_view c.args.all.now c.loop-call.call-index c.call-item.result c.loop-call-test.true c.call-item.is c.requires.occurs);
 }
 
 pub loop-call-preserved : goal.loop-call-preserved

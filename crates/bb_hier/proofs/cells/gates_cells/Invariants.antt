@@ -3,7 +3,7 @@ use Rattle.std.specs.Prelude.{sum_by}
 use Rattle.bb_ast.specs.Syntax.{Expression}
 use Rattle.bb_ast.specs.Inside.Views.{gate_view}
 use Rattle.bb_expr.specs.Inside.Shares.{capped}
-use Rattle.bb_expr.specs.Inside.Standing.{ranges_at}
+use Rattle.bb_expr.specs.Inside.Occurrences.{ranges_at}
 use Rattle.bb_hier.specs.Inside.Weights.{gate_weight}
 use Rattle.bb_hier.proofs.cells.gates_cells.Given as goal
 

@@ -2,7 +2,7 @@ use Rattle.std.proofs.Common.{◌≡◌, map, take}
 use Rattle.std.specs.Prelude.{sum_by}
 use Rattle.bb_ast.specs.Inside.Views.{named_view}
 use Rattle.bb_expr.specs.Inside.Shares.{capped, own_cells}
-use Rattle.bb_expr.specs.Inside.Standing.{ranges_at}
+use Rattle.bb_expr.specs.Inside.Occurrences.{ranges_at}
 use Rattle.std.proofs.Common.{ℕ, List, Option}
 use Rattle.std.specs.Prelude.{option_to_list}
 use Rattle.bb_ast.specs.Syntax.{Expression}

@@ -2,13 +2,13 @@ use Rattle.std.proofs.Common.{ℕ, ◌-◌, List, Option}
 use Rattle.std.specs.Prelude.{◌^◌, option_to_list, IfSome}
 use Rattle.bb_ast.specs.Syntax.{Expression}
 use Rattle.bb_ast.specs.Inside.Views.{named_view}
-use Rattle.bb_expr.specs.Inside.Standing.{StandsAt, ranges_at}
+use Rattle.bb_expr.specs.Inside.Occurrences.{OccursAt, ranges_at}
 use Rattle.bb_hier.specs.Inside.Weights.{initial_cells, IsNarrowNet}
 use Rattle.bb_hier.proofs.CellSums.{share_more, share_all, all_here, all_within}
 use Rattle.bb_hier.proofs.cells.wire_cells.Goals as goal
 
-pub initial_cells-requires-clause-stands : goal.initial_cells-requires-clause-stands
-initial_cells-requires-clause-stands c = all_within (StandsAt c.args.checked.now c.args.place) (λ (x : List ℕ × Option Expression). option_to_list x.1) named_view c.args.nets.now c.loop-name.name-index c.loop-name-item.result c.loop-name-test.true c.loop-name-item.is c.requires.stands
+pub initial_cells-requires-clause-occurs : goal.initial_cells-requires-clause-occurs
+initial_cells-requires-clause-occurs c = all_within (OccursAt c.args.checked.now c.args.place) (λ (x : List ℕ × Option Expression). option_to_list x.1) named_view c.args.nets.now c.loop-name.name-index c.loop-name-item.result c.loop-name-test.true c.loop-name-item.is c.requires.occurs
 
 pub initial_cells-requires-clause-narrow : goal.initial_cells-requires-clause-narrow
 initial_cells-requires-clause-narrow c = all_here (λ (x : List ℕ × Option Expression). IfSome x.1 (λ e. IsNarrowNet c.args.checked.now c.args.place x.0)) named_view c.args.nets.now c.loop-name.name-index c.loop-name-item.result c.loop-name-test.true c.loop-name-item.is c.requires.narrow

@@ -12,9 +12,9 @@ use Rattle.bb_names.specs.Inside.Checked.{module_facts, syntax}
 use Rattle.bb_design.specs.Inside.Callees.{callees}
 use Rattle.bb_hier.specs.Inside.Depths.{is_tall}
 use Rattle.bb_design.specs.Hierarchy.{Instance, instances_in}
-use Rattle.bb_lists.proofs.Places.{got-map, list_here}
+use Rattle.bb_lemmas.proofs.Places.{got-map, list_here}
 use Rattle.bb_hier.proofs.DepthHeights.{callees_fit}
-use Rattle.bb_hier.proofs.DepthWalks.{way_starts, way_steps, way_ends, way_there, some_goes_on, stands_in}
+use Rattle.bb_hier.proofs.DepthWalks.{way_starts, way_steps, way_ends, way_there, some_goes_on, occurs_in}
 use Rattle.bb_hier.proofs.RecursiveNames.{all_there}
 use Rattle.bb_hier.proofs.depth.first_low.Goals as goal
 
@@ -56,10 +56,10 @@ loop-level-preserved c =
     c.first_tall-next.result c.first_tall-next.ensures.within c.first_tall-next.ensures.tall c.first_tall-next.ensures.first c.add_dot.new.path.items c.add_name.new.path.items c.in_ok-add_dot.ensures.ok
     (subst (λ (items : List Item). IfSome (slice_get (flat_map (λ (item : PlainItem). instances_in item.body) (map item_view items)) c.first_tall-next.result) (λ (i : Instance). c.add_name.new.path.items ≡ c.add_dot.new.path.items ++ i.name))
     (c.deref-in-loop-level.ensures.value ∙ ap (λ (x : CheckedModule). x.module.items.items) (sym c.index-modules-place.is)) c.in_ok-add_name.ensures.ok)
-    c.index-place.result.now (stands_in c.args.called.now c.loop-level.place c.index-called-place-in-loop-level.result c.deref.result.now _ c.requires.called lt c.index-called-place-in-loop-level.is list c.first_tall-next.result c.index-place.result.now
+    c.index-place.result.now (occurs_in c.args.called.now c.loop-level.place c.index-called-place-in-loop-level.result c.deref.result.now _ c.requires.called lt c.index-called-place-in-loop-level.is list c.first_tall-next.result c.index-place.result.now
     c.first_tall-next.ensures.within c.index-place.ensures)
 
 pub returns : goal.returns
 returns c = record {
-  told = IfOk-weaker _ _ _ (λ name copy. way_ends c.laws_of_designs.ensures (map syntax c.args.checked.now) c.args.top c.loop-level.level c.loop-level.place c.loop-level.path.items name c.loop-level.invariant (omega (arith, c.loop-level-test.false, c.loop-level.auto.level-end)) (copy ∙ c.deref-2.ensures.value)) c.of.ensures.ok;
+  reported = IfOk-weaker _ _ _ (λ name copy. way_ends c.laws_of_designs.ensures (map syntax c.args.checked.now) c.args.top c.loop-level.level c.loop-level.place c.loop-level.path.items name c.loop-level.invariant (omega (arith, c.loop-level-test.false, c.loop-level.auto.level-end)) (copy ∙ c.deref-2.ensures.value)) c.of.ensures.ok;
 }

@@ -7,9 +7,9 @@ use Rattle.bb_names.specs.declared.checked.CheckedModule.{CheckedModule}
 use Rattle.bb_names.specs.Inside.Checked.{module_facts, syntax}
 use Rattle.bb_design.specs.Inside.Callees.{callees}
 use Rattle.bb_hier.specs.Inside.Recursions.{ArePlacesThere, IsRecursiveAt, IsFirstRecursive}
-use Rattle.bb_design.specs.Refusals.{Recursion, IsTold, design_on}
-use Rattle.bb_lists.proofs.Places.{got-map}
-use Rattle.bb_hier.proofs.RecursiveNames.{places_there, absent_where_none, told_where_first}
+use Rattle.bb_design.specs.Refusals.{Recursion, IsReportedOfDesign, design_on}
+use Rattle.bb_lemmas.proofs.Places.{got-map}
+use Rattle.bb_hier.proofs.RecursiveNames.{places_there, absent_where_none, reported_where_first}
 use Rattle.bb_hier.proofs.recursion.recursive_module.Goals as goal
 
 pub first_recursive-requires-clause-there : goal.first_recursive-requires-clause-there
@@ -32,6 +32,6 @@ returns-in_ok-clone-in-Some-clause-some c = λ t at.
     let here : slice_get text c.in-Some.place ≡ Some (module_view c.index-modules-place.result.module) =
     ap (λ facts. slice_get (map syntax facts) c.in-Some.place) (sym c.modules-modules.ensures.modules)
     ∙ got-map syntax (map module_facts modules) c.in-Some.place (module_facts c.index-modules-place.result) (got-map module_facts modules c.in-Some.place c.index-modules-place.result got) in
-    subst (λ n. IsTold (design_on text t) Recursion n) (sym (c.in_ok-clone-in-Some.ensures.cases ∙ ap (λ (x : CheckedModule). x.module.name) (sym c.index-modules-place.is)))
-    (told_where_first c.laws_of_designs.ensures text c.modules-modules.ensures.checked.sound c.args.top t at c.in-Some.place (module_view c.index-modules-place.result.module) here
+    subst (λ n. IsReportedOfDesign (design_on text t) Recursion n) (sym (c.in_ok-clone-in-Some.ensures.cases ∙ ap (λ (x : CheckedModule). x.module.name) (sym c.index-modules-place.is)))
+    (reported_where_first c.laws_of_designs.ensures text c.modules-modules.ensures.checked.sound c.args.top t at c.in-Some.place (module_view c.index-modules-place.result.module) here
     (subst (λ lists. IsFirstRecursive lists c.args.top c.in-Some.place) c.requires.called first))

@@ -8,7 +8,7 @@ use Rattle.bb_names.specs.Inside.Checked.{module_facts, syntax}
 use Rattle.bb_expr.specs.Inside.Shares.{capped}
 use Rattle.bb_hier.specs.Inside.Weights.{any_scope, stored_by, AreMarks}
 use Rattle.bb_hier.proofs.MarkLemmas.{nothing_marked, all_counted}
-use Rattle.bb_lists.proofs.Turns.{written_back}
+use Rattle.bb_lemmas.proofs.Turns.{written_back}
 use Rattle.bb_hier.proofs.register_bits.registers_in.Goals as goal
 
 pub mark_items-requires-clause-marks : goal.mark_items-requires-clause-marks

@@ -1,7 +1,7 @@
 use Rattle.std.proofs.Common.{map, arith}
 use Rattle.std.proofs.lemmas.List.{length-map}
 use Rattle.bb_names.specs.Inside.Checked.{syntax}
-use Rattle.bb_lists.proofs.Places.{got}
+use Rattle.bb_lemmas.proofs.Places.{got}
 use Rattle.bb_hier.proofs.size.construct_weights.Goals as goal
 
 pub returns-clause-each : goal.returns-clause-each

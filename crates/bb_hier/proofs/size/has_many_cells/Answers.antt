@@ -28,7 +28,7 @@ returns c =
     let has = nets_at_place c.args.checked.now modules c.modules-modules.ensures.modules c.args.top c.index-modules-top.result c.index-modules-top.is c.requires.top c.modules-modules.ensures.checked in
     record {
       many = λ t at few. many_cells c.laws_of_designs.ensures (2 ^ 64 - 1) 1000000 (omega arith) text c.modules-modules.ensures.checked.sound c.args.top t at c.args.bits.now c.in_ok-constructs.constructs.items c.in_ok-instances.instances.items c.requires.bits
-          c.in_ok-constructs.ensures.each (λ k x here told. c.in_ok-instances.ensures.each k x here (ap (λ l. slice_index_or l k 0) c.deref.ensures.value ∙ told)) (c.in_ok-instances.ensures.long ∙ sym wide) few
+          c.in_ok-constructs.ensures.each (λ k x here reported. c.in_ok-instances.ensures.each k x here (ap (λ l. slice_index_or l k 0) c.deref.ensures.value ∙ reported)) (c.in_ok-instances.ensures.long ∙ sym wide) few
           c.cells_are_counted.ensures c.made_has_value.ensures c.values_have_width.ensures c.assignable_is_nets.ensures 2000000 c.port_bits-inputs.result c.saturating_add.result c.saturating_add-own.result c.index-2.result.now c.saturating_add-2.result (omega arith)
           (c.port_bits-inputs.ensures.bits ∙ ap (λ nets. capped (sum_by net_width (filter is_input_net nets))) (c.deref-3.ensures.value ∙ ap (λ (x : CheckedModule). x.nets.items) (sym c.index-modules-top.is) ∙ has.nets)
           ∙ ap (λ (m : PlainModule). capped (sum_by net_width (filter is_input_net (nets_of m))))

@@ -4,10 +4,10 @@ use Rattle.bb_net.specs.Netlists.{Pins, box_at}
 use Rattle.bb_net.specs.Pairs.{pin_count}
 use Rattle.bb_uniq.specs.Inside.Meaning.{truth_of}
 use Rattle.bb_sym.specs.declared.fault.RungFault.TheVariants.{Nodes}
-use Rattle.bb_sym.specs.Inside.Made.{Makes, AreTooMany, StandsFor}
+use Rattle.bb_sym.specs.Inside.Made.{Makes, AreTooMany, Represents}
 use Rattle.bb_input.specs.InputFunctions.{box_quantified, box_functions}
 use Rattle.bb_input.proofs.OrderLemmas.{fits_more}
-use Rattle.bb_input.proofs.ChoiceSteps.{from_box, functions_from, from_none, functions_none, boxes_made, boxes_stand, boxes_refused, AreNoted, noted_more}
+use Rattle.bb_input.proofs.ChoiceSteps.{from_box, functions_from, from_none, functions_none, boxes_made, boxes_occur, boxes_refused, AreNoted, noted_more}
 use Rattle.bb_input.proofs.choosing.quantify_boxes.Goals as goal
 
 pub loop-left-init : goal.loop-left-init
@@ -65,11 +65,11 @@ returns-in_err-r-clause-nodes c =
     let s = c.args.d.now.store in
     let old = c.loop-left.d.store in
     let t = truth_of s c.args.f.0 in
-    let stand = subst (λ i. StandsFor old (from_box boxes t i) c.loop-left.r) next c.loop-left.invariant.1 in
+    let occur = subst (λ i. Represents old (from_box boxes t i) c.loop-left.r) next c.loop-left.invariant.1 in
     let made = subst (λ i. Makes s old (functions_from boxes t i)) next c.loop-left.invariant.2 in
-    let told : IsErrOf c.from_residual.result Nodes → AreTooMany old (box_functions (slice_index_or c.args.starts.now k 0 - length box.ins) box (truth_of old c.loop-left.r.0)) = search rules in
-    λ full. boxes_refused c.making.ensures s old boxes t k l c.loop-left.r stand made (slice_index_or c.args.starts.now k 0 - length box.ins) first
-    (subst (λ (pins : Pins). AreTooMany old (box_functions (slice_index_or c.args.starts.now k 0 - length box.ins) pins (truth_of old c.loop-left.r.0))) same (told full))
+    let reported : IsErrOf c.from_residual.result Nodes → AreTooMany old (box_functions (slice_index_or c.args.starts.now k 0 - length box.ins) box (truth_of old c.loop-left.r.0)) = search rules in
+    λ full. boxes_refused c.making.ensures s old boxes t k l c.loop-left.r occur made (slice_index_or c.args.starts.now k 0 - length box.ins) first
+    (subst (λ (pins : Pins). AreTooMany old (box_functions (slice_index_or c.args.starts.now k 0 - length box.ins) pins (truth_of old c.loop-left.r.0))) same (reported full))
 
 pub loop-left-preserved : goal.loop-left-preserved
 loop-left-preserved c =
@@ -85,22 +85,22 @@ loop-left-preserved c =
     let s = c.args.d.now.store in
     let old = c.loop-left.d.store in
     let t = truth_of s c.args.f.0 in
-    let stand = subst (λ i. StandsFor old (from_box boxes t i) c.loop-left.r) next c.loop-left.invariant.1 in
+    let occur = subst (λ i. Represents old (from_box boxes t i) c.loop-left.r) next c.loop-left.invariant.1 in
     let made = subst (λ i. Makes s old (functions_from boxes t i)) next c.loop-left.invariant.2 in
     let noted = subst (λ i. AreNoted old boxes t i c.loop-left.stages) next c.loop-left.invariant.4 in
     let new = c.quantify_box.new.d.store in (
       omega (arith, l),
-      boxes_stand c.making.ensures s old boxes t k l c.loop-left.r stand made (slice_index_or c.args.starts.now k 0 - length box.ins) first new c.in_ok-r.r
-          (subst (λ (pins : Pins). StandsFor new (box_quantified (slice_index_or c.args.starts.now k 0 - length box.ins) pins (truth_of old c.loop-left.r.0)) c.in_ok-r.r) same c.in_ok-r.ensures.result),
-      boxes_made c.making.ensures s old boxes t k l c.loop-left.r stand made (slice_index_or c.args.starts.now k 0 - length box.ins) first new (subst (λ (pins : Pins). Makes old new (box_functions (slice_index_or c.args.starts.now k 0 - length box.ins) pins (truth_of old c.loop-left.r.0))) same c.in_ok-r.ensures.makes),
+      boxes_occur c.making.ensures s old boxes t k l c.loop-left.r occur made (slice_index_or c.args.starts.now k 0 - length box.ins) first new c.in_ok-r.r
+          (subst (λ (pins : Pins). Represents new (box_quantified (slice_index_or c.args.starts.now k 0 - length box.ins) pins (truth_of old c.loop-left.r.0)) c.in_ok-r.r) same c.in_ok-r.ensures.result),
+      boxes_made c.making.ensures s old boxes t k l c.loop-left.r occur made (slice_index_or c.args.starts.now k 0 - length box.ins) first new (subst (λ (pins : Pins). Makes old new (box_functions (slice_index_or c.args.starts.now k 0 - length box.ins) pins (truth_of old c.loop-left.r.0))) same c.in_ok-r.ensures.makes),
       length-set c.loop-left.stages k c.loop-left.r ∙ c.loop-left.invariant.3,
-      noted_more c.making.ensures old new c.in_ok-r.ensures.makes.kept boxes t k l c.loop-left.stages c.loop-left.invariant.3 c.loop-left.r stand noted,
+      noted_more c.making.ensures old new c.in_ok-r.ensures.makes.kept boxes t k l c.loop-left.stages c.loop-left.invariant.3 c.loop-left.r occur noted,
     )
 
 pub returns-clause-result : goal.returns-clause-result
 returns-clause-result c =
     let none : c.loop-left.left ≡ 0 = omega (arith, c.loop-left-test.false) in
-    subst (λ i. StandsFor c.loop-left.d.store (from_box c.args.boxes.now (truth_of c.args.d.now.store c.args.f.0) i) c.loop-left.r) none c.loop-left.invariant.1
+    subst (λ i. Represents c.loop-left.d.store (from_box c.args.boxes.now (truth_of c.args.d.now.store c.args.f.0) i) c.loop-left.r) none c.loop-left.invariant.1
 
 pub returns-clause-makes : goal.returns-clause-makes
 returns-clause-makes c =

@@ -5,11 +5,11 @@ use Rattle.bb_bits.specs.Truth.{Truth}
 use Rattle.bb_net.specs.Netlists.{Netlist}
 use Rattle.bb_uniq.specs.declared.store.Ref.{Ref}
 use Rattle.bb_sym.specs.declared.fault.RungFault.TheVariants.{Nodes}
-use Rattle.bb_sym.specs.Inside.Made.{Makes, AreTooMany, StandsFor, ref_at}
+use Rattle.bb_sym.specs.Inside.Made.{Makes, AreTooMany, Represents, ref_at}
 use Rattle.bb_sym.specs.Plain.{Function, table, tables, one_of, first_of}
 use Rattle.bb_input.specs.InputFunctions.{in_places, is_missed}
 use Rattle.bb_input.specs.Inside.Order.{in_variables}
-use Rattle.bb_input.proofs.MissedParts.{bits, cells, variables_there, places_there, given_stand, there_stand, given_refs, there_refs, pin_count_is, same_count, picks_are}
+use Rattle.bb_input.proofs.MissedParts.{bits, cells, variables_there, places_there, given_occur, there_occur, given_refs, there_refs, pin_count_is, same_count, picks_are}
 use Rattle.bb_input.proofs.missing.some_missed.Goals as goal
 
 pub picked-requires : goal.picked-requires
@@ -79,9 +79,9 @@ returns-in_err-any-clause-nodes c =
     let there : gs ≡ map (ref_at c.args.made.now.imp.items) (in_places imp.boxes) =
     picks_are c.args.made.now.imp.items c.deref-3.result.now c.in_ok-there.there.items gs (in_places imp.boxes) c.deref-4.result.now c.in_ok-places.places.items c.deref-6.ensures.value c.in_ok-there.ensures c.deref-3.ensures.value c.deref-4.ensures.value places in
     let s = c.args.d.now.store in
-    let more = c.in_err-any.ensures.nodes (bits c.functions.ensures c.making.ensures c.args.d.now.store c.args.pair.now c.imp-imp_net.ensures.kept c.requires.vars c.args.made.now.variables.items c.args.made.now.spec.items c.args.made.now.imp.items c.requires.count c.requires.variables c.requires.cells) (cells c.functions.ensures c.making.ensures c.args.d.now.store c.args.pair.now c.imp-imp_net.ensures.kept c.requires.vars c.args.made.now.variables.items c.args.made.now.spec.items c.args.made.now.imp.items c.requires.count c.requires.variables c.requires.cells) (given_stand c.functions.ensures c.making.ensures c.args.d.now.store c.args.pair.now c.imp-imp_net.ensures.kept c.requires.vars c.args.made.now.variables.items c.args.made.now.spec.items c.args.made.now.imp.items c.requires.count c.requires.variables c.requires.cells fs gs given there) (there_stand c.functions.ensures c.making.ensures c.args.d.now.store c.args.pair.now c.imp-imp_net.ensures.kept c.requires.vars c.args.made.now.variables.items c.args.made.now.spec.items c.args.made.now.imp.items c.requires.count c.requires.variables c.requires.cells fs gs given there) in
-    let told : IsErrOf c.from_residual-in_err-any.result Nodes → AreTooMany s (all s.vars (is_missed imp) (length fs)) = search (rules, more) in
-    λ full. subst₂ (λ n count. AreTooMany s (all n (is_missed imp) count)) (sym c.requires.vars) (pin_count_is c.functions.ensures c.making.ensures c.args.d.now.store c.args.pair.now c.imp-imp_net.ensures.kept c.requires.vars c.args.made.now.variables.items c.args.made.now.spec.items c.args.made.now.imp.items c.requires.count c.requires.variables c.requires.cells fs gs given there) (told full)
+    let more = c.in_err-any.ensures.nodes (bits c.functions.ensures c.making.ensures c.args.d.now.store c.args.pair.now c.imp-imp_net.ensures.kept c.requires.vars c.args.made.now.variables.items c.args.made.now.spec.items c.args.made.now.imp.items c.requires.count c.requires.variables c.requires.cells) (cells c.functions.ensures c.making.ensures c.args.d.now.store c.args.pair.now c.imp-imp_net.ensures.kept c.requires.vars c.args.made.now.variables.items c.args.made.now.spec.items c.args.made.now.imp.items c.requires.count c.requires.variables c.requires.cells) (given_occur c.functions.ensures c.making.ensures c.args.d.now.store c.args.pair.now c.imp-imp_net.ensures.kept c.requires.vars c.args.made.now.variables.items c.args.made.now.spec.items c.args.made.now.imp.items c.requires.count c.requires.variables c.requires.cells fs gs given there) (there_occur c.functions.ensures c.making.ensures c.args.d.now.store c.args.pair.now c.imp-imp_net.ensures.kept c.requires.vars c.args.made.now.variables.items c.args.made.now.spec.items c.args.made.now.imp.items c.requires.count c.requires.variables c.requires.cells fs gs given there) in
+    let reported : IsErrOf c.from_residual-in_err-any.result Nodes → AreTooMany s (all s.vars (is_missed imp) (length fs)) = search (rules, more) in
+    λ full. subst₂ (λ n count. AreTooMany s (all n (is_missed imp) count)) (sym c.requires.vars) (pin_count_is c.functions.ensures c.making.ensures c.args.d.now.store c.args.pair.now c.imp-imp_net.ensures.kept c.requires.vars c.args.made.now.variables.items c.args.made.now.spec.items c.args.made.now.imp.items c.requires.count c.requires.variables c.requires.cells fs gs given there) (reported full)
 
 pub returns-clause-result : goal.returns-clause-result
 returns-clause-result c =
@@ -95,8 +95,8 @@ returns-clause-result c =
     let there : gs ≡ map (ref_at c.args.made.now.imp.items) (in_places imp.boxes) =
     picks_are c.args.made.now.imp.items c.deref-3.result.now c.in_ok-there.there.items gs (in_places imp.boxes) c.deref-4.result.now c.in_ok-places.places.items c.deref-6.ensures.value c.in_ok-there.ensures c.deref-3.ensures.value c.deref-4.ensures.value places in
     let new = c.some_differ.new.d.store in
-    subst₂ (λ n count. StandsFor new (table n (one_of (is_missed imp) count)) c.in_ok-any.any) (sym c.requires.vars) (pin_count_is c.functions.ensures c.making.ensures c.args.d.now.store c.args.pair.now c.imp-imp_net.ensures.kept c.requires.vars c.args.made.now.variables.items c.args.made.now.spec.items c.args.made.now.imp.items c.requires.count c.requires.variables c.requires.cells fs gs given there)
-    (c.in_ok-any.ensures.result (bits c.functions.ensures c.making.ensures c.args.d.now.store c.args.pair.now c.imp-imp_net.ensures.kept c.requires.vars c.args.made.now.variables.items c.args.made.now.spec.items c.args.made.now.imp.items c.requires.count c.requires.variables c.requires.cells) (cells c.functions.ensures c.making.ensures c.args.d.now.store c.args.pair.now c.imp-imp_net.ensures.kept c.requires.vars c.args.made.now.variables.items c.args.made.now.spec.items c.args.made.now.imp.items c.requires.count c.requires.variables c.requires.cells) (given_stand c.functions.ensures c.making.ensures c.args.d.now.store c.args.pair.now c.imp-imp_net.ensures.kept c.requires.vars c.args.made.now.variables.items c.args.made.now.spec.items c.args.made.now.imp.items c.requires.count c.requires.variables c.requires.cells fs gs given there) (there_stand c.functions.ensures c.making.ensures c.args.d.now.store c.args.pair.now c.imp-imp_net.ensures.kept c.requires.vars c.args.made.now.variables.items c.args.made.now.spec.items c.args.made.now.imp.items c.requires.count c.requires.variables c.requires.cells fs gs given there))
+    subst₂ (λ n count. Represents new (table n (one_of (is_missed imp) count)) c.in_ok-any.any) (sym c.requires.vars) (pin_count_is c.functions.ensures c.making.ensures c.args.d.now.store c.args.pair.now c.imp-imp_net.ensures.kept c.requires.vars c.args.made.now.variables.items c.args.made.now.spec.items c.args.made.now.imp.items c.requires.count c.requires.variables c.requires.cells fs gs given there)
+    (c.in_ok-any.ensures.result (bits c.functions.ensures c.making.ensures c.args.d.now.store c.args.pair.now c.imp-imp_net.ensures.kept c.requires.vars c.args.made.now.variables.items c.args.made.now.spec.items c.args.made.now.imp.items c.requires.count c.requires.variables c.requires.cells) (cells c.functions.ensures c.making.ensures c.args.d.now.store c.args.pair.now c.imp-imp_net.ensures.kept c.requires.vars c.args.made.now.variables.items c.args.made.now.spec.items c.args.made.now.imp.items c.requires.count c.requires.variables c.requires.cells) (given_occur c.functions.ensures c.making.ensures c.args.d.now.store c.args.pair.now c.imp-imp_net.ensures.kept c.requires.vars c.args.made.now.variables.items c.args.made.now.spec.items c.args.made.now.imp.items c.requires.count c.requires.variables c.requires.cells fs gs given there) (there_occur c.functions.ensures c.making.ensures c.args.d.now.store c.args.pair.now c.imp-imp_net.ensures.kept c.requires.vars c.args.made.now.variables.items c.args.made.now.spec.items c.args.made.now.imp.items c.requires.count c.requires.variables c.requires.cells fs gs given there))
 
 pub returns-clause-makes : goal.returns-clause-makes
 returns-clause-makes c =
@@ -111,4 +111,4 @@ returns-clause-makes c =
     picks_are c.args.made.now.imp.items c.deref-3.result.now c.in_ok-there.there.items gs (in_places imp.boxes) c.deref-4.result.now c.in_ok-places.places.items c.deref-6.ensures.value c.in_ok-there.ensures c.deref-3.ensures.value c.deref-4.ensures.value places in
     let s = c.args.d.now.store in
     subst₂ (λ n count. Makes s c.some_differ.new.d.store (all n (is_missed imp) count)) (sym c.requires.vars) (pin_count_is c.functions.ensures c.making.ensures c.args.d.now.store c.args.pair.now c.imp-imp_net.ensures.kept c.requires.vars c.args.made.now.variables.items c.args.made.now.spec.items c.args.made.now.imp.items c.requires.count c.requires.variables c.requires.cells fs gs given there)
-    (c.in_ok-any.ensures.makes (bits c.functions.ensures c.making.ensures c.args.d.now.store c.args.pair.now c.imp-imp_net.ensures.kept c.requires.vars c.args.made.now.variables.items c.args.made.now.spec.items c.args.made.now.imp.items c.requires.count c.requires.variables c.requires.cells) (cells c.functions.ensures c.making.ensures c.args.d.now.store c.args.pair.now c.imp-imp_net.ensures.kept c.requires.vars c.args.made.now.variables.items c.args.made.now.spec.items c.args.made.now.imp.items c.requires.count c.requires.variables c.requires.cells) (given_stand c.functions.ensures c.making.ensures c.args.d.now.store c.args.pair.now c.imp-imp_net.ensures.kept c.requires.vars c.args.made.now.variables.items c.args.made.now.spec.items c.args.made.now.imp.items c.requires.count c.requires.variables c.requires.cells fs gs given there) (there_stand c.functions.ensures c.making.ensures c.args.d.now.store c.args.pair.now c.imp-imp_net.ensures.kept c.requires.vars c.args.made.now.variables.items c.args.made.now.spec.items c.args.made.now.imp.items c.requires.count c.requires.variables c.requires.cells fs gs given there))
+    (c.in_ok-any.ensures.makes (bits c.functions.ensures c.making.ensures c.args.d.now.store c.args.pair.now c.imp-imp_net.ensures.kept c.requires.vars c.args.made.now.variables.items c.args.made.now.spec.items c.args.made.now.imp.items c.requires.count c.requires.variables c.requires.cells) (cells c.functions.ensures c.making.ensures c.args.d.now.store c.args.pair.now c.imp-imp_net.ensures.kept c.requires.vars c.args.made.now.variables.items c.args.made.now.spec.items c.args.made.now.imp.items c.requires.count c.requires.variables c.requires.cells) (given_occur c.functions.ensures c.making.ensures c.args.d.now.store c.args.pair.now c.imp-imp_net.ensures.kept c.requires.vars c.args.made.now.variables.items c.args.made.now.spec.items c.args.made.now.imp.items c.requires.count c.requires.variables c.requires.cells fs gs given there) (there_occur c.functions.ensures c.making.ensures c.args.d.now.store c.args.pair.now c.imp-imp_net.ensures.kept c.requires.vars c.args.made.now.variables.items c.args.made.now.spec.items c.args.made.now.imp.items c.requires.count c.requires.variables c.requires.cells fs gs given there))

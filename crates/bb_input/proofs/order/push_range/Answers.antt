@@ -1,6 +1,6 @@
 use Rattle.std.proofs.Common.{◌+◌, ◌++◌, ◌∷◌, [], ap, sym, ◌∙◌, append_assoc}
 use Rattle.std.specs.List.{range_with_len}
-use Rattle.bb_lists.proofs.Ranges.{range_last}
+use Rattle.bb_lemmas.proofs.Ranges.{range_last}
 use Rattle.bb_input.proofs.order.push_range.Goals as goal
 
 pub loop-k-preserved : goal.loop-k-preserved

@@ -3,7 +3,7 @@ use Rattle.bb_bits.specs.Truth.{variable}
 use Rattle.bb_net.specs.Netlists.{Netlist}
 use Rattle.bb_sym.specs.declared.fault.RungFault.TheVariants.{Nodes}
 use Rattle.bb_sym.specs.Plain.{AreVariables, IsReadSo, plain_functions_at}
-use Rattle.bb_sym.specs.Inside.Made.{Makes, AreTooMany, StandForAll, HaveCells}
+use Rattle.bb_sym.specs.Inside.Made.{Makes, AreTooMany, RepresentAll, HaveCells}
 use Rattle.bb_input.specs.InputFunctions.{boxes_first}
 use Rattle.bb_input.proofs.Readings.{order_variables, order_read}
 use Rattle.bb_input.proofs.refuting.ordered_cells.Goals as goal
@@ -20,9 +20,9 @@ returns-in_err-made-clause-nodes c =
     let imp = c.args.pair.now.imp in
     let reads = subst₂ (λ k (net : Netlist). IsReadSo s.vars k c.args.starts.now net (boxes_first imp)) (sym c.requires.pins) (sym c.imp-imp.ensures.imp) (order_read c.args.pair.now.imp c.args.d.now.store.vars (omega (arith, c.requires.few, c.requires.store)) (sym c.requires.store ∙ c.requires.vars) c.args.starts.now c.requires.count c.requires.starts) in
     let more = c.in_err-made.ensures.nodes (boxes_first imp) reads in
-    let told : IsErrOf c.from_residual.result Nodes → AreTooMany s (plain_functions_at s.vars (boxes_first imp) c.spec-spec.result.now c.imp-imp.result.now) = search (rules, more) in
+    let reported : IsErrOf c.from_residual.result Nodes → AreTooMany s (plain_functions_at s.vars (boxes_first imp) c.spec-spec.result.now c.imp-imp.result.now) = search (rules, more) in
     λ full. subst (λ n. AreTooMany s (plain_functions_at n (boxes_first imp) spec imp)) (sym c.requires.store ∙ c.requires.vars)
-    (subst₂ (λ (a b : Netlist). AreTooMany s (plain_functions_at s.vars (boxes_first imp) a b)) c.spec-spec.ensures.spec c.imp-imp.ensures.imp (told full))
+    (subst₂ (λ (a b : Netlist). AreTooMany s (plain_functions_at s.vars (boxes_first imp) a b)) c.spec-spec.ensures.spec c.imp-imp.ensures.imp (reported full))
 
 pub returns-clause-variables : goal.returns-clause-variables
 returns-clause-variables c =
@@ -33,7 +33,7 @@ returns-clause-variables c =
     let kept = (c.in_ok-made.ensures.makes (boxes_first imp) reads).kept.vars in
     let h = c.in_ok-made.ensures.variables in (
       h.0 ∙ sym kept,
-      subst (λ n. StandForAll new (variable n) c.in_ok-made.made.variables.items) (sym kept) h.1,
+      subst (λ n. RepresentAll new (variable n) c.in_ok-made.made.variables.items) (sym kept) h.1,
     )
 
 pub returns-clause-cells : goal.returns-clause-cells

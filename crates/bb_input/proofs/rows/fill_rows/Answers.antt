@@ -22,8 +22,8 @@ loop-row-preserved c =
     let low : row < 2 ^ own = grind (arith, common_steps) in
     let number : number_of (take own old) ≡ row = c.loop-row.invariant.3 low in
     let long : length new ≡ n = c.fill_row.ensures.len ∙ c.loop-row.invariant.2 in
-    let front : length (take k new) ≡ k = omega (arith, length-take k new, long, inputs, c.requires.pins) in
-    let wide : length bits ≡ k = c.count_up.ensures.len ∙ front in
+    let prefix : length (take k new) ≡ k = omega (arith, length-take k new, long, inputs, c.requires.pins) in
+    let wide : length bits ≡ k = c.count_up.ensures.len ∙ prefix in
     let begins : take k new ≡ take own old = ap (λ j. take j new) (inputs ∙ sym kept) ∙ (c.fill_row.ensures.begins ∙ ap (λ j. take j old) kept) in
     let same_inputs : c.fill_row.new.table.inputs ≡ own = c.fill_row.ensures.inputs ∙ kept in
     let first = take c.fill_row.new.table.inputs old in (
@@ -31,7 +31,7 @@ loop-row-preserved c =
       c.fill_row.ensures.outputs ∙ c.loop-row.invariant.1,
       (let whole : length (bits ++ drop k new) ≡ n = omega (arith, length-append bits (drop k new), wide, length-drop k new, long, inputs, c.requires.pins) in whole),
       λ below.
-          let power : 2 ^ length (take k new) ≡ 2 ^ own = ap (λ j. 2 ^ j) (front ∙ inputs) in
+          let power : 2 ^ length (take k new) ≡ 2 ^ own = ap (λ j. 2 ^ j) (prefix ∙ inputs) in
           let value : number_of (take k new) ≡ row = ap number_of begins ∙ number in
           let counted = c.count_up.ensures.next (omega (arith, below, power, value)) in
           ap number_of (ap (λ j. take j (bits ++ drop k new)) (sym (wide ∙ inputs)) ∙ take-append_seam bits (drop k new)) ∙ (counted ∙ ap (λ j. j + 1) value),

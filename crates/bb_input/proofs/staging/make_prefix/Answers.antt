@@ -11,9 +11,9 @@ pub returns-in_err-made-clause-nodes : goal.returns-in_err-made-clause-nodes
 returns-in_err-made-clause-nodes c =
     let s = c.in_ok-d.d.store in
     let fs = input_functions c.args.pair.now.spec c.args.pair.now.imp in
-    let told : IsErrOf c.from_residual-in_err-made.result Nodes → AreTooMany s fs = search rules in
+    let reported : IsErrOf c.from_residual-in_err-made.result Nodes → AreTooMany s fs = search rules in
     λ full. subst (HasMoreThan (IsBeadOfAny fs)) (ap (λ (d : DiagramState). d.store.limit) c.in_ok-d.ensures.ok)
-    (c.making.ensures.start_refused s fs (ap (λ (d : DiagramState). d.store.nodes) c.in_ok-d.ensures.ok) (told full))
+    (c.making.ensures.start_refused s fs (ap (λ (d : DiagramState). d.store.nodes) c.in_ok-d.ensures.ok) (reported full))
 
 pub returns-clause-within : goal.returns-clause-within
 returns-clause-within c =

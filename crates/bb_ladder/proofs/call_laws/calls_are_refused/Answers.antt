@@ -1,9 +1,9 @@
-use Rattle.bb_ladder.proofs.CallRefusalLaws.{call_refusals_are_one, refusals_are_told, refused_calls_are_told}
+use Rattle.bb_ladder.proofs.CallRefusalLaws.{call_refusals_are_one, refusals_are_reported, refused_calls_are_reported}
 use Rattle.bb_ladder.proofs.call_laws.calls_are_refused.Goals as goal
 
 pub returns : goal.returns
 returns c = record {
-  once = call_refusals_are_one c.words_ask_once.ensures c.refutations_are_answered.ensures c.refusals_are_one.ensures;
-  refusals = refusals_are_told c.answers_are_meant.ensures.refusals c.refutations_are_answered.ensures;
-  refused = refused_calls_are_told c.words_ask_once.ensures c.refutations_are_answered.ensures c.answers_are_meant.ensures.refused;
+  once = call_refusals_are_one c.words_request_once.ensures c.refutations_are_answered.ensures c.refusals_are_one.ensures;
+  refusals = refusals_are_reported c.answers_are_meant.ensures.refusals c.refutations_are_answered.ensures;
+  refused = refused_calls_are_reported c.words_request_once.ensures c.refutations_are_answered.ensures c.answers_are_meant.ensures.refused;
 }

@@ -10,22 +10,22 @@ pub returns-clause-calm : goal.returns-clause-calm
 returns-clause-calm c = λ from. never_failed from _ _ refl refl
 
 pub returns-clause-repairable : goal.returns-clause-repairable
-returns-clause-repairable c = λ answered from asked spec imp texts.
-    let (text, written, (report, same, holds)) = c.run.ensures.repairable answered from asked spec imp texts in (report, holds)
+returns-clause-repairable c = λ answered from requested spec imp texts.
+    let (text, written, (report, same, holds)) = c.run.ensures.repairable answered from requested spec imp texts in (report, holds)
 
 pub returns-clause-shown : goal.returns-clause-shown
-returns-clause-shown c = λ answered from asked spec imp texts.
-    let (text, written, (report, same, holds)) = c.run.ensures.shown answered from asked spec imp texts in (report, holds)
+returns-clause-shown c = λ answered from requested spec imp texts.
+    let (text, written, (report, same, holds)) = c.run.ensures.shown answered from requested spec imp texts in (report, holds)
 
 pub returns-clause-open_report : goal.returns-clause-open_report
-returns-clause-open_report c = λ answered from asked spec imp texts.
-    let (text, written, (report, same, holds)) = c.run.ensures.open_report answered from asked spec imp texts in (report, holds)
+returns-clause-open_report c = λ answered from requested spec imp texts.
+    let (text, written, (report, same, holds)) = c.run.ensures.open_report answered from requested spec imp texts in (report, holds)
 
 pub returns-clause-stays_open : goal.returns-clause-stays_open
-returns-clause-stays_open c = λ from asked spec imp texts short low calm left. c.run.ensures.stays_open from asked spec imp texts short low calm left never_rose
+returns-clause-stays_open c = λ from requested spec imp texts short low calm left. c.run.ensures.stays_open from requested spec imp texts short low calm left never_rose
 
 pub returns-clause-decided : goal.returns-clause-decided
-returns-clause-decided c = λ from asked spec imp texts short low calm decides. c.run.ensures.decided from asked spec imp texts short low calm decides never_rose
+returns-clause-decided c = λ from requested spec imp texts short low calm decides. c.run.ensures.decided from requested spec imp texts short low calm decides never_rose
 
 pub returns-clause-refuted_yes : goal.returns-clause-refuted_yes
 returns-clause-refuted_yes c = λ zero from f first second texts. (c.run.ensures.refuted_yes zero from f first second texts).1
@@ -43,4 +43,4 @@ pub returns-clause-stays_refused : goal.returns-clause-stays_refused
 returns-clause-stays_refused c = λ line refused. left_first (c.run.ensures.stays_refused Held line refused never_rose never_rose)
 
 pub returns-clause-reads_nothing : goal.returns-clause-reads_nothing
-returns-clause-reads_nothing c = λ m asks. (c.run.ensures.reads_nothing m asks).0
+returns-clause-reads_nothing c = λ m requests. (c.run.ensures.reads_nothing m requests).0

@@ -7,15 +7,15 @@ use Rattle.bb_ladder.proofs.running.answer.Goals as goal
 
 pub returns-in-Ok-Files-clause-answer : goal.returns-in-Ok-Files-clause-answer
 returns-in-Ok-Files-clause-answer g c =
-    let asks = rw c.in-Ok-Files.field-0-is at c.in-Ok-Files.ensures.job in
-    IfOk-weaker _ _ _ (λ (a : Answer) e. may_answer _ c.in-Ok-Files.question.spec.now c.in-Ok-Files.question.imp.now c.in-Ok-Files.question.task a.status a.report.items asks e) c.read_spec.ensures.answer
+    let requests = rw c.in-Ok-Files.field-0-is at c.in-Ok-Files.ensures.job in
+    IfOk-weaker _ _ _ (λ (a : Answer) e. may_answer _ c.in-Ok-Files.pair_request.spec.now c.in-Ok-Files.pair_request.imp.now c.in-Ok-Files.pair_request.task a.status a.report.items requests e) c.read_spec.ensures.answer
 
 pub returns-in-Ok-Files-clause-reads_nothing : goal.returns-in-Ok-Files-clause-reads_nothing
 returns-in-Ok-Files-clause-reads_nothing g c = λ m makes.
-    let asks = rw c.in-Ok-Files.field-0-is at c.in-Ok-Files.ensures.job in
-    absurd (task_or_pair c.words_ask_once.ensures (map string_bytes c.args.words.now) c.in-Ok-Files.question.spec.now c.in-Ok-Files.question.imp.now c.in-Ok-Files.question.task m asks makes)
+    let requests = rw c.in-Ok-Files.field-0-is at c.in-Ok-Files.ensures.job in
+    absurd (task_or_pair c.words_request_once.ensures (map string_bytes c.args.words.now) c.in-Ok-Files.pair_request.spec.now c.in-Ok-Files.pair_request.imp.now c.in-Ok-Files.pair_request.task m requests makes)
 
 pub returns-in-Ok-Made-clause-answer : goal.returns-in-Ok-Made-clause-answer
 returns-in-Ok-Made-clause-answer g c =
-    let asks = rw c.in-Ok-Made.field-0-is at c.in-Ok-Made.ensures.job in
-    IfOk-weaker _ _ _ (λ (a : Answer) e. Making (record { n = c.in-Ok-Made.n; fill = c.in-Ok-Made.fill; options = c.in-Ok-Made.options }) asks refl e) c.judge_made.ensures.answer
+    let requests = rw c.in-Ok-Made.field-0-is at c.in-Ok-Made.ensures.job in
+    IfOk-weaker _ _ _ (λ (a : Answer) e. Making (record { n = c.in-Ok-Made.n; fill = c.in-Ok-Made.fill; options = c.in-Ok-Made.options }) requests refl e) c.judge_made.ensures.answer

@@ -1,6 +1,6 @@
 use Rattle.std.proofs.Common.{◌≡◌, ◌<◌, length, vec_len, arith}
 use Rattle.std.proofs.lemmas.Result.{IfOk-weaker}
-use Rattle.bb_texts.specs.declared.limit.TheConstants.{READ_LIMIT}
+use Rattle.bb_frontend.specs.declared.limit.TheConstants.{READ_LIMIT}
 use Rattle.bb_ladder.specs.Answers.{ImpLong, BothRead}
 use Rattle.bb_ladder.proofs.running.read_imp.Goals as goal
 

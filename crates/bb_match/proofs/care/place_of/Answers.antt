@@ -3,7 +3,7 @@ use Rattle.std.proofs.lemmas.List.{take_all}
 use Rattle.std.proofs.lemmas.List.Elements.{All-contains}
 use Rattle.std.proofs.lemmas.Option.{slice_get-get_or}
 use Rattle.std.proofs.lemmas.Slice.Eq.{bytes_eq-Decides}
-use Rattle.bb_lists.proofs.Names.{same_equal}
+use Rattle.bb_lemmas.proofs.Names.{same_equal}
 use Rattle.bb_match.proofs.Loops.{all_more}
 use Rattle.bb_match.proofs.care.place_of.Goals as goal
 

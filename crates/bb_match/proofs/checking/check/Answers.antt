@@ -1,12 +1,12 @@
 use Rattle.std.proofs.Common.{◌≡◌, ◌+◌, ◌<◌, ◌≤◌, [], All, ◌∙◌, subst, inr}
 use Rattle.std.specs.Prelude.{IsSome, None}
-use Rattle.bb_lists.proofs.Tests.{if_err}
+use Rattle.bb_lemmas.proofs.Tests.{if_err}
 use Rattle.bb_net.specs.Pairs.{pin_count}
 use Rattle.bb_match.specs.declared.fault.MatchFault.TheVariants.{PortDiffers, RegDiffers, TooManyPins}
 use Rattle.bb_net.specs.CutPoints.{register_texts}
 use Rattle.bb_match.specs.Refusals.{AreAmong, Box, SpecInput, SpecOutput, ImpInput, ImpOutput, SpecRegister, ImpRegister, SpecClock, ImpClock, Clocks, Pins, Fit, most_pins}
 use Rattle.bb_match.proofs.Decisions.{none_at_first, none_more, fit_from}
-use Rattle.bb_match.proofs.CheckLemmas.{if_err_weaker, on_ok_weaker, MayRefuse, past_care, refusal, Missing, WithBox, box_told, WithoutClock, clock_told}
+use Rattle.bb_match.proofs.CheckLemmas.{if_err_weaker, on_ok_weaker, MayRefuse, past_care, refusal, Missing, WithBox, box_reported, WithoutClock, clock_reported}
 use Rattle.bb_match.proofs.checking.check.Goals as goal
 
 pub returns-in_err-check_boxes-clause-fault : goal.returns-in_err-check_boxes-clause-fault
@@ -14,7 +14,7 @@ returns-in_err-check_boxes-clause-fault c =
     let spec = c.args.spec.now in
     let imp = c.args.imp.now in
     let fault = c.in_err-check_boxes.field-0.0 in
-    if_err c.from_residual.result (MayRefuse None spec imp) fault c.from_residual.ensures.1 (refusal None spec imp Box fault (none_at_first None spec imp) (box_told None spec imp fault (subst (WithBox fault) c.boxes.ensures.boxes c.in_err-check_boxes.ensures.fault)))
+    if_err c.from_residual.result (MayRefuse None spec imp) fault c.from_residual.ensures.1 (refusal None spec imp Box fault (none_at_first None spec imp) (box_reported None spec imp fault (subst (WithBox fault) c.boxes.ensures.boxes c.in_err-check_boxes.ensures.fault)))
 
 pub returns-in_err-check_ports-clause-fault : goal.returns-in_err-check_ports-clause-fault
 returns-in_err-check_ports-clause-fault c =
@@ -91,7 +91,7 @@ returns-in_err-check_clocks-clause-fault c =
     let b6 = none_more None spec imp SpecRegister b5 (subst (λ t. AreAmong t (register_texts imp)) (c.deref.ensures.value ∙ c.requires.of_spec.texts) (c.in_ok-check_registers.ensures.ok (register_texts imp) c.requires.of_imp.regs)) in
     let b7 = none_more None spec imp ImpRegister b6 (subst (λ t. AreAmong t (register_texts spec)) (c.deref-2.ensures.value ∙ c.requires.of_imp.texts) (c.in_ok-check_registers-2.ensures.ok (register_texts spec) c.requires.of_spec.regs)) in
     let fault = c.in_err-check_clocks.field-0.0 in
-    if_err c.from_residual-in_err-check_clocks.result (MayRefuse None spec imp) fault c.from_residual-in_err-check_clocks.ensures.1 (refusal None spec imp SpecClock fault b7 (clock_told spec fault (subst (WithoutClock fault) c.regs.ensures.regs c.in_err-check_clocks.ensures.fault)))
+    if_err c.from_residual-in_err-check_clocks.result (MayRefuse None spec imp) fault c.from_residual-in_err-check_clocks.ensures.1 (refusal None spec imp SpecClock fault b7 (clock_reported spec fault (subst (WithoutClock fault) c.regs.ensures.regs c.in_err-check_clocks.ensures.fault)))
 
 pub returns-in_err-check_clocks-2-clause-fault : goal.returns-in_err-check_clocks-2-clause-fault
 returns-in_err-check_clocks-2-clause-fault c =
@@ -106,10 +106,10 @@ returns-in_err-check_clocks-2-clause-fault c =
     let b7 = none_more None spec imp ImpRegister b6 (subst (λ t. AreAmong t (register_texts spec)) (c.deref-2.ensures.value ∙ c.requires.of_imp.texts) (c.in_ok-check_registers-2.ensures.ok (register_texts spec) c.requires.of_spec.regs)) in
     let b8 = none_more None spec imp SpecClock b7 (subst (λ l. All (λ r. IsSome r.clock) l) c.regs.ensures.regs c.in_ok-check_clocks.ensures.ok) in
     let fault = c.in_err-check_clocks-2.field-0.0 in
-    if_err c.from_residual-in_err-check_clocks-2.result (MayRefuse None spec imp) fault c.from_residual-in_err-check_clocks-2.ensures.1 (refusal None spec imp ImpClock fault b8 (clock_told imp fault (subst (WithoutClock fault) c.regs-2.ensures.regs c.in_err-check_clocks-2.ensures.fault)))
+    if_err c.from_residual-in_err-check_clocks-2.result (MayRefuse None spec imp) fault c.from_residual-in_err-check_clocks-2.ensures.1 (refusal None spec imp ImpClock fault b8 (clock_reported imp fault (subst (WithoutClock fault) c.regs-2.ensures.regs c.in_err-check_clocks-2.ensures.fault)))
 
-pub returns-in_err-check_clocks_alike-clause-fault : goal.returns-in_err-check_clocks_alike-clause-fault
-returns-in_err-check_clocks_alike-clause-fault c =
+pub returns-in_err-check_same_clocks-clause-fault : goal.returns-in_err-check_same_clocks-clause-fault
+returns-in_err-check_same_clocks-clause-fault c =
     let spec = c.args.spec.now in
     let imp = c.args.imp.now in
     let b1 = past_care spec imp (subst (λ l. l ≡ []) c.boxes.ensures.boxes c.in_ok-check_boxes.ensures.ok) in
@@ -121,8 +121,8 @@ returns-in_err-check_clocks_alike-clause-fault c =
     let b7 = none_more None spec imp ImpRegister b6 (subst (λ t. AreAmong t (register_texts spec)) (c.deref-2.ensures.value ∙ c.requires.of_imp.texts) (c.in_ok-check_registers-2.ensures.ok (register_texts spec) c.requires.of_spec.regs)) in
     let b8 = none_more None spec imp SpecClock b7 (subst (λ l. All (λ r. IsSome r.clock) l) c.regs.ensures.regs c.in_ok-check_clocks.ensures.ok) in
     let b9 = none_more None spec imp ImpClock b8 (subst (λ l. All (λ r. IsSome r.clock) l) c.regs-2.ensures.regs c.in_ok-check_clocks-2.ensures.ok) in
-    let fault = c.in_err-check_clocks_alike.field-0.0 in
-    if_err c.from_residual-in_err-check_clocks_alike.result (MayRefuse None spec imp) fault c.from_residual-in_err-check_clocks_alike.ensures.1 (refusal None spec imp Clocks fault b9 (c.in_err-check_clocks_alike.ensures.fault))
+    let fault = c.in_err-check_same_clocks.field-0.0 in
+    if_err c.from_residual-in_err-check_same_clocks.result (MayRefuse None spec imp) fault c.from_residual-in_err-check_same_clocks.ensures.1 (refusal None spec imp Clocks fault b9 (c.in_err-check_same_clocks.ensures.fault))
 
 pub returns-clause-ok : goal.returns-clause-ok
 returns-clause-ok c =
@@ -137,7 +137,7 @@ returns-clause-ok c =
     let b7 = none_more None spec imp ImpRegister b6 (subst (λ t. AreAmong t (register_texts spec)) (c.deref-2.ensures.value ∙ c.requires.of_imp.texts) (c.in_ok-check_registers-2.ensures.ok (register_texts spec) c.requires.of_spec.regs)) in
     let b8 = none_more None spec imp SpecClock b7 (subst (λ l. All (λ r. IsSome r.clock) l) c.regs.ensures.regs c.in_ok-check_clocks.ensures.ok) in
     let b9 = none_more None spec imp ImpClock b8 (subst (λ l. All (λ r. IsSome r.clock) l) c.regs-2.ensures.regs c.in_ok-check_clocks-2.ensures.ok) in
-    let b10 = none_more None spec imp Clocks b9 (c.in_ok-check_clocks_alike.ensures.ok) in
+    let b10 = none_more None spec imp Clocks b9 (c.in_ok-check_same_clocks.ensures.ok) in
     on_ok_weaker c.check_pins.result (c.net.result.now.inputs + pin_count c.net.result.now.boxes ≤ most_pins) (Fit None spec imp)
     (λ few. fit_from None spec imp (none_more None spec imp Pins b10 (subst (λ n. n.inputs + pin_count n.boxes ≤ most_pins) c.net.ensures.net few))) c.check_pins.ensures.ok
 
@@ -154,6 +154,6 @@ returns-clause-fault c =
     let b7 = none_more None spec imp ImpRegister b6 (subst (λ t. AreAmong t (register_texts spec)) (c.deref-2.ensures.value ∙ c.requires.of_imp.texts) (c.in_ok-check_registers-2.ensures.ok (register_texts spec) c.requires.of_spec.regs)) in
     let b8 = none_more None spec imp SpecClock b7 (subst (λ l. All (λ r. IsSome r.clock) l) c.regs.ensures.regs c.in_ok-check_clocks.ensures.ok) in
     let b9 = none_more None spec imp ImpClock b8 (subst (λ l. All (λ r. IsSome r.clock) l) c.regs-2.ensures.regs c.in_ok-check_clocks-2.ensures.ok) in
-    let b10 = none_more None spec imp Clocks b9 (c.in_ok-check_clocks_alike.ensures.ok) in
+    let b10 = none_more None spec imp Clocks b9 (c.in_ok-check_same_clocks.ensures.ok) in
     if_err_weaker c.check_pins.result (λ fault. (fault ≡ TooManyPins) × (most_pins < c.net.result.now.inputs + pin_count c.net.result.now.boxes)) (MayRefuse None spec imp)
-    (λ fault told. refusal None spec imp Pins fault b10 (inr ([], told.0, subst (λ n. most_pins < n.inputs + pin_count n.boxes) c.net.ensures.net told.1))) c.check_pins.ensures.fault
+    (λ fault reported. refusal None spec imp Pins fault b10 (inr ([], reported.0, subst (λ n. most_pins < n.inputs + pin_count n.boxes) c.net.ensures.net reported.1))) c.check_pins.ensures.fault

@@ -1,7 +1,7 @@
 use Rattle.std.proofs.Common.{not, ap, ◌∙◌, subst, All}
 use Rattle.std.specs.Prelude.{IsSome}
 use Rattle.std.proofs.lemmas.List.{take_all}
-use Rattle.bb_lists.proofs.Tests.{none_of}
+use Rattle.bb_lemmas.proofs.Tests.{none_of}
 use Rattle.bb_match.specs.Refusals.{HasNoClock}
 use Rattle.bb_match.proofs.RefusalLaws.{none_is_not_some}
 use Rattle.bb_match.proofs.Loops.{first_at, all_more}

@@ -1,5 +1,5 @@
 use Rattle.std.proofs.Common.{None, refl, inl}
-use Rattle.bb_lists.proofs.Tests.{if_err}
+use Rattle.bb_lemmas.proofs.Tests.{if_err}
 use Rattle.bb_match.specs.declared.fault.MatchFault.TheVariants.{NoMemory}
 use Rattle.bb_match.proofs.CheckLemmas.{MayRefuse}
 use Rattle.bb_match.proofs.pairing.index_and_number.Goals as goal

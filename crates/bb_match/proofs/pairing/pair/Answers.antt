@@ -1,6 +1,6 @@
 use Rattle.std.proofs.Common.{◌≡◌, ◌⊎◌, subst}
 use Rattle.std.specs.Prelude.{option_copied}
-use Rattle.bb_lists.proofs.Tests.{if_err}
+use Rattle.bb_lemmas.proofs.Tests.{if_err}
 use Rattle.bb_match.specs.declared.fault.MatchFault.TheVariants.{NoMemory}
 use Rattle.bb_match.specs.Pairing.{IsPairOf}
 use Rattle.bb_match.proofs.CarePairs.{pair_small, pairs_fit, plain_small}

@@ -22,7 +22,7 @@ loop-start-preserved c =
             before.0,
             λ j l. elim (cases_lt j start) [
               | inl earlier ↦ before.1 j earlier
-              | inr behind ↦ in_part vec_items (SameAt spec imp) patterns start n j (omega (arith, c.min-end.ensures, c.loop-start-test.true)) here.1 behind (omega (arith, l, behind))
+              | inr afterwards ↦ in_part vec_items (SameAt spec imp) patterns start n j (omega (arith, c.min-end.ensures, c.loop-start-test.true)) here.1 afterwards (omega (arith, l, afterwards))
             ],
           );
     }

@@ -4,7 +4,7 @@ use Rattle.std.proofs.lemmas.Bool.{MatchBool-at_true, MatchBool-at_false}
 use Rattle.std.proofs.lemmas.List.{get_or-map, get_or_default, length-map}
 use Rattle.indexmap.specs.IndexSet.{keys}
 use mathlib.Core.Bool.{beq}
-use Rattle.bb_net.specs.Agreement.{SomeWrong, AllRight}
+use Rattle.bb_net.specs.Equivalence.{SomeWrong, AllRight}
 use Rattle.bb_net.specs.Values.{bit_of, flat}
 use Rattle.bb_tern.specs.Inside.Lanes.{pattern_at}
 use Rattle.bb_miter.specs.Inside.Equivalence.{DiffersAt, SameAt}

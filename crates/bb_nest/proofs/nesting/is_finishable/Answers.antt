@@ -1,5 +1,5 @@
 use Rattle.std.proofs.Common.{◌≡◌, ◌∙◌, ◌^◌, false, ap, subst, subst₂, inl, inr}
-use Rattle.bb_lists.proofs.Members.{either}
+use Rattle.bb_lemmas.proofs.Members.{either}
 use Rattle.bb_net.specs.Completions.{HaveSmallTables, table_bits}
 use Rattle.bb_net.specs.Netlists.{Netlist}
 use Rattle.bb_nest.specs.Inside.Readers.{AllSeeRefs, SomeMissesRef}

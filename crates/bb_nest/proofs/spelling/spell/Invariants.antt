@@ -2,7 +2,7 @@ use Rattle.std.proofs.Common.{◌≡◌, ◌≤◌, ◌+◌, ◌-◌, ◌*◌, �
 use Rattle.bb_bits.specs.Numbers.{number_of}
 use Rattle.bb_nest.proofs.spelling.spell.Given as goal
 
--- the bits behind are those of what is not left
+-- the bits after are those of what is not left
 abbrev pub invariant-loop-i : goal.invariant-loop-i
 invariant-loop-i l = (l.i ≤ length l.fn.bits) × (length l.bits ≡ length l.fn.bits) × (l.left * 2 ^ (length l.fn.bits - l.i) + number_of (drop l.i l.bits) ≡ l.number)
 

@@ -1,9 +1,9 @@
-use Rattle.bb_net.proofs.KindNumbers.{front_in_order, kind_is_count, kind_has_first}
+use Rattle.bb_net.proofs.KindNumbers.{prefix_in_order, kind_is_count, kind_has_first}
 use Rattle.bb_net.proofs.SharedTables.{pins_shown}
 use Rattle.bb_net.proofs.kinds.kinds_are_counted.Goals as goal
 
-pub returns-clause-front : goal.returns-clause-front
-returns-clause-front c = front_in_order
+pub returns-clause-prefix : goal.returns-clause-prefix
+returns-clause-prefix c = prefix_in_order
 
 pub returns-clause-new : goal.returns-clause-new
 returns-clause-new c = kind_is_count

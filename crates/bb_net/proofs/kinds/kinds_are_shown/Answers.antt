@@ -1,6 +1,6 @@
 use Rattle.std.proofs.Common.{refl, length}
 use Rattle.bb_net.proofs.FirstBoxes.{firsts_there, shown_firsts}
-use Rattle.bb_net.proofs.KindNumbers.{shown_counts, shown_stands, shown_places}
+use Rattle.bb_net.proofs.KindNumbers.{shown_counts, shown_occurs, shown_places}
 use Rattle.bb_net.proofs.ShownLists.{shown_again, shown_new}
 use Rattle.bb_net.proofs.kinds.kinds_are_shown.Goals as goal
 
@@ -8,7 +8,7 @@ pub returns-clause-count : goal.returns-clause-count
 returns-clause-count c start = λ kinds xs k ordered len. shown_counts kinds xs ordered len k
 
 pub returns-clause-first : goal.returns-clause-first
-returns-clause-first c start = λ kinds xs none b ordered len h first. shown_stands kinds xs none ordered len b h first
+returns-clause-first c start = λ kinds xs none b ordered len h first. shown_occurs kinds xs none ordered len b h first
 
 pub returns-clause-again : goal.returns-clause-again
 returns-clause-again c start = shown_again

@@ -5,7 +5,7 @@ use Rattle.std.proofs.lemmas.List.Sums.{sum_by_push}
 use Rattle.bb_net.specs.Completions.{table_bits}
 use Rattle.bb_net.specs.Kinds.{FitKinds, shown}
 use Rattle.bb_net.specs.Netlists.{Pins, box_at}
-use Rattle.bb_net.proofs.FirstBoxes.{front_sum, shown_next}
+use Rattle.bb_net.proofs.FirstBoxes.{prefix_sum, shown_next}
 use Rattle.bb_net.proofs.sharing.count_kind_bits.Goals as goal
 use Rattle.bb_net.proofs.sharing.count_kind_bits.Goals.{then-kind-count+in_ok-bits+else-bits-gt-MOST_BITS, else-kind-count}
 
@@ -20,12 +20,12 @@ record NextBits (kinds : List ℕ) (boxes : List Pins) (b : ℕ) : Type 0 where
 
 next_bits : (kinds : List ℕ) (boxes : List Pins) → FitKinds kinds boxes → (b : ℕ) → b < length kinds → get_or kinds b 0 ≡ length (shown (take b kinds) (take b boxes)) → NextBits kinds boxes b
 next_bits kinds boxes fit b h new =
-    let front = shown (take b kinds) (take b boxes) in
-    let more : shown (take (b + 1) kinds) (take (b + 1) boxes) ≡ front ++ box_at boxes b ∷ [] = (shown_next kinds boxes b (record { ins = []; outs = [] }) fit.ordered (sym fit.count) h).new new in
+    let prefix = shown (take b kinds) (take b boxes) in
+    let more : shown (take (b + 1) kinds) (take (b + 1) boxes) ≡ prefix ++ box_at boxes b ∷ [] = (shown_next kinds boxes b (record { ins = []; outs = [] }) fit.ordered (sym fit.count) h).new new in
     record {
-      bits = ap table_bits more ∙ sum_by_push bits_of_box front (box_at boxes b);
-      count = ap length more ∙ length_push front (box_at boxes b);
-      few = front_sum bits_of_box kinds boxes (b + 1);
+      bits = ap table_bits more ∙ sum_by_push bits_of_box prefix (box_at boxes b);
+      count = ap length more ∙ length_push prefix (box_at boxes b);
+      few = prefix_sum bits_of_box kinds boxes (b + 1);
     }
 
 pub overflow_add-count : goal.overflow_add-count

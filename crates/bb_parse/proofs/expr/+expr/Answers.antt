@@ -5,7 +5,7 @@ use Rattle.bb_ast.specs.declared.operators.WordOp.{WordOp}
 use Rattle.bb_ast.specs.declared.expr.Expr.{Expr}
 use Rattle.bb_ast.specs.Inside.Views.{expression, operand_view, arm_view}
 use Rattle.bb_parse.specs.Expressions.{bit_operator, word_operator}
-use Rattle.bb_parse.specs.Inside.Steps.{with_front}
+use Rattle.bb_parse.specs.Inside.Steps.{with_prefix}
 use Rattle.bb_parse.specs.Inside.Expressions.{read_expr, read_level, read_operands, read_arms, with_arms, conditional_from}
 use Rattle.bb_parse.proofs.Levels.{level_zero, level_next, level_alone, level_none}
 use Rattle.bb_parse.proofs.Loops.{loop_begins, loop_stops, loop_ends, loop_fails, loop_goes_on, one_more, operands_begin, operands_stop, operands_end, operands_fail, operands_go_on, arms_begin, arms_end, arms_none, arms_stop, arm_none, arms_go_on, makes_gives, fails_gives}
@@ -41,7 +41,7 @@ exprs-returns t c =
 pub bits-loop-turn-init : goal.bits-loop-turn-init
 bits-loop-turn-init t c =
     operands_begin (bit_operator c.args.row) (read_level c.args.row (read_expr c.args.inner)) c.args.cursor.now c.len-turn-end.result c.len-turn-end.ensures.len
-    ∙ ap (λ items. with_front (map operand_view items) (read_operands (bit_operator c.args.row) (read_level c.args.row (read_expr c.args.inner)) (c.len-turn-end.result - 0) c.args.cursor.now))
+    ∙ ap (λ items. with_prefix (map operand_view items) (read_operands (bit_operator c.args.row) (read_level c.args.row (read_expr c.args.inner)) (c.len-turn-end.result - 0) c.args.cursor.now))
     (sym c.new-rest.ensures.items)
 
 pub bits-returns-in_default : goal.bits-returns-in_default
@@ -70,7 +70,7 @@ bits-returns-in_err-next t c =
 pub words-loop-turn-init : goal.words-loop-turn-init
 words-loop-turn-init t c =
     operands_begin (word_operator c.args.row) (read_level c.args.row (read_expr c.args.inner)) c.args.cursor.now c.len-turn-end.result c.len-turn-end.ensures.len
-    ∙ ap (λ items. with_front (map operand_view items) (read_operands (word_operator c.args.row) (read_level c.args.row (read_expr c.args.inner)) (c.len-turn-end.result - 0) c.args.cursor.now))
+    ∙ ap (λ items. with_prefix (map operand_view items) (read_operands (word_operator c.args.row) (read_level c.args.row (read_expr c.args.inner)) (c.len-turn-end.result - 0) c.args.cursor.now))
     (sym c.new-rest.ensures.items)
 
 pub words-returns-in_default : goal.words-returns-in_default

@@ -1,7 +1,7 @@
 use Rattle.std.proofs.Common.{◌≡◌, ◌+◌, ◌-◌, ◌*◌, length, map, Some}
 use Rattle.bb_ast.specs.Inside.Views.{expression, operand_view, arm_view}
 use Rattle.bb_parse.specs.Expressions.{bit_operator, word_operator}
-use Rattle.bb_parse.specs.Inside.Steps.{with_front, read_list, read_more}
+use Rattle.bb_parse.specs.Inside.Steps.{with_prefix, read_list, read_more}
 use Rattle.bb_parse.specs.Inside.Expressions.{read_expr, read_level, read_operands, read_arms, read_conditional, with_arms, conditional_from}
 use Rattle.bb_parse.proofs.expr.+expr.Given as goal
 
@@ -49,11 +49,11 @@ decreases-words l = 50 * l.inner + (13 + 3 * l.row)
 
 abbrev pub invariant-bits-loop-turn : goal.invariant-bits-loop-turn
 invariant-bits-loop-turn l = read_operands (bit_operator l.row) (read_level l.row (read_expr l.inner)) (length l.fn.cursor) l.fn.cursor
-    ≡ with_front (map operand_view l.rest.items) (read_operands (bit_operator l.row) (read_level l.row (read_expr l.inner)) (l.turn-end - l.turn) l.cursor)
+    ≡ with_prefix (map operand_view l.rest.items) (read_operands (bit_operator l.row) (read_level l.row (read_expr l.inner)) (l.turn-end - l.turn) l.cursor)
 
 abbrev pub invariant-words-loop-turn : goal.invariant-words-loop-turn
 invariant-words-loop-turn l = read_operands (word_operator l.row) (read_level l.row (read_expr l.inner)) (length l.fn.cursor) l.fn.cursor
-    ≡ with_front (map operand_view l.rest.items) (read_operands (word_operator l.row) (read_level l.row (read_expr l.inner)) (l.turn-end - l.turn) l.cursor)
+    ≡ with_prefix (map operand_view l.rest.items) (read_operands (word_operator l.row) (read_level l.row (read_expr l.inner)) (l.turn-end - l.turn) l.cursor)
 
 abbrev pub invariant-level-loop-row : goal.invariant-level-loop-row
 invariant-level-loop-row l = read_level l.row (read_expr l.inner) l.fn.cursor ≡ Some (expression l.value, l.cursor)
@@ -64,4 +64,4 @@ invariant-conditional-loop-turn l = read_conditional (read_expr l.inner) l.fn.cu
 
 abbrev pub invariant-exprs-loop-turn : goal.invariant-exprs-loop-turn
 invariant-exprs-loop-turn l = read_list (read_expr l.depth) l.fn.cursor
-    ≡ with_front (map expression l.parts.items) (read_more (read_expr l.depth) (l.turn-end - l.turn) l.cursor)
+    ≡ with_prefix (map expression l.parts.items) (read_more (read_expr l.depth) (l.turn-end - l.turn) l.cursor)

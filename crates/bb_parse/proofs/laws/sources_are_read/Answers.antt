@@ -2,4 +2,4 @@ use Rattle.bb_parse.proofs.ReadLaws.{sources_are_read}
 use Rattle.bb_parse.proofs.laws.sources_are_read.Goals as goal
 
 pub returns : goal.returns
-returns c = sources_are_read c.read_bits_are_said.ensures c.tokens_stand_in_text.ensures
+returns c = sources_are_read c.read_bits_are_meant.ensures c.tokens_are_in_text.ensures

@@ -1,4 +1,4 @@
--- The last token ends behind its place, which is the last.
+-- The last token ends after its place, which is the last.
 use Rattle.std.proofs.Common.{◌-◌, ◌<◌, arith, ap, length}
 use Rattle.bb_lex.specs.declared.token.Token.{Token}
 use Rattle.bb_parse.proofs.reader.count.Goals as goal

@@ -18,7 +18,7 @@ loop-turn-preserved c =
           ∙ source_next c.args.text.now c.args.count c.loop-turn.turn (option_map module_view c.loop-turn.current) c.loop-turn.rest.now c.loop-turn-test.true
           (map module_view c.loop-turn.modules.items) c.in-Some.statement.now c.in-Some.after.now first
           (option_to_list (option_map module_view c.in_ok-closed.closed)) (option_map module_view c.in_ok-closed.next) c.in_ok-closed.ensures
-          ∙ ap (λ front. with_modules front (read_from c.args.text.now (c.args.count - (c.loop-turn.turn + 1)) (option_map module_view c.in_ok-closed.next) c.in-Some.after.now))
+          ∙ ap (λ prefix. with_modules prefix (read_from c.args.text.now (c.args.count - (c.loop-turn.turn + 1)) (option_map module_view c.in_ok-closed.next) c.in-Some.after.now))
           (sym c.in_ok-keep.ensures.ok);
       of_text = rest_of_text c.args.text.now c.loop-turn.rest.now c.in-Some.statement.now c.in-Some.after.now first c.loop-turn.invariant.of_text;
       small = omega (arith, first_lengths c.loop-turn.rest.now c.in-Some.statement.now c.in-Some.after.now first, c.loop-turn.invariant.small);

@@ -16,7 +16,7 @@ returns-clause-found c =
     let f = truth_of s c.args.f.0 in
     let r = truth_of s c.under-below.result.0 in
     let k = c.args.fixed in
-    let cleared = c.clear_behind.new.point in
+    let cleared = c.clear_after.new.point in
     let p = c.descend.new.point in
-    λ found. least_given f r c.args.want k c.args.point.now cleared p c.clear_behind.ensures.len c.clear_behind.ensures.first c.under-below.ensures.same
-    (least_by_fewer c.number_is_below.ensures r c.args.want k (top_of s c.under-below.result.0) cleared p c.under-below.ensures.later c.clear_behind.ensures.zeros c.descend.ensures)
+    λ found. least_given f r c.args.want k c.args.point.now cleared p c.clear_after.ensures.len c.clear_after.ensures.first c.under-below.ensures.same
+    (least_by_fewer c.number_is_below.ensures r c.args.want k (top_of s c.under-below.result.0) cleared p c.under-below.ensures.later c.clear_after.ensures.zeros c.descend.ensures)

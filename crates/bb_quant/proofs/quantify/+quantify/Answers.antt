@@ -31,8 +31,8 @@ quantify-returns-in-Some-clause-ok t c =
 pub quantify-returns-in_err-r-clause-full : goal.quantify-returns-in_err-r-clause-full
 quantify-returns-in_err-r-clause-full t c =
     let n = c.recall.new.self.store in
-    let told : IsErrOf c.from_residual.result Full → IsTooMany n (quantified (quantifier c.args.all) c.args.v (truth_of n c.args.f.0)) = search rules in
-    λ full. subst (λ (k : NodeStore). IsTooMany k (quantified (quantifier c.args.all) c.args.v (truth_of k c.args.f.0))) c.recall.ensures.store (told full)
+    let reported : IsErrOf c.from_residual.result Full → IsTooMany n (quantified (quantifier c.args.all) c.args.v (truth_of n c.args.f.0)) = search rules in
+    λ full. subst (λ (k : NodeStore). IsTooMany k (quantified (quantifier c.args.all) c.args.v (truth_of k c.args.f.0))) c.recall.ensures.store (reported full)
 
 pub quantify-keep-requires-clause-right : goal.quantify-keep-requires-clause-right
 quantify-keep-requires-clause-right t c =
@@ -66,8 +66,8 @@ quantify_node-returns-then-var-v-clause-full t c =
 pub quantify_node-returns-in_err-first-clause-full : goal.quantify_node-returns-in_err-first-clause-full
 quantify_node-returns-in_err-first-clause-full t c =
     let n : Node = (record { s = c.args.d.now.store; sound = c.is_canonical.ensures.sound.store; all = c.args.all; v = c.args.v; u = c.args.var; f = c.args.f.0; lo = c.args.lo; hi = c.args.hi; ref = c.requires.f; inside = c.requires.v; earlier = omega (arith, c.requires.no_later, c.if-var-v.false); node = c.requires.node }) in
-    let told : IsErrOf c.from_residual.result Full → IsTooMany n.s (quantified_in n n.s n.lo.0) = search rules in
-    λ full. first_refused (record { tables = c.tables.ensures; quantifiers = c.quantifiers.ensures; stores = c.stores.ensures; growth = c.growth.ensures; steps = c.steps.ensures }) n (told full)
+    let reported : IsErrOf c.from_residual.result Full → IsTooMany n.s (quantified_in n n.s n.lo.0) = search rules in
+    λ full. first_refused (record { tables = c.tables.ensures; quantifiers = c.quantifiers.ensures; stores = c.stores.ensures; growth = c.growth.ensures; steps = c.steps.ensures }) n (reported full)
 
 pub quantify_node-quantify-requires-2 : goal.quantify_node-quantify-requires-2
 quantify_node-quantify-requires-2 t c =
@@ -80,8 +80,8 @@ pub quantify_node-returns-in_err-second-clause-full : goal.quantify_node-returns
 quantify_node-returns-in_err-second-clause-full t c =
     let n : Node = (record { s = c.args.d.now.store; sound = c.is_canonical.ensures.sound.store; all = c.args.all; v = c.args.v; u = c.args.var; f = c.args.f.0; lo = c.args.lo; hi = c.args.hi; ref = c.requires.f; inside = c.requires.v; earlier = omega (arith, c.requires.no_later, c.if-var-v.false); node = c.requires.node }) in
     let mid = c.quantify.new.d.store in
-    let told : IsErrOf c.from_residual-in_err-second.result Full → IsTooMany mid (quantified_in n mid n.hi.0) = search rules in
-    λ full. second_refused (record { tables = c.tables.ensures; quantifiers = c.quantifiers.ensures; stores = c.stores.ensures; growth = c.growth.ensures; steps = c.steps.ensures }) n mid c.in_ok-first.first.0 c.in_ok-first.ensures.ok (told full)
+    let reported : IsErrOf c.from_residual-in_err-second.result Full → IsTooMany mid (quantified_in n mid n.hi.0) = search rules in
+    λ full. second_refused (record { tables = c.tables.ensures; quantifiers = c.quantifiers.ensures; stores = c.stores.ensures; growth = c.growth.ensures; steps = c.steps.ensures }) n mid c.in_ok-first.first.0 c.in_ok-first.ensures.ok (reported full)
 
 pub quantify_node-returns-in_err-second-clause-kept : goal.quantify_node-returns-in_err-second-clause-kept
 quantify_node-returns-in_err-second-clause-kept t c =
@@ -101,8 +101,8 @@ pub quantify_node-returns-in_err-r-clause-full : goal.quantify_node-returns-in_e
 quantify_node-returns-in_err-r-clause-full t c =
     let n : Node = (record { s = c.args.d.now.store; sound = c.is_canonical.ensures.sound.store; all = c.args.all; v = c.args.v; u = c.args.var; f = c.args.f.0; lo = c.args.lo; hi = c.args.hi; ref = c.requires.f; inside = c.requires.v; earlier = omega (arith, c.requires.no_later, c.if-var-v.false); node = c.requires.node }) in
     let last = c.quantify-2.new.d.store in
-    let told : IsErrOf c.from_residual-in_err-r.result Full → IsTooMany last (branch last c.args.var c.in_ok-first.first.0 c.in_ok-second.second.0) = search rules in
-    λ full. node_refused (record { tables = c.tables.ensures; quantifiers = c.quantifiers.ensures; stores = c.stores.ensures; growth = c.growth.ensures; steps = c.steps.ensures }) n c.quantify.new.d.store last c.is_canonical-2.ensures.sound.store c.in_ok-first.first.0 c.in_ok-second.second.0 c.in_ok-first.ensures.ok c.in_ok-second.ensures.ok (told full)
+    let reported : IsErrOf c.from_residual-in_err-r.result Full → IsTooMany last (branch last c.args.var c.in_ok-first.first.0 c.in_ok-second.second.0) = search rules in
+    λ full. node_refused (record { tables = c.tables.ensures; quantifiers = c.quantifiers.ensures; stores = c.stores.ensures; growth = c.growth.ensures; steps = c.steps.ensures }) n c.quantify.new.d.store last c.is_canonical-2.ensures.sound.store c.in_ok-first.first.0 c.in_ok-second.second.0 c.in_ok-first.ensures.ok c.in_ok-second.ensures.ok (reported full)
 
 pub quantify_node-returns-in_err-r-clause-kept : goal.quantify_node-returns-in_err-r-clause-kept
 quantify_node-returns-in_err-r-clause-kept t c =

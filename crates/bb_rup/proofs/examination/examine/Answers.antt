@@ -1,6 +1,6 @@
 use Rattle.std.proofs.Common.{false, sym, ◌∙◌, subst, take}
 use Rattle.bb_rup.specs.Inside.Trails.{marked}
-use Rattle.bb_rup.specs.Inside.Standings.{IsSoFar}
+use Rattle.bb_rup.specs.Inside.Statuses.{IsSoFar}
 use Rattle.bb_rup.proofs.ClauseKinds.{two_at}
 use Rattle.bb_rup.proofs.examination.examine.Goals as goal
 

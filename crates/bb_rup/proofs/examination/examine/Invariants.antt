@@ -1,6 +1,6 @@
 use Rattle.std.proofs.Common.{take}
 use Rattle.bb_rup.specs.Inside.Trails.{marked}
-use Rattle.bb_rup.specs.Inside.Standings.{IsSoFar}
+use Rattle.bb_rup.specs.Inside.Statuses.{IsSoFar}
 use Rattle.bb_rup.proofs.examination.examine.Given as goal
 
 abbrev pub invariant-loop-lit : goal.invariant-loop-lit

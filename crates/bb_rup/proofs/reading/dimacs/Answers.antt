@@ -9,5 +9,5 @@ pub unreachable-requires : goal.unreachable-requires
 unreachable-requires c =
     true≢false
     (sym (c.in-None.ensures.exact.1
-    (read_within false c.in_ok-header.header.vars (words_at c.in_ok-header.header.behind) (lists_of c.new-clauses.result.items) (lists_of c.read_clauses.new.into.items)
+    (read_within false c.in_ok-header.header.vars (words_at c.in_ok-header.header.after) (lists_of c.new-clauses.result.items) (lists_of c.read_clauses.new.into.items)
     (ap lists_of c.new-clauses.ensures.items) c.in_ok-read_clauses.ensures.ok)))

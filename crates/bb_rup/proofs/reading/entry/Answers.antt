@@ -19,25 +19,25 @@ is_clause c =
 pub returns-then-is_mark-clause-ok : goal.returns-then-is_mark-clause-ok
 returns-then-is_mark-clause-ok c =
     IfOk-weaker c.deletion.result _ _
-    (λ place read. entry_left c.args.deletions c.args.vars (lists_of c.args.into.now.items) (seen c.args.first.word) (words_at c.args.first.behind) read.0 (words_at place)
+    (λ place read. entry_left c.args.deletions c.args.vars (lists_of c.args.into.now.items) (seen c.args.first.word) (words_at c.args.first.after) read.0 (words_at place)
     c.if-deletions.true (sym c.is_mark.ensures ∙ c.if-is_mark.true) read.1)
     c.deletion.ensures.ok
 
 pub returns-then-is_mark-clause-err : goal.returns-then-is_mark-clause-err
 returns-then-is_mark-clause-err c =
     IfErr-weaker c.deletion.result _ _
-    (λ fault is. entry_left_fault c.args.deletions c.args.vars (seen c.args.first.word) (words_at c.args.first.behind) fault c.if-deletions.true (sym c.is_mark.ensures ∙ c.if-is_mark.true) is)
+    (λ fault is. entry_left_fault c.args.deletions c.args.vars (seen c.args.first.word) (words_at c.args.first.after) fault c.if-deletions.true (sym c.is_mark.ensures ∙ c.if-is_mark.true) is)
     c.deletion.ensures.err
 
 pub returns-else-deletions-clause-ok : goal.returns-else-deletions-clause-ok
 returns-else-deletions-clause-ok c =
     IfOk-weaker c.clause.result _ _
-    (λ place read. entry_kept c.args.deletions c.args.vars (lists_of c.args.into.now.items) (lists_of c.clause.new.into.items) (seen c.args.first.word) (words_at c.args.first.behind)
+    (λ place read. entry_kept c.args.deletions c.args.vars (lists_of c.args.into.now.items) (lists_of c.clause.new.into.items) (seen c.args.first.word) (words_at c.args.first.after)
     read.0 (words_at place) (is_clause c) read.1 read.2)
     c.clause.ensures.ok
 
 pub returns-else-deletions-clause-err : goal.returns-else-deletions-clause-err
 returns-else-deletions-clause-err c =
     IfErr-weaker c.clause.result _ _
-    (λ fault is. entry_kept_fault c.args.deletions c.args.vars (seen c.args.first.word) (words_at c.args.first.behind) fault (is_clause c) is)
+    (λ fault is. entry_kept_fault c.args.deletions c.args.vars (seen c.args.first.word) (words_at c.args.first.after) fault (is_clause c) is)
     c.clause.ensures.err

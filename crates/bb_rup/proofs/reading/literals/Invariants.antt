@@ -5,8 +5,8 @@ use Rattle.bb_rup.proofs.reading.literals.Given as goal
 abbrev pub invariant-words : goal.invariant-words
 invariant-words l =
     (literals_to_end l.vars l.into.items (words_with l.found) ≡ literals_to_end l.vars l.initial.into.items (words_with l.first))
-    × IsCounted l.found.behind
-    × (length l.found.behind.rest.now ≤ length l.first.behind.rest.now)
+    × IsCounted l.found.after
+    × (length l.found.after.rest.now ≤ length l.first.after.rest.now)
 
 abbrev pub decreases-words : goal.decreases-words
-decreases-words l = length l.found.behind.rest.now
+decreases-words l = length l.found.after.rest.now

@@ -31,18 +31,18 @@ pub returns-in-Ends : goal.returns-in-Ends
 returns-in-Ends c =
     let given = lists_of c.args.given.now in
     let adds = lists_of c.args.adds.now in
-    let told = subst (Comes given adds c.loop-number.number (marked_by c.check_addition.new.trail)) c.in-Ends.is c.in_ok-check_addition.ensures.comes in
-    ends_yes given adds c.loop-number.number c.loop-number.invariant.each told.0 told.1
+    let reported = subst (Comes given adds c.loop-number.number (marked_by c.check_addition.new.trail)) c.in-Ends.is c.in_ok-check_addition.ensures.comes in
+    ends_yes given adds c.loop-number.number c.loop-number.invariant.each reported.0 reported.1
 
 pub loop-number-preserved : goal.loop-number-preserved
 loop-number-preserved c =
     let given = lists_of c.args.given.now in
     let adds = lists_of c.args.adds.now in
-    let told = subst (Comes given adds c.loop-number.number (marked_by c.check_addition.new.trail)) c.in-Goes.is c.in_ok-check_addition.ensures.comes in
+    let reported = subst (Comes given adds c.loop-number.number (marked_by c.check_addition.new.trail)) c.in-Goes.is c.in_ok-check_addition.ensures.comes in
     record {
-      each = each_next given adds c.loop-number.number c.loop-number.invariant.each told.0;
+      each = each_next given adds c.loop-number.number c.loop-number.invariant.each reported.0;
       trail = c.in_ok-check_addition.ensures.trail;
-      reached = told.1;
+      reached = reported.1;
       room = c.in_ok-check_addition.ensures.same ∙ c.loop-number.invariant.room;
     }
 
@@ -51,7 +51,7 @@ follows-requires-clause-room c =
     let same : length c.args.trail.now.marks.items ≡ length c.loop-number.trail.marks.items = sym (c.loop-number.invariant.room ∙ c.in_ok-begin.ensures.same) in
     subst (HaveMarks (length c.loop-number.trail.marks.items)) (sym c.clauses_before.ensures)
     (subst (λ n. HaveMarks n (lists_of c.args.given.now ++ take (length c.args.adds.now) (lists_of c.args.adds.now))) same
-    (marks_before (length c.args.trail.now.marks.items) (length c.args.adds.now) (lists_of c.args.given.now) (lists_of c.args.adds.now) c.requires.room c.requires.room_behind))
+    (marks_before (length c.args.trail.now.marks.items) (length c.args.adds.now) (lists_of c.args.given.now) (lists_of c.args.adds.now) c.requires.room c.requires.room_after))
 
 pub returns-then-branch-2 : goal.returns-then-branch-2
 returns-then-branch-2 c =

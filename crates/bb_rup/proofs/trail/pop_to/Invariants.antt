@@ -4,7 +4,7 @@ use Rattle.bb_rup.proofs.trail.pop_to.Given as goal
 
 abbrev pub invariant-loop-trail : goal.invariant-loop-trail
 invariant-loop-trail l = record {
-  front : l.trail.lits.items ≡ take (length l.trail.lits.items) l.initial.trail.lits.items;
+  prefix : l.trail.lits.items ≡ take (length l.trail.lits.items) l.initial.trail.lits.items;
   long : l.place ≤ length l.trail.lits.items;
   trail : IsTrail l.trail;
   room : length l.trail.marks.items ≡ length l.initial.trail.marks.items;

@@ -7,7 +7,7 @@ pub returns-clause-gates : goal.returns-clause-gates
 returns-clause-gates c = bits_are_gates c.value_exists.ensures
 
 pub returns-clause-stay : goal.returns-clause-stay
-returns-clause-stay c = bits_stay c.standing_keeps_bits.ensures
+returns-clause-stay c = bits_stay c.occurrences_keep_bits.ensures
 
 pub returns-clause-constants : goal.returns-clause-constants
 returns-clause-constants c = λ net kept none.

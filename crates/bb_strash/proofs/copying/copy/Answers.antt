@@ -2,7 +2,7 @@ use Rattle.std.proofs.Common.{◌≡◌, ◌+◌, ◌*◌, ◌<◌, ℕ, List, l
 use Rattle.std.specs.Prelude.{slice_index}
 use Rattle.bb_net.specs.declared.cell.Cell.{Cell}
 use Rattle.bb_net.specs.Netlists.{cell_at}
-use Rattle.bb_filled.specs.Embeddings.{moved}
+use Rattle.bb_subst.specs.Embeddings.{moved}
 use Rattle.bb_strash.specs.Inside.Copies.{AreCopied}
 use Rattle.bb_strash.specs.Inside.Extensions.{bit, gate_bit}
 use Rattle.bb_strash.proofs.BitLaws.{no_pin}

@@ -1,6 +1,6 @@
 use Rattle.std.proofs.Common.{◌≡◌, ◌+◌, ◌++◌, ◌∷◌, [], sym, ap, ◌∙◌, arith}
 use Rattle.std.specs.List.{range_with_len}
-use Rattle.bb_lists.proofs.Ranges.{range_last}
+use Rattle.bb_lemmas.proofs.Ranges.{range_last}
 use Rattle.bb_strash.proofs.cutting.first_places.Goals as goal
 
 pub loop-k-preserved : goal.loop-k-preserved

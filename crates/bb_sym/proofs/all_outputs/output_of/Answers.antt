@@ -38,9 +38,9 @@ pub returns-in_err-wrong-clause-nodes : goal.returns-in_err-wrong-clause-nodes
 returns-in_err-wrong-clause-nodes c =
     let s = c.in_ok-d.d.store in
     let fs = output_functions c.args.spec.now c.args.imp.now in
-    let told : IsErrOf c.from_residual-in_err-wrong.result Nodes → AreTooMany s fs = search rules in
+    let reported : IsErrOf c.from_residual-in_err-wrong.result Nodes → AreTooMany s fs = search rules in
     λ full. subst (HasMoreThan (IsBeadOfAny fs)) (ap (λ (d : DiagramState). d.store.limit) c.in_ok-d.ensures.ok)
-    (all_refused c.sequences.ensures s (ap (λ (d : DiagramState). d.store.nodes) c.in_ok-d.ensures.ok) fs (told full))
+    (all_refused c.sequences.ensures s (ap (λ (d : DiagramState). d.store.nodes) c.in_ok-d.ensures.ok) fs (reported full))
 
 pub returns-then-not-least-clause-none : goal.returns-then-not-least-clause-none
 returns-then-not-least-clause-none c =

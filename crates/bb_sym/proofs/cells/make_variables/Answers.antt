@@ -3,16 +3,16 @@ use Rattle.std.specs.List.{range_with_len}
 use Rattle.bb_bits.specs.Truth.{variable}
 use Rattle.bb_uniq.specs.Inside.Meaning.{Adds, IsTooMany}
 use Rattle.bb_sym.specs.declared.fault.RungFault.TheVariants.{Nodes}
-use Rattle.bb_sym.specs.Inside.Made.{Makes, StandForAll}
-use Rattle.bb_sym.proofs.MadeLemmas.{Makes-more, keeps_then, refused_more, StandForAll-push, StandsFor-added}
+use Rattle.bb_sym.specs.Inside.Made.{Makes, RepresentAll}
+use Rattle.bb_sym.proofs.MadeLemmas.{Makes-more, keeps_then, refused_more, RepresentAll-push, Represents-added}
 use Rattle.bb_sym.proofs.cells.make_variables.Goals as goal
 
 pub returns-in_err-r-clause-nodes : goal.returns-in_err-r-clause-nodes
 returns-in_err-r-clause-nodes c =
     let n = c.args.d.now.store.vars in
-    let told : IsErrOf c.from_residual-in_err-r.result Nodes → IsTooMany c.loop-v.d.store (variable c.loop-v.d.store.vars c.loop-v.v) = search rules in
+    let reported : IsErrOf c.from_residual-in_err-r.result Nodes → IsTooMany c.loop-v.d.store (variable c.loop-v.d.store.vars c.loop-v.v) = search rules in
     λ full. refused_more c.args.d.now.store c.loop-v.d.store (variable n) c.loop-v.v n c.loop-v.invariant.2 (omega (arith, c.loop-v-test.true, c.requires))
-    (subst (λ k. IsTooMany c.loop-v.d.store (variable k c.loop-v.v)) c.loop-v.invariant.2.kept.vars (told full))
+    (subst (λ k. IsTooMany c.loop-v.d.store (variable k c.loop-v.v)) c.loop-v.invariant.2.kept.vars (reported full))
 
 pub loop-v-preserved : goal.loop-v-preserved
 loop-v-preserved c =
@@ -22,8 +22,8 @@ loop-v-preserved c =
     let r = c.in_ok-r.r in
     let added = subst (λ n. Adds old new (variable n c.loop-v.v) r.0) c.loop-v.invariant.2.kept.vars c.in_ok-r.ensures.ok in (
       (let count : length c.push.new.self.items ≡ c.loop-v.v + 1 = search rules in count),
-      subst (StandForAll new (variable first.vars)) (sym c.in_ok-push.ensures.items)
-          (StandForAll-push old new (variable first.vars) c.loop-v.made.items r c.loop-v.v c.loop-v.invariant.0 added.kept c.loop-v.invariant.1 (StandsFor-added old new (variable first.vars c.loop-v.v) r added)),
+      subst (RepresentAll new (variable first.vars)) (sym c.in_ok-push.ensures.items)
+          (RepresentAll-push old new (variable first.vars) c.loop-v.made.items r c.loop-v.v c.loop-v.invariant.0 added.kept c.loop-v.invariant.1 (Represents-added old new (variable first.vars c.loop-v.v) r added)),
       Makes-more first old new (variable first.vars) c.loop-v.v r.0 c.loop-v.invariant.2 added,
     )
 

@@ -35,9 +35,9 @@ returns-in_err-r-clause-nodes c =
     let old = c.loop-cell.d.store in
     let net = c.args.net.now in
     let i = c.loop-cell.cell-index in
-    let told : IsErrOf c.from_residual-in_err-r.result Nodes → IsTooMany old (cell_table old.vars c.args.first c.args.starts.now (λ place. truth_of old (ref_at c.deref.result.now place).0) (cell_at c.cells-cells.result.now i)) = search rules in
+    let reported : IsErrOf c.from_residual-in_err-r.result Nodes → IsTooMany old (cell_table old.vars c.args.first c.args.starts.now (λ place. truth_of old (ref_at c.deref.result.now place).0) (cell_at c.cells-cells.result.now i)) = search rules in
     λ r reads full. next_refused c.value_exists.ensures c.args.d.now.store old net c.cells-cells.ensures.kept c.args.first c.args.starts.now c.requires c.loop-cell.made.items i (omega (arith, c.loop-cell-test.true, ap length c.cells-cells.ensures.cells)) c.loop-cell.invariant.0 r reads (c.loop-cell.invariant.3 r reads)
-    (subst₂ (λ (cells : List Cell) (ms : List Ref). IsTooMany old (cell_table old.vars c.args.first c.args.starts.now (λ place. truth_of old (ref_at ms place).0) (cell_at cells i))) c.cells-cells.ensures.cells c.deref.ensures.value (told full))
+    (subst₂ (λ (cells : List Cell) (ms : List Ref). IsTooMany old (cell_table old.vars c.args.first c.args.starts.now (λ place. truth_of old (ref_at ms place).0) (cell_at cells i))) c.cells-cells.ensures.cells c.deref.ensures.value (reported full))
 
 pub loop-cell-preserved : goal.loop-cell-preserved
 loop-cell-preserved c =

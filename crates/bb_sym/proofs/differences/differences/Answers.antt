@@ -1,7 +1,7 @@
 use Rattle.std.proofs.Common.{rules, IsErrOf, subst, sym, ap, ◌≡◌, ◌+◌, List, map, length, arith}
 use Rattle.std.specs.List.{range_with_len}
 use Rattle.bb_bits.specs.Bits.{xor}
-use Rattle.bb_bits.specs.Truth.{joined}
+use Rattle.bb_bits.specs.Truth.{joined_tables}
 use Rattle.bb_uniq.specs.declared.store.Ref.{Ref}
 use Rattle.bb_uniq.specs.Inside.Meaning.{truth_of, IsTooMany}
 use Rattle.bb_sym.specs.declared.fault.RungFault.TheVariants.{Nodes}
@@ -29,8 +29,8 @@ xor-requires-clause-g c = c.loop-j.invariant.2.refs _ (c.requires.gs c.loop-j.j 
 pub returns-in_err-r-clause-nodes : goal.returns-in_err-r-clause-nodes
 returns-in_err-r-clause-nodes c =
     let now = c.loop-j.d.store in
-    let told : IsErrOf c.from_residual-in_err-r.result Nodes → IsTooMany now (joined xor (truth_of now (ref_at c.args.fs.now c.loop-j.j).0) (truth_of now (ref_at c.args.gs.now c.loop-j.j).0)) = search rules in
-    λ f g left right full. different_refused c.args.d.now.store now f g c.args.fs.now c.args.gs.now c.loop-j.refs.items c.loop-j.j c.loop-j-test.true c.requires.count c.loop-j.invariant.0 left right (c.loop-j.invariant.3 f g left right) (told full)
+    let reported : IsErrOf c.from_residual-in_err-r.result Nodes → IsTooMany now (joined_tables xor (truth_of now (ref_at c.args.fs.now c.loop-j.j).0) (truth_of now (ref_at c.args.gs.now c.loop-j.j).0)) = search rules in
+    λ f g left right full. different_refused c.args.d.now.store now f g c.args.fs.now c.args.gs.now c.loop-j.refs.items c.loop-j.j c.loop-j-test.true c.requires.count c.loop-j.invariant.0 left right (c.loop-j.invariant.3 f g left right) (reported full)
 
 pub loop-j-preserved : goal.loop-j-preserved
 loop-j-preserved c =
@@ -46,8 +46,8 @@ loop-j-preserved c =
           (different_made s now f g c.args.fs.now c.args.gs.now c.loop-j.refs.items c.loop-j.j c.loop-j-test.true c.requires.count c.loop-j.invariant.0 left right (c.loop-j.invariant.3 f g left right) new r added),
     )
 
-pub returns-clause-stand : goal.returns-clause-stand
-returns-clause-stand c = λ f g left right. (c.loop-j.invariant.3 f g left right).0
+pub returns-clause-occur : goal.returns-clause-occur
+returns-clause-occur c = λ f g left right. (c.loop-j.invariant.3 f g left right).0
 
 pub returns-clause-makes : goal.returns-clause-makes
 returns-clause-makes c = λ f g left right.

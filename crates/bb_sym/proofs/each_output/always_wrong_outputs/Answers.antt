@@ -3,8 +3,8 @@ use Rattle.std.specs.List.{range_with_len}
 use Rattle.bb_net.specs.Netlists.{Netlist}
 use Rattle.bb_sym.specs.declared.fault.RungFault.TheVariants.{Nodes}
 use Rattle.bb_sym.specs.Functions.{inputs_first, always_wrong, wrong_for_all_pins}
-use Rattle.bb_sym.specs.Inside.Made.{Makes, AreTooMany, StandForAll}
-use Rattle.bb_sym.proofs.MadeLemmas.{StandForAll-push}
+use Rattle.bb_sym.specs.Inside.Made.{Makes, AreTooMany, RepresentAll}
+use Rattle.bb_sym.proofs.MadeLemmas.{RepresentAll-push}
 use Rattle.bb_sym.proofs.WrongTables.{HaveCells-kept}
 use Rattle.bb_sym.proofs.OutputLoop.{flat_makes, flat_refused}
 use Rattle.bb_sym.proofs.each_output.always_wrong_outputs.Goals as goal
@@ -23,8 +23,8 @@ pub returns-in_err-r-clause-nodes : goal.returns-in_err-r-clause-nodes
 returns-in_err-r-clause-nodes c =
     let imp = c.args.pair.now.imp in
     let count : length c.outs-count.result.now ≡ length imp.outs = ap length (c.outs-count.ensures.outs ∙ ap (λ (net : Netlist). net.outs) c.imp.ensures.imp) in
-    let told : IsErrOf c.from_residual-in_err-r.result Nodes → AreTooMany c.loop-j.d.store (wrong_for_all_pins c.args.pair.now.spec imp c.loop-j.j) = search rules in
-    λ full. flat_refused c.args.d.now.store c.loop-j.d.store (wrong_for_all_pins c.args.pair.now.spec imp) c.loop-j.j (length imp.outs) (omega (arith, c.loop-j-test.true, count)) c.loop-j.invariant.2 (told full)
+    let reported : IsErrOf c.from_residual-in_err-r.result Nodes → AreTooMany c.loop-j.d.store (wrong_for_all_pins c.args.pair.now.spec imp c.loop-j.j) = search rules in
+    λ full. flat_refused c.args.d.now.store c.loop-j.d.store (wrong_for_all_pins c.args.pair.now.spec imp) c.loop-j.j (length imp.outs) (omega (arith, c.loop-j-test.true, count)) c.loop-j.invariant.2 (reported full)
 
 pub loop-j-preserved : goal.loop-j-preserved
 loop-j-preserved c =
@@ -32,8 +32,8 @@ loop-j-preserved c =
     let spec = c.args.pair.now.spec in
     let imp = c.args.pair.now.imp in (
       (let count : length c.push.new.self.items ≡ c.loop-j.j + 1 = search rules in count),
-      subst (StandForAll new (always_wrong spec imp)) (sym c.in_ok-push.ensures.items)
-          (StandForAll-push c.loop-j.d.store new (always_wrong spec imp) c.loop-j.refs.items c.in_ok-r.r c.loop-j.j c.loop-j.invariant.0 c.in_ok-r.ensures.makes.kept c.loop-j.invariant.1 c.in_ok-r.ensures.result),
+      subst (RepresentAll new (always_wrong spec imp)) (sym c.in_ok-push.ensures.items)
+          (RepresentAll-push c.loop-j.d.store new (always_wrong spec imp) c.loop-j.refs.items c.in_ok-r.r c.loop-j.j c.loop-j.invariant.0 c.in_ok-r.ensures.makes.kept c.loop-j.invariant.1 c.in_ok-r.ensures.result),
       flat_makes c.args.d.now.store c.loop-j.d.store new (wrong_for_all_pins spec imp) c.loop-j.j c.loop-j.invariant.2 c.in_ok-r.ensures.makes,
     )
 

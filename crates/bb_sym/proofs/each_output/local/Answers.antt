@@ -6,7 +6,7 @@ use Rattle.bb_net.specs.Values.{output_pins}
 use Rattle.bb_dd.specs.Inside.State.{DiagramState}
 use Rattle.bb_sym.specs.declared.fault.RungFault.TheVariants.{Nodes}
 use Rattle.bb_sym.specs.Functions.{local_functions, always_wrong, inputs_and_pins}
-use Rattle.bb_sym.specs.Inside.Made.{AreTooMany, StandForAll}
+use Rattle.bb_sym.specs.Inside.Made.{AreTooMany, RepresentAll}
 use Rattle.bb_sym.proofs.PlainCells.{few_variables}
 use Rattle.bb_sym.proofs.Budget.{all_refused, all_fit}
 use Rattle.bb_sym.proofs.LeastVectors.{cut_written}
@@ -36,9 +36,9 @@ pub returns-in_err-wrong-clause-nodes : goal.returns-in_err-wrong-clause-nodes
 returns-in_err-wrong-clause-nodes c =
     let s = c.in_ok-d.d.store in
     let fs = local_functions c.args.pair.now.spec c.args.pair.now.imp in
-    let told : IsErrOf c.from_residual-in_err-wrong.result Nodes → AreTooMany s fs = search rules in
+    let reported : IsErrOf c.from_residual-in_err-wrong.result Nodes → AreTooMany s fs = search rules in
     λ full. subst (HasMoreThan (IsBeadOfAny fs)) (ap (λ (d : DiagramState). d.store.limit) c.in_ok-d.ensures.ok)
-    (all_refused c.sequences.ensures s (ap (λ (d : DiagramState). d.store.nodes) c.in_ok-d.ensures.ok) fs (told full))
+    (all_refused c.sequences.ensures s (ap (λ (d : DiagramState). d.store.nodes) c.in_ok-d.ensures.ok) fs (reported full))
 
 pub returns-in-Some-clause-found : goal.returns-in-Some-clause-found
 returns-in-Some-clause-found c =
@@ -54,10 +54,10 @@ returns-in-Some-clause-found c =
     let is : c.truncate.new.self.items ≡ take imp.inputs written =
     c.truncate.ensures.items ∙ (cut_written written c.in_ok-point.point.items c.inputs-inputs.result c.in_ok-point.point.len same (let e : c.in_ok-point.point.len ≡ length c.in_ok-point.point.items = search rules in e) ∙ ap (λ k. take k written) inputs) in
     let count = ap length whole ∙ c.in_ok-wrong.ensures.refs.0 in
-    let stand = subst (StandForAll now (always_wrong c.args.pair.now.spec imp)) (sym whole) c.in_ok-wrong.ensures.refs.1 in (
+    let occur = subst (RepresentAll now (always_wrong c.args.pair.now.spec imp)) (sym whole) c.in_ok-wrong.ensures.refs.1 in (
       c.in-Some.j,
       refl,
-      first_wrong c.quantifiers.ensures c.args.pair.now.spec imp now c.deref.result.now c.deref_mut.result.now c.first_true.new.point c.truncate.new.self.items c.in-Some.j vars count stand long
+      first_wrong c.quantifiers.ensures c.args.pair.now.spec imp now c.deref.result.now c.deref_mut.result.now c.first_true.new.point c.truncate.new.self.items c.in-Some.j vars count occur long
           c.in-Some.ensures.found.0 c.in-Some.ensures.found.1 c.in-Some.ensures.earlier is,
     )
 
@@ -76,8 +76,8 @@ returns-clause-none c =
     let vars : now.vars ≡ inputs_and_pins imp = c.in_ok-wrong.ensures.makes.kept.vars ∙ (ap (λ (d : DiagramState). d.store.vars) c.in_ok-d.ensures.ok ∙ ap₂ ◌+◌ inputs pins) in
     let whole : c.deref.result.now ≡ c.in_ok-wrong.wrong.items = c.deref.ensures.value in
     let count = ap length whole ∙ c.in_ok-wrong.ensures.refs.0 in
-    let stand = subst (StandForAll now (always_wrong c.args.pair.now.spec imp)) (sym whole) c.in_ok-wrong.ensures.refs.1 in
-    none_wrong c.quantifiers.ensures c.args.pair.now.spec imp now c.deref.result.now vars count stand c.in-None.ensures.none
+    let occur = subst (RepresentAll now (always_wrong c.args.pair.now.spec imp)) (sym whole) c.in_ok-wrong.ensures.refs.1 in
+    none_wrong c.quantifiers.ensures c.args.pair.now.spec imp now c.deref.result.now vars count occur c.in-None.ensures.none
 
 pub returns-clause-within : goal.returns-clause-within
 returns-clause-within c =

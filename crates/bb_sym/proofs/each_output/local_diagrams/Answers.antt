@@ -14,8 +14,8 @@ returns-in_err-made-clause-nodes c =
     let s = c.args.d.now.store in
     let ts = plain_functions spec imp in
     let us = flat_map (wrong_for_all_pins spec imp) (outputs imp) in
-    let told : IsErrOf c.from_residual.result Nodes → AreTooMany s (plain_functions c.spec-spec.result.now c.imp-imp.result.now) = search rules in
-    λ full. too_many_within s ts (ts ++ us) (within_append_left ts us) (subst₂ (λ (a b : Netlist). AreTooMany s (plain_functions a b)) c.spec-spec.ensures.spec c.imp-imp.ensures.imp (told full))
+    let reported : IsErrOf c.from_residual.result Nodes → AreTooMany s (plain_functions c.spec-spec.result.now c.imp-imp.result.now) = search rules in
+    λ full. too_many_within s ts (ts ++ us) (within_append_left ts us) (subst₂ (λ (a b : Netlist). AreTooMany s (plain_functions a b)) c.spec-spec.ensures.spec c.imp-imp.ensures.imp (reported full))
 
 pub returns-in_err-refs-clause-nodes : goal.returns-in_err-refs-clause-nodes
 returns-in_err-refs-clause-nodes c =
@@ -25,8 +25,8 @@ returns-in_err-refs-clause-nodes c =
     let b = c.ordered_cells.new.d.store in
     let us = flat_map (wrong_for_all_pins spec imp) (outputs imp) in
     let made = subst₂ (λ (p q : Netlist). Makes s b (plain_functions p q)) c.spec-spec.ensures.spec c.imp-imp.ensures.imp c.in_ok-made.ensures.makes in
-    let told : IsErrOf c.from_residual-in_err-refs.result Nodes → AreTooMany b us = search rules in
-    λ full. too_many_then s b (plain_functions spec imp) us made (told full)
+    let reported : IsErrOf c.from_residual-in_err-refs.result Nodes → AreTooMany b us = search rules in
+    λ full. too_many_then s b (plain_functions spec imp) us made (reported full)
 
 pub returns-clause-makes : goal.returns-clause-makes
 returns-clause-makes c =

@@ -24,8 +24,8 @@ returns-in_err-made-clause-nodes c =
     let s = c.args.d.now.store in
     let order = inputs_first c.args.imp.now in
     let more = c.in_err-made.ensures.nodes order (order_read c.args.imp.now c.args.d.now.store.vars c.deref.result.now (omega (arith, c.requires.few, c.requires.store)) (sym c.requires.store ∙ c.requires.vars) (ap length c.deref.ensures.value ∙ (c.in_ok-starts.ensures.count ∙ ap length c.boxes.ensures.boxes)) (starts_are c.inputs.result c.args.imp.now.inputs c.boxes.result.now c.args.imp.now.boxes c.in_ok-starts.starts.items c.deref.result.now c.inputs.ensures.inputs c.boxes.ensures.boxes c.deref.ensures.value c.in_ok-starts.ensures.starts)) in
-    let told : IsErrOf c.from_residual-in_err-made.result Nodes → AreTooMany s (plain_functions_at s.vars order c.args.spec.now c.args.imp.now) = search (rules, more) in
-    λ full. subst (λ n. AreTooMany s (plain_functions_at n order c.args.spec.now c.args.imp.now)) (sym c.requires.store ∙ c.requires.vars) (told full)
+    let reported : IsErrOf c.from_residual-in_err-made.result Nodes → AreTooMany s (plain_functions_at s.vars order c.args.spec.now c.args.imp.now) = search (rules, more) in
+    λ full. subst (λ n. AreTooMany s (plain_functions_at n order c.args.spec.now c.args.imp.now)) (sym c.requires.store ∙ c.requires.vars) (reported full)
 
 pub returns-clause-cells : goal.returns-clause-cells
 returns-clause-cells c = c.in_ok-made.ensures.cells (inputs_first c.args.imp.now) (order_read c.args.imp.now c.args.d.now.store.vars c.deref.result.now (omega (arith, c.requires.few, c.requires.store)) (sym c.requires.store ∙ c.requires.vars) (ap length c.deref.ensures.value ∙ (c.in_ok-starts.ensures.count ∙ ap length c.boxes.ensures.boxes)) (starts_are c.inputs.result c.args.imp.now.inputs c.boxes.result.now c.args.imp.now.boxes c.in_ok-starts.starts.items c.deref.result.now c.inputs.ensures.inputs c.boxes.ensures.boxes c.deref.ensures.value c.in_ok-starts.ensures.starts))

@@ -16,9 +16,9 @@ returns-in_err-known-clause-nodes c =
     c.cells-cells.ensures.kept c.requires.vars c.cells-cells.ensures.cells c.loop-cell-test.true c.deref.ensures.value c.loop-cell.invariant) in
     let old = c.loop-cell.d.store in
     let at = rails_at old c.deref.result.now in
-    let told : IsErrOf c.from_residual-in_err-known.result Nodes → AreTooMany old (tables_made old.vars at (cell_at c.cells-cells.result.now c.loop-cell.cell-index)) = search rules in
+    let reported : IsErrOf c.from_residual-in_err-known.result Nodes → AreTooMany old (tables_made old.vars at (cell_at c.cells-cells.result.now c.loop-cell.cell-index)) = search rules in
     λ full. known_refused c.args.d.now.store old c.args.net.now c.deref.result.now c.loop-cell.cell-index m
-    (subst (λ (cells : List Cell). AreTooMany old (tables_made old.vars at (cell_at cells c.loop-cell.cell-index))) c.cells-cells.ensures.cells (told full))
+    (subst (λ (cells : List Cell). AreTooMany old (tables_made old.vars at (cell_at cells c.loop-cell.cell-index))) c.cells-cells.ensures.cells (reported full))
 
 pub loop-cell-preserved : goal.loop-cell-preserved
 loop-cell-preserved c =
@@ -33,10 +33,10 @@ loop-cell-preserved c =
     let at = rails_at old read in
     let known = c.in_ok-known.known in
     let made = subst (λ (cells : List Cell). Makes old new (tables_made old.vars at (cell_at cells i))) c.cells-cells.ensures.cells c.in_ok-known.ensures.makes in
-    let stand = subst (λ (cells : List Cell). HaveRails new (cell_rails old.vars at (cell_at cells i)) known) c.cells-cells.ensures.cells c.in_ok-known.ensures.rails in
+    let occur = subst (λ (cells : List Cell). HaveRails new (cell_rails old.vars at (cell_at cells i)) known) c.cells-cells.ensures.cells c.in_ok-known.ensures.rails in
     let pushed : read ++ known ∷ [] ≡ c.push.new.self.items = ap (λ (rs : List DualRail). rs ++ known ∷ []) c.deref.ensures.value ∙ sym c.in_ok-push.ensures.items in (
       (let count : length c.push.new.self.items ≡ i + 1 = search rules in count),
-      subst (HaveAllRails new (known_rails net)) pushed (known_next first old net read i m new made c.tern_exists.ensures known stand),
+      subst (HaveAllRails new (known_rails net)) pushed (known_next first old net read i m new made c.tern_exists.ensures known occur),
       known_made first old net read i m new made,
     )
 

@@ -20,14 +20,14 @@ returns-in_err-zero-clause-nodes c =
     let s = c.args.d.now.store in
     let a = rails_of s c.args.a in
     let b = rails_of s c.args.b in
-    let told : IsErrOf c.from_residual.result Nodes → IsTooMany s (first a b) = search rules in
-    λ full. first_refused s (first a b) (second a b ∷ []) (told full)
+    let reported : IsErrOf c.from_residual.result Nodes → IsTooMany s (first a b) = search rules in
+    λ full. first_refused s (first a b) (second a b ∷ []) (reported full)
 
 pub returns-in_err-one-clause-nodes : goal.returns-in_err-one-clause-nodes
 returns-in_err-one-clause-nodes c =
     let m = c.and.new.self.store in
-    let told : IsErrOf c.from_residual-in_err-one.result Nodes → IsTooMany m (second (rails_of m c.args.a) (rails_of m c.args.b)) = search rules in
-    λ full. two_refused _ m _ _ _ c.in_ok-zero.zero c.in_ok-zero.ensures.ok (two_kept second _ m c.args.a c.args.b c.in_ok-zero.ensures.ok.kept c.requires.a c.requires.b) (told full)
+    let reported : IsErrOf c.from_residual-in_err-one.result Nodes → IsTooMany m (second (rails_of m c.args.a) (rails_of m c.args.b)) = search rules in
+    λ full. two_refused _ m _ _ _ c.in_ok-zero.zero c.in_ok-zero.ensures.ok (two_kept second _ m c.args.a c.args.b c.in_ok-zero.ensures.ok.kept c.requires.a c.requires.b) (reported full)
 
 pub returns-clause-rails : goal.returns-clause-rails
 returns-clause-rails c =

@@ -3,7 +3,7 @@ use Rattle.bb_bits.specs.Truth.{Truth}
 use Rattle.bb_net.specs.Netlists.{Netlist}
 use Rattle.bb_uniq.specs.Inside.Meaning.{truth_of}
 use Rattle.bb_sym.specs.Functions.{wanted}
-use Rattle.bb_sym.specs.Inside.Made.{Makes, AreTooMany, StandsFor}
+use Rattle.bb_sym.specs.Inside.Made.{Makes, AreTooMany, Represents}
 use Rattle.bb_sym.specs.Inside.Rails.{rails_of, known_rails}
 use Rattle.bb_sym.proofs.MismatchTables.{wanted_is, known_is, mismatch_is, mismatches_are}
 use Rattle.bb_sym.proofs.mismatches.known_wrong_output.Goals as goal
@@ -20,7 +20,7 @@ known_at c =
 
 pub returns-clause-result : goal.returns-clause-result
 returns-clause-result c =
-    subst (λ (t : Truth). IfOk c.wrong_where_known.result (StandsFor c.wrong_where_known.new.d.store t)) (mismatch_is c.args.pair.now.spec c.args.pair.now.imp c.args.j (known_at c) (wanted_at c)) c.wrong_where_known.ensures.result
+    subst (λ (t : Truth). IfOk c.wrong_where_known.result (Represents c.wrong_where_known.new.d.store t)) (mismatch_is c.args.pair.now.spec c.args.pair.now.imp c.args.j (known_at c) (wanted_at c)) c.wrong_where_known.ensures.result
 
 pub returns-clause-makes : goal.returns-clause-makes
 returns-clause-makes c =

@@ -34,8 +34,8 @@ returns-in-Err-Nodes c =
     let vars : s.vars ≡ p.imp.inputs = ap (λ (d : DiagramState). d.store.vars) c.in_ok-d.ensures.ok ∙ inputs in
     let net = c.spec-spec.result.now in
     let more = c.in-Err-Nodes.ensures.nodes inputs_only (read_net net p.spec c.spec-spec.ensures.spec s.vars s.vars 0 [] inputs_only refl (inputs_read p c.imp.ensures.kept s.vars)) in
-    let told : AreTooMany s (bits_tables s.vars inputs_only net) = search (rules, more) in
-    let many : AreTooMany s fs = subst (AreTooMany s) (ap (λ (net : Netlist). bits_tables s.vars inputs_only net) c.spec-spec.ensures.spec ∙ ap (λ n. bits_tables n inputs_only p.spec) vars) told in
+    let reported : AreTooMany s (bits_tables s.vars inputs_only net) = search (rules, more) in
+    let many : AreTooMany s fs = subst (AreTooMany s) (ap (λ (net : Netlist). bits_tables s.vars inputs_only net) c.spec-spec.ensures.spec ∙ ap (λ n. bits_tables n inputs_only p.spec) vars) reported in
     record {
       exceeds = λ yes. subst (HasMoreThan (IsBeadOfAny fs)) (ap (λ (d : DiagramState). d.store.limit) c.in_ok-d.ensures.ok) (all_refused c.sequences.ensures s (ap (λ (d : DiagramState). d.store.nodes) c.in_ok-d.ensures.ok) fs many);
       within = λ no. cc no;

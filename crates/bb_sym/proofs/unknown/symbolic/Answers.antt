@@ -5,7 +5,7 @@ use Rattle.bb_net.specs.Netlists.{Netlist}
 use Rattle.bb_dd.specs.Inside.State.{DiagramState}
 use Rattle.bb_sym.specs.declared.fault.RungFault.TheVariants.{Nodes}
 use Rattle.bb_sym.specs.Functions.{symbolic_functions, mismatch}
-use Rattle.bb_sym.specs.Inside.Made.{AreTooMany, StandForAll}
+use Rattle.bb_sym.specs.Inside.Made.{AreTooMany, RepresentAll}
 use Rattle.bb_sym.proofs.PlainCells.{few_variables}
 use Rattle.bb_sym.proofs.Budget.{all_refused, all_fit}
 use Rattle.bb_sym.proofs.KnownWrong.{first_known, none_known, written_whole}
@@ -21,9 +21,9 @@ pub returns-in_err-wrong-clause-nodes : goal.returns-in_err-wrong-clause-nodes
 returns-in_err-wrong-clause-nodes c =
     let s = c.in_ok-d.d.store in
     let fs = symbolic_functions c.args.pair.now.spec c.args.pair.now.imp in
-    let told : IsErrOf c.from_residual-in_err-wrong.result Nodes → AreTooMany s fs = search rules in
+    let reported : IsErrOf c.from_residual-in_err-wrong.result Nodes → AreTooMany s fs = search rules in
     λ full. subst (HasMoreThan (IsBeadOfAny fs)) (ap (λ (d : DiagramState). d.store.limit) c.in_ok-d.ensures.ok)
-    (all_refused c.sequences.ensures s (ap (λ (d : DiagramState). d.store.nodes) c.in_ok-d.ensures.ok) fs (told full))
+    (all_refused c.sequences.ensures s (ap (λ (d : DiagramState). d.store.nodes) c.in_ok-d.ensures.ok) fs (reported full))
 
 pub returns-in-Some-clause-found : goal.returns-in-Some-clause-found
 returns-in-Some-clause-found c =
@@ -36,10 +36,10 @@ returns-in-Some-clause-found c =
     let written = c.first_true.new.point in
     let same : length written ≡ length c.in_ok-point.point.items = c.in-Some.ensures.found.1.begins.0 ∙ ap length c.deref_mut.ensures.value in
     let count = ap length whole ∙ c.in_ok-wrong.ensures.refs.0 in
-    let stand = subst (StandForAll now (mismatch c.args.pair.now.spec imp)) (sym whole) c.in_ok-wrong.ensures.refs.1 in (
+    let occur = subst (RepresentAll now (mismatch c.args.pair.now.spec imp)) (sym whole) c.in_ok-wrong.ensures.refs.1 in (
       c.in-Some.j,
       refl,
-      first_known c.args.pair.now.spec imp now c.deref.result.now c.deref_mut.result.now written _ c.in-Some.j vars count stand long
+      first_known c.args.pair.now.spec imp now c.deref.result.now c.deref_mut.result.now written _ c.in-Some.j vars count occur long
           c.in-Some.ensures.found.0 c.in-Some.ensures.found.1 c.in-Some.ensures.earlier (written_whole written c.in_ok-point.point.items c.in_ok-point.point.len same (let e : c.in_ok-point.point.len ≡ length c.in_ok-point.point.items = search rules in e)),
     )
 
@@ -57,8 +57,8 @@ returns-clause-none c =
     let vars : now.vars ≡ imp.inputs = c.in_ok-wrong.ensures.makes.kept.vars ∙ (ap (λ (d : DiagramState). d.store.vars) c.in_ok-d.ensures.ok ∙ inputs) in
     let whole : c.deref.result.now ≡ c.in_ok-wrong.wrong.items = c.deref.ensures.value in
     let count = ap length whole ∙ c.in_ok-wrong.ensures.refs.0 in
-    let stand = subst (StandForAll now (mismatch c.args.pair.now.spec imp)) (sym whole) c.in_ok-wrong.ensures.refs.1 in
-    none_known c.args.pair.now.spec imp now c.deref.result.now vars count stand c.in-None.ensures.none
+    let occur = subst (RepresentAll now (mismatch c.args.pair.now.spec imp)) (sym whole) c.in_ok-wrong.ensures.refs.1 in
+    none_known c.args.pair.now.spec imp now c.deref.result.now vars count occur c.in-None.ensures.none
 
 pub returns-clause-within : goal.returns-clause-within
 returns-clause-within c =

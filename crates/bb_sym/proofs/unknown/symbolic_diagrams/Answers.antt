@@ -14,16 +14,16 @@ returns-in_err-made-clause-nodes c =
     let imp = c.args.pair.now.imp in
     let ts = known_functions spec imp in
     let us = flat_map (mismatches spec imp) (outputs imp) in
-    let told : IsErrOf c.from_residual.result Nodes → AreTooMany c.args.d.now.store ts = search rules in
-    λ full. subst (AreTooMany c.args.d.now.store) (symbolic_are spec imp) (too_many_within c.args.d.now.store ts (ts ++ us) (within_append_left ts us) (told full))
+    let reported : IsErrOf c.from_residual.result Nodes → AreTooMany c.args.d.now.store ts = search rules in
+    λ full. subst (AreTooMany c.args.d.now.store) (symbolic_are spec imp) (too_many_within c.args.d.now.store ts (ts ++ us) (within_append_left ts us) (reported full))
 
 pub returns-in_err-refs-clause-nodes : goal.returns-in_err-refs-clause-nodes
 returns-in_err-refs-clause-nodes c =
     let spec = c.args.pair.now.spec in
     let imp = c.args.pair.now.imp in
     let us = flat_map (mismatches spec imp) (outputs imp) in
-    let told : IsErrOf c.from_residual-in_err-refs.result Nodes → AreTooMany c.input_cells.new.d.store us = search rules in
-    λ full. subst (AreTooMany c.args.d.now.store) (symbolic_are spec imp) (too_many_then c.args.d.now.store c.input_cells.new.d.store (known_functions spec imp) us c.in_ok-made.ensures.makes (told full))
+    let reported : IsErrOf c.from_residual-in_err-refs.result Nodes → AreTooMany c.input_cells.new.d.store us = search rules in
+    λ full. subst (AreTooMany c.args.d.now.store) (symbolic_are spec imp) (too_many_then c.args.d.now.store c.input_cells.new.d.store (known_functions spec imp) us c.in_ok-made.ensures.makes (reported full))
 
 pub returns-clause-makes : goal.returns-clause-makes
 returns-clause-makes c =

@@ -6,18 +6,18 @@ use Rattle.bb_verdict.proofs.text_laws.answers_are_meant.Goals as goal
 
 pub returns : goal.returns
 returns c = record {
-  fit = answered_fit c.designs_are_allowed.ensures c.pairs_stand_exactly_for_fitting.ensures;
-  errors = errors_refute c.designs_are_allowed.ensures c.errors_exclude_tables.ensures c.no_tables_no_contents.ensures c.pairs_stand_exactly_for_fitting.ensures c.fitting_designs_are_comparable.ensures;
-  shown = errors_are_shown c.designs_are_allowed.ensures c.found_vectors_are_mistakes.ensures c.errors_exclude_tables.ensures c.given_tables_agree.ensures c.wrong_outputs_are_mistakes.ensures c.wrong_vectors_are_mistakes.ensures c.pairs_are_named.ensures
+  fit = answered_fit c.designs_are_allowed.ensures c.pairs_implement_exactly_fitting.ensures;
+  errors = errors_refute c.designs_are_allowed.ensures c.errors_exclude_tables.ensures c.no_tables_no_contents.ensures c.pairs_implement_exactly_fitting.ensures c.fitting_designs_are_comparable.ensures;
+  shown = errors_are_shown c.designs_are_allowed.ensures c.found_vectors_are_mistakes.ensures c.errors_exclude_tables.ensures c.given_tables_make_equivalent.ensures c.wrong_outputs_are_mistakes.ensures c.wrong_vectors_are_mistakes.ensures c.pairs_are_named.ensures
       c.failing_vectors_are_mistakes.ensures c.refutations_show_vectors.ensures;
   repairs =
-      repairs_finish c.designs_are_allowed.ensures c.no_tables_follow.ensures c.tables_spell_contents.ensures c.spelled_contents_agree.ensures c.pairs_stand_exactly_for_fitting.ensures
-      c.fitting_designs_are_comparable.ensures c.pairs_have_box_orders.ensures c.fitting_tables_are_of_boxes.ensures c.repairs_agree.ensures c.tables_are_given_once.ensures
-      c.agreeing_designs_run_alike.ensures c.filled_texts_finish.ensures;
+      repairs_finish c.designs_are_allowed.ensures c.no_tables_follow.ensures c.tables_spell_contents.ensures c.spelled_contents_make_equivalent.ensures c.pairs_implement_exactly_fitting.ensures
+      c.fitting_designs_are_comparable.ensures c.pairs_have_box_orders.ensures c.fitting_tables_are_of_boxes.ensures c.repairs_make_equivalent.ensures c.tables_are_given_once.ensures
+      c.equivalent_designs_run_the_same.ensures c.filled_texts_finish.ensures;
   open_reports = open_answers_are_reports;
-  opens = open_answers_leave_open c.text_pairs_are_alike.ensures c.alike_pairs_are_left_open.ensures.left c.climbs_leave_open.ensures;
-  stays_open = staying_open_are_answered c.no_pair_and_refusal.ensures c.text_pairs_are_alike.ensures c.alike_pairs_are_left_open.ensures.stays c.staying_open_is_told.ensures;
-  decided = decided_are_answered c.no_pair_and_refusal.ensures c.text_pairs_are_alike.ensures c.alike_pairs_are_decided.ensures c.deciders_decide.ensures;
+  opens = open_answers_leave_open c.text_pairs_are_isomorphic.ensures c.isomorphic_pairs_are_left_open.ensures.left c.climbs_leave_open.ensures;
+  stays_open = staying_open_are_answered c.no_pair_and_refusal.ensures c.text_pairs_are_isomorphic.ensures c.isomorphic_pairs_are_left_open.ensures.stays c.staying_open_is_reported.ensures;
+  decided = decided_are_answered c.no_pair_and_refusal.ensures c.text_pairs_are_isomorphic.ensures c.isomorphic_pairs_are_decided.ensures c.deciders_decide.ensures;
   refusals = judged_refusals_are_first;
   refused = refused_are_answered_once c.refusals_are_one.ensures c.no_pair_and_refusal.ensures;
 }

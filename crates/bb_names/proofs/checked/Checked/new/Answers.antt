@@ -11,12 +11,12 @@ use Rattle.bb_names.proofs.checked.Checked.new.Goals as goal
 pub checked_module-requires : goal.checked_module-requires
 checked_module-requires c =
     let m = module_view c.in-Some.of in
-    let front = map syntax (map module_facts c.loop-of.modules.items) in
+    let prefix = map syntax (map module_facts c.loop-of.modules.items) in
     let back = map module_view c.next.new.self.rest.items in
     let split : c.loop-of.of-iterator.rest.items ≡ c.in-Some.of ∷ c.next.new.self.rest.items = search rules in
-    let all : front ++ m ∷ back ≡ map module_view c.args.source = ap (λ ms. front ++ map module_view ms) (sym split) ∙ c.loop-of.invariant.all in
+    let all : prefix ++ m ∷ back ≡ map module_view c.args.source = ap (λ ms. prefix ++ map module_view ms) (sym split) ∙ c.loop-of.invariant.all in
     let read = subst AreFormedAndSmall (sym all) c.requires.read in
-    record { few = few_nets m front back read.small }
+    record { few = few_nets m prefix back read.small }
 
 pub loop-of-preserved : goal.loop-of-preserved
 loop-of-preserved c =
@@ -34,7 +34,7 @@ loop-of-preserved c =
 
 pub invariant_of-result : goal.invariant_of-result
 invariant_of-result c =
-    let front = map syntax (map module_facts c.loop-of.modules.items) in
+    let prefix = map syntax (map module_facts c.loop-of.modules.items) in
     let none : c.loop-of.of-iterator.rest.items ≡ [] = grind (arith, common_steps, c.in-None.ensures.steps.0) in
-    let all = sym (append-nil front) ∙ ap (λ ms. front ++ map module_view ms) (sym none) ∙ c.loop-of.invariant.all in
+    let all = sym (append-nil prefix) ∙ ap (λ ms. prefix ++ map module_view ms) (sym none) ∙ c.loop-of.invariant.all in
     record { read = subst AreFormedAndSmall (sym all) c.requires.read; sound = subst IsSound (sym all) c.requires.sound; each = c.loop-of.invariant.each }

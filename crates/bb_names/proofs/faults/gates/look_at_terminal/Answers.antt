@@ -6,9 +6,9 @@ use Rattle.bb_ast.specs.Assignable.{is_assignable}
 use Rattle.bb_ast.specs.Gates.{gate_bytes}
 use Rattle.bb_ast.specs.Inside.Views.{expression, module_view}
 use Rattle.bb_names.specs.Faults.{width_in}
-use Rattle.bb_names.specs.Inside.Firsts.{noted, noted_width, terminal_spots}
-use Rattle.bb_names.specs.Spots.{Terminal, Driven, Read, spots_in}
-use Rattle.bb_names.proofs.Noting.{noted-widely, told-alone}
+use Rattle.bb_names.specs.Inside.Firsts.{noted, noted_width, terminal_sites}
+use Rattle.bb_names.specs.Sites.{Terminal, Driven, Read, sites_in}
+use Rattle.bb_names.proofs.Noting.{noted-widely, reported-alone}
 use Rattle.bb_names.proofs.Searches.{option_or-none}
 use Rattle.bb_names.proofs.faults.gates.look_at_terminal.Goals as goal
 
@@ -20,11 +20,11 @@ returns-in_ok-note_word c = record {
       let e = expression c.args.terminal.now in
       let gate = c.args.gate in
       let r = c.note_word.new.slot in
-      subst (λ b. OnOk c.look_at_width.result (c.look_at_width.new.found ≡ noted text m f (terminal_spots gate b e))) (sym c.if-output.true)
-      (on_ok_weaker c.look_at_width.result (λ step. noted-widely text m f (Terminal gate true e) r (width_in m e) 1 (gate_bytes gate) (spots_in Driven e) c.look_at_width.new.found refl refl refl refl
+      subst (λ b. OnOk c.look_at_width.result (c.look_at_width.new.found ≡ noted text m f (terminal_sites gate b e))) (sym c.if-output.true)
+      (on_ok_weaker c.look_at_width.result (λ step. noted-widely text m f (Terminal gate true e) r (width_in m e) 1 (gate_bytes gate) (sites_in Driven e) c.look_at_width.new.found refl refl refl refl
       (c.in_ok-note_word.ensures ∙ ap (λ w. option_or f.role (if not c.may_be_written-wrong.result then Some w else None)) c.gate_word-word.ensures
-      ∙ ap (λ b. option_or f.role (if not b then Some (gate_bytes gate) else None)) c.may_be_written-wrong.ensures ∙ ap (option_or f.role) (sym (told-alone (not (is_assignable e)) (gate_bytes gate))))
-      (step ∙ ap (λ w. noted_width text m (record f { role = r }) (width_in m e) 1 w (spots_in Driven e)) c.gate_word-word.ensures)) (c.look_at_width.ensures.noted text));
+      ∙ ap (λ b. option_or f.role (if not b then Some (gate_bytes gate) else None)) c.may_be_written-wrong.ensures ∙ ap (option_or f.role) (sym (reported-alone (not (is_assignable e)) (gate_bytes gate))))
+      (step ∙ ap (λ w. noted_width text m (record f { role = r }) (width_in m e) 1 w (sites_in Driven e)) c.gate_word-word.ensures)) (c.look_at_width.ensures.noted text));
 }
 
 pub returns-else-output : goal.returns-else-output
@@ -34,7 +34,7 @@ returns-else-output c = record {
       let f = c.args.found.now in
       let e = expression c.args.terminal.now in
       let gate = c.args.gate in
-      subst (λ b. OnOk c.look_at_width-else-output.result (c.look_at_width-else-output.new.found ≡ noted text m f (terminal_spots gate b e))) (sym c.if-output.false)
-      (on_ok_weaker c.look_at_width-else-output.result (λ step. noted-widely text m f (Terminal gate false e) f.role (width_in m e) 1 (gate_bytes gate) (spots_in Read e) c.look_at_width-else-output.new.found refl refl refl refl
-      (sym (option_or-none f.role)) (step ∙ ap (λ w. noted_width text m f (width_in m e) 1 w (spots_in Read e)) c.gate_word-word.ensures)) (c.look_at_width-else-output.ensures.noted text));
+      subst (λ b. OnOk c.look_at_width-else-output.result (c.look_at_width-else-output.new.found ≡ noted text m f (terminal_sites gate b e))) (sym c.if-output.false)
+      (on_ok_weaker c.look_at_width-else-output.result (λ step. noted-widely text m f (Terminal gate false e) f.role (width_in m e) 1 (gate_bytes gate) (sites_in Read e) c.look_at_width-else-output.new.found refl refl refl refl
+      (sym (option_or-none f.role)) (step ∙ ap (λ w. noted_width text m f (width_in m e) 1 w (sites_in Read e)) c.gate_word-word.ensures)) (c.look_at_width-else-output.ensures.noted text));
 }

@@ -5,7 +5,7 @@ use Rattle.std.specs.Option.{option_or}
 use Rattle.bb_ast.specs.Inside.Views.{conns_view, module_view}
 use Rattle.bb_names.specs.Declarations.{instance_declaration}
 use Rattle.bb_names.specs.Inside.Firsts.{noted}
-use Rattle.bb_names.specs.Spots.{Declared as DeclaredSpot, Placed, conns_spots, place_count}
+use Rattle.bb_names.specs.Sites.{Declared as DeclaredSite, Placed, conns_sites, place_count}
 use Rattle.bb_names.specs.Inside.Summaries.{Describes}
 use Rattle.bb_names.proofs.Noting.{noted-one, noted-then, placed-row}
 use Rattle.bb_names.proofs.Searches.{option_or-none}
@@ -20,9 +20,9 @@ returns-clause-noted c = λ text before h.
     let to = option_map (λ t. module_view t.now) c.args.target in
     let one = c.look_at_declared.new.found in
     on_ok_weaker c.look_at_conns.result (λ step.
-    noted-then text m f _ c.look_at_conns.new.found (DeclaredSpot before (instance_declaration n) ∷ Placed to n (place_count conns) ∷ []) (conns_spots to conns)
-    (noted-then text m f one _ (DeclaredSpot before (instance_declaration n) ∷ []) (Placed to n (place_count conns) ∷ [])
-    (c.in_ok-look_at_declared.ensures.noted text before h ∙ ap (λ d. noted text m f (DeclaredSpot before d ∷ [])) (c.instance.ensures n))
+    noted-then text m f _ c.look_at_conns.new.found (DeclaredSite before (instance_declaration n) ∷ Placed to n (place_count conns) ∷ []) (conns_sites to conns)
+    (noted-then text m f one _ (DeclaredSite before (instance_declaration n) ∷ []) (Placed to n (place_count conns) ∷ [])
+    (c.in_ok-look_at_declared.ensures.noted text before h ∙ ap (λ d. noted text m f (DeclaredSite before d ∷ [])) (c.instance.ensures n))
     (noted-one text m one (Placed to n (place_count conns)) _ _ _ _ _ (sym (option_or-none one.twice)) (sym (option_or-none one.unknown)) (sym (option_or-none one.select)) (sym (option_or-none one.width))
     (c.in_ok-note.ensures ∙ ap (option_or one.role) (ap (λ b. if b then Some n else None) c.has_too_many.ensures ∙ sym (placed-row text m to n (place_count conns))))))
     step) (c.look_at_conns.ensures.noted text)

@@ -5,7 +5,7 @@ use Rattle.indexmap.specs.IndexSet.{insert_key}
 use Rattle.bb_bits.specs.Names.{same_name}
 use Rattle.bb_ast.specs.Inside.Views.{module_view}
 use Rattle.bb_names.specs.Inside.Firsts.{noted}
-use Rattle.bb_names.specs.Spots.{PortName}
+use Rattle.bb_names.specs.Sites.{PortName}
 use Rattle.bb_names.proofs.Noting.{same-more}
 use Rattle.bb_names.proofs.faults.instances.look_at_port.Goals as goal
 

@@ -2,7 +2,7 @@ use Rattle.std.proofs.Common.{◌∷◌, [], ap, sym, ◌∙◌}
 use Rattle.std.specs.Prelude.{None}
 use Rattle.bb_ast.specs.Inside.Views.{expression, optional_view, module_view}
 use Rattle.bb_names.specs.Inside.Firsts.{noted}
-use Rattle.bb_names.specs.Spots.{Driven, Read, Used, spots_in, initial_spots}
+use Rattle.bb_names.specs.Sites.{Driven, Read, Used, sites_in, initial_sites}
 use Rattle.bb_names.proofs.Noting.{noted-then}
 use Rattle.bb_names.proofs.faults.items.look_at_initial.Goals as goal
 
@@ -12,6 +12,6 @@ returns c = record {
       let m = module_view c.args.of.now in
       let f = c.args.found.now in
       let n = c.args.name.now in
-      noted-then text m f c.look_at_name.new.found c.look.new.found (Used Driven n None ∷ []) (spots_in Read (expression c.in-Some.value)) (c.in_ok-look_at_name.ensures.noted text) (c.in_ok-look.ensures.noted text)
-      ∙ ap (λ o. noted text m f (initial_spots (n, o))) (sym (ap optional_view c.in-Some.is));
+      noted-then text m f c.look_at_name.new.found c.look.new.found (Used Driven n None ∷ []) (sites_in Read (expression c.in-Some.value)) (c.in_ok-look_at_name.ensures.noted text) (c.in_ok-look.ensures.noted text)
+      ∙ ap (λ o. noted text m f (initial_sites (n, o))) (sym (ap optional_view c.in-Some.is));
 }

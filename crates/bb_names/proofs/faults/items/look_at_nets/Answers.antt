@@ -3,7 +3,7 @@ use Rattle.bb_ast.specs.Inside.Views.{named_view, module_view}
 use Rattle.bb_names.specs.declared.net.NetKind.TheVariants.{Wire}
 use Rattle.bb_names.specs.Declarations.{net_declaration}
 use Rattle.bb_names.specs.Inside.Firsts.{noted}
-use Rattle.bb_names.specs.Spots.{Declared as DeclaredSpot, initial_spots}
+use Rattle.bb_names.specs.Sites.{Declared as DeclaredSite, initial_sites}
 use Rattle.bb_names.specs.Inside.Summaries.{Describes}
 use Rattle.bb_names.proofs.DeclaredLists.{turn-map, end-map}
 use Rattle.bb_names.proofs.Noting.{each-turn, each-all, noted-none, noted-then}
@@ -23,16 +23,16 @@ loop-name-preserved c =
     let x = c.loop-name-item.result in
     let made = map (λ y. net_declaration Wire c.args.range y.0) (map named_view (take i nets)) in
     record {
-      noted = λ text before h. each-turn text m (λ b y. DeclaredSpot (before ++ map (λ z. net_declaration Wire c.args.range z.0) b) (net_declaration Wire c.args.range y.0) ∷ initial_spots y) named_view nets i x c.args.found.now c.loop-name.found c.look_at_initial.new.found c.loop-name-test.true c.loop-name-item.is
+      noted = λ text before h. each-turn text m (λ b y. DeclaredSite (before ++ map (λ z. net_declaration Wire c.args.range z.0) b) (net_declaration Wire c.args.range y.0) ∷ initial_sites y) named_view nets i x c.args.found.now c.loop-name.found c.look_at_initial.new.found c.loop-name-test.true c.loop-name-item.is
           (c.loop-name.invariant.noted text before h)
-          (noted-then text m c.loop-name.found c.look_at_declared.new.found c.look_at_initial.new.found (DeclaredSpot (before ++ made) (net_declaration Wire c.args.range x.0) ∷ []) (initial_spots (named_view x))
-          (c.in_ok-look_at_declared.ensures.noted text (before ++ made) (c.loop-name.invariant.declared before h) ∙ ap (λ d. noted text m c.loop-name.found (DeclaredSpot (before ++ made) d ∷ [])) (c.net.ensures x.0)) (c.in_ok-look_at_initial.ensures.noted text));
+          (noted-then text m c.loop-name.found c.look_at_declared.new.found c.look_at_initial.new.found (DeclaredSite (before ++ made) (net_declaration Wire c.args.range x.0) ∷ []) (initial_sites (named_view x))
+          (c.in_ok-look_at_declared.ensures.noted text (before ++ made) (c.loop-name.invariant.declared before h) ∙ ap (λ d. noted text m c.loop-name.found (DeclaredSite (before ++ made) d ∷ [])) (c.net.ensures x.0)) (c.in_ok-look_at_initial.ensures.noted text));
       declared = λ before h. turn-map c.look_at_declared.new.earlier.entries before (λ y. net_declaration Wire c.args.range y.0) named_view nets i x c.loop-name-test.true c.loop-name-item.is
           (subst (λ d. Describes c.look_at_declared.new.earlier.entries ((before ++ made) ++ d ∷ [])) (c.net.ensures x.0) (c.in_ok-look_at_declared.ensures.declared (before ++ made) (c.loop-name.invariant.declared before h)));
     }
 
 pub returns-clause-noted : goal.returns-clause-noted
-returns-clause-noted c = λ text before h. each-all text (module_view c.args.of.now) (λ b y. DeclaredSpot (before ++ map (λ z. net_declaration Wire c.args.range z.0) b) (net_declaration Wire c.args.range y.0) ∷ initial_spots y) named_view c.args.nets.now c.loop-name.name-index c.args.found.now c.loop-name.found c.loop-name-test.false (c.loop-name.invariant.noted text before h)
+returns-clause-noted c = λ text before h. each-all text (module_view c.args.of.now) (λ b y. DeclaredSite (before ++ map (λ z. net_declaration Wire c.args.range z.0) b) (net_declaration Wire c.args.range y.0) ∷ initial_sites y) named_view c.args.nets.now c.loop-name.name-index c.args.found.now c.loop-name.found c.loop-name-test.false (c.loop-name.invariant.noted text before h)
 
 pub returns-clause-declared : goal.returns-clause-declared
 returns-clause-declared c = λ before h. end-map c.loop-name.earlier.entries before (λ y. net_declaration Wire c.args.range y.0) named_view c.args.nets.now c.loop-name.name-index c.loop-name-test.false (c.loop-name.invariant.declared before h)

@@ -4,10 +4,10 @@ use Rattle.bb_ast.specs.Inside.Views.{module_view, item_view}
 use Rattle.bb_names.specs.Declarations.{declared_by, declared_by_head}
 use Rattle.bb_names.specs.Faults.{statement_faults, module_faults}
 use Rattle.bb_names.specs.Inside.Firsts.{item_faults}
-use Rattle.bb_names.specs.Spots.{header_spots}
+use Rattle.bb_names.specs.Sites.{header_sites}
 use Rattle.bb_names.specs.Inside.Summaries.{Describes}
 use Rattle.bb_bits.specs.Earlier.{each_after}
-use Rattle.bb_names.proofs.Answering.{err_answers, front_answers, item_answers, each-none}
+use Rattle.bb_names.proofs.Answering.{err_answers, prefix_answers, item_answers, each-none}
 use Rattle.bb_names.proofs.DeclaredLists.{turn-flat}
 use Rattle.bb_names.proofs.Noting.{seen-all}
 use Rattle.bb_names.proofs.faults.statements.check_statements.Goals as goal
@@ -19,7 +19,7 @@ returns-in_err-check_header c =
     let fault = c.in_err-check_header.field-0.0 in
     record {
       answers = err_answers c.from_residual.result fault (module_faults text (take c.args.place text) m) c.from_residual.ensures.1
-          (front_answers (statement_faults text m m.line (header_spots (take c.args.place text) m)) (each_after (item_faults text m) m.items) fault c.in_err-check_header.ensures.answers);
+          (prefix_answers (statement_faults text m m.line (header_sites (take c.args.place text) m)) (each_after (item_faults text m) m.items) fault c.in_err-check_header.ensures.answers);
     }
 
 pub loop-item-init : goal.loop-item-init
@@ -39,7 +39,7 @@ returns-in_err-check_item c =
     let fault = c.in_err-check_item.field-0.0 in
     record {
       answers = err_answers c.from_residual-in_err-check_item.result fault (module_faults text (take c.args.place text) m) c.from_residual-in_err-check_item.ensures.1
-          (item_answers (item_faults text m) item_view items i c.item-item.result (statement_faults text m m.line (header_spots (take c.args.place text) m)) fault (rw same at c.loop-item-test.true) (rw same at c.item-item.is)
+          (item_answers (item_faults text m) item_view items i c.item-item.result (statement_faults text m m.line (header_sites (take c.args.place text) m)) fault (rw same at c.loop-item-test.true) (rw same at c.item-item.is)
           c.in_ok-check_header.ensures.answers c.loop-item.invariant.none (c.in_err-check_item.ensures.answers earlier c.loop-item.invariant.declared));
     }
 

@@ -6,7 +6,7 @@ use Rattle.bb_uniq.specs.declared.store.Node.{Node}
 use Rattle.bb_uniq.specs.Inside.Nodes.{NodeStore, IsStore}
 use Rattle.bb_uniq.specs.Inside.Meaning.{Adds, branch}
 use Rattle.bb_uniq.specs.Inside.Places.{IsAbsent}
-use Rattle.bb_uniq.proofs.Making.{makes, makes_same, makes_too_many, stands_within}
+use Rattle.bb_uniq.proofs.Making.{makes, makes_same, makes_too_many, occurs_within}
 use Rattle.bb_uniq.proofs.store.Store.make.Goals as goal
 use Rattle.bb_uniq.proofs.store.Store.make.Goals.{In_ok-place}
 
@@ -30,23 +30,23 @@ returns-in_err-place-clause-too_many c =
     let s : NodeStore = record { vars = i.vars; limit = i.limit; nodes = i.nodes.items } in
     let node : Node = record { var = c.args.var; lo = c.args.lo.0; hi = c.args.hi.0 } in
     let differ : c.args.lo.0 ≢ c.args.hi.0 = eqb-false c.args.lo.0 c.args.hi.0 (sym c.eq.ensures ∙ c.if-eq.false) in
-    let told : IsErrOf c.from_residual.result Full → (s.limit ≤ length s.nodes) × IsAbsent s.nodes node = search rules in
+    let reported : IsErrOf c.from_residual.result Full → (s.limit ≤ length s.nodes) × IsAbsent s.nodes node = search rules in
     λ full.
-    let said = told full in
+    let said = reported full in
     makes_too_many (record { tables = c.tables.ensures; beads = c.beads.ensures; sizes = c.sizes.ensures }) s c.args.self.now c.self.view_is c.self.invariant.0 c.args.var c.args.lo.0 c.args.hi.0 c.requires.var c.requires.lo c.requires.hi differ said.0 said.1
 
 pub overflow_cast-result : goal.overflow_cast-result
 overflow_cast-result c =
     let i = c.self.inside in
     let s : NodeStore = record { vars = i.vars; limit = i.limit; nodes = i.nodes.items } in
-    let l : c.in_ok-place.place < s.limit = stands_within s c.self.invariant.0 c.place_of.new.nodes.items _ c.in_ok-place.place c.in_ok-place.ensures.ok in
+    let l : c.in_ok-place.place < s.limit = occurs_within s c.self.invariant.0 c.place_of.new.nodes.items _ c.in_ok-place.place c.in_ok-place.ensures.ok in
     omega (arith, l, c.self.invariant.2)
 
 pub overflow_add-result : goal.overflow_add-result
 overflow_add-result c =
     let i = c.self.inside in
     let s : NodeStore = record { vars = i.vars; limit = i.limit; nodes = i.nodes.items } in
-    let l : c.in_ok-place.place < s.limit = stands_within s c.self.invariant.0 c.place_of.new.nodes.items _ c.in_ok-place.place c.in_ok-place.ensures.ok in
+    let l : c.in_ok-place.place < s.limit = occurs_within s c.self.invariant.0 c.place_of.new.nodes.items _ c.in_ok-place.place c.in_ok-place.ensures.ok in
     omega (arith, l, c.self.invariant.2)
 
 -- what the look-up gave, as a store

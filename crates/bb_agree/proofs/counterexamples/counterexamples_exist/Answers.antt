@@ -1,5 +1,0 @@
-use Rattle.bb_agree.proofs.SomeCounterexamples.{counterexamples_exist}
-use Rattle.bb_agree.proofs.counterexamples.counterexamples_exist.Goals as goal
-
-pub returns : goal.returns
-returns c = counterexamples_exist

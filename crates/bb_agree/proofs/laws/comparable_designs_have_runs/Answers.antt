@@ -1,5 +1,0 @@
-use Rattle.bb_agree.proofs.Runs.{comparable_designs_have_runs}
-use Rattle.bb_agree.proofs.laws.comparable_designs_have_runs.Goals as goal
-
-pub returns : goal.returns
-returns c = comparable_designs_have_runs

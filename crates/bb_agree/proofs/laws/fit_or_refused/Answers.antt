@@ -1,5 +1,0 @@
-use Rattle.bb_agree.proofs.DesignDecisions.{fit_or_refused}
-use Rattle.bb_agree.proofs.laws.fit_or_refused.Goals as goal
-
-pub returns : goal.returns
-returns c = fit_or_refused c.boxes_have_heights.ensures c.causes_are_ranked.ensures

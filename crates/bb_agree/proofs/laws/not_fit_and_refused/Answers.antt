@@ -1,5 +1,0 @@
-use Rattle.bb_agree.proofs.DesignCauses.{not_fit_and_refused}
-use Rattle.bb_agree.proofs.laws.not_fit_and_refused.Goals as goal
-
-pub returns : goal.returns
-returns c = not_fit_and_refused

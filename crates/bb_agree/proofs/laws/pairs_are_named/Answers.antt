@@ -1,5 +1,0 @@
-use Rattle.bb_agree.proofs.NamedPairs.{pairs_are_named}
-use Rattle.bb_agree.proofs.laws.pairs_are_named.Goals as goal
-
-pub returns : goal.returns
-returns c = pairs_are_named c.compared_are_the_others.ensures

@@ -1,5 +1,0 @@
-use Rattle.bb_agree.proofs.Mistakes.{wrong_outputs_are_mistakes}
-use Rattle.bb_agree.proofs.laws.wrong_outputs_are_mistakes.Goals as goal
-
-pub returns : goal.returns
-returns c = wrong_outputs_are_mistakes c.lower_laws.ensures

@@ -1,2 +1,0 @@
--- What laws say to each other: no clause of the top call rests on it.
-pub mod LowerLaws

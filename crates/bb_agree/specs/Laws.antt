@@ -1,3 +1,0 @@
--- Laws, and the words that laws alone need.
-pub mod AlikePairs
-pub mod DesignRefusals

@@ -1,7 +1,0 @@
-pub mod Comparable
-pub mod DesignAgreement
-pub mod DesignFit
-pub mod Mistakes
-pub mod Runs
-pub mod Laws
-pub mod Inside

@@ -1,5 +1,0 @@
-pub mod AlikeCells
-pub mod FormulaLemmas
-pub mod FormulaValues
-pub mod OrderedFormulas
-pub mod RearrangedFormulas

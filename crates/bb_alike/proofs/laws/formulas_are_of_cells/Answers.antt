@@ -1,5 +1,0 @@
-use Rattle.bb_alike.proofs.FormulaLemmas.{formulas_are_of_cells}
-use Rattle.bb_alike.proofs.laws.formulas_are_of_cells.Goals as goal
-
-pub returns : goal.returns
-returns c = formulas_are_of_cells

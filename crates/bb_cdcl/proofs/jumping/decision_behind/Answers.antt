@@ -1,5 +1,0 @@
-use Rattle.bb_cdcl.proofs.Jumps.{covered_further}
-use Rattle.bb_cdcl.proofs.jumping.decision_behind.Goals as goal
-
-pub returns-then-back-place : goal.returns-then-back-place
-returns-then-back-place c lits covered = c.nearest.ensures lits c.args.place (covered_further _ _ _ _ _ c.if-front-back.true c.if-back-place.true covered) tt

@@ -1,5 +1,0 @@
-use Rattle.bb_cells.proofs.CopyLoops.{copies_are_listed}
-use Rattle.bb_cells.proofs.copy_laws.copies_are_listed.Goals as goal
-
-pub returns : goal.returns
-returns c = copies_are_listed c.laws_of_designs.ensures

@@ -1,5 +1,0 @@
-use Rattle.bb_cells.proofs.LooseLists.{lists_are_loose}
-use Rattle.bb_cells.proofs.list_laws.lists_are_loose.Goals as goal
-
-pub returns : goal.returns
-returns c = lists_are_loose c.laws_of_designs.ensures

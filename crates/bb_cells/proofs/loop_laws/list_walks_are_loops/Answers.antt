@@ -1,5 +1,0 @@
-use Rattle.bb_cells.proofs.WalkLoops.{list_walks_are_loops}
-use Rattle.bb_cells.proofs.loop_laws.list_walks_are_loops.Goals as goal
-
-pub returns : goal.returns
-returns c = list_walks_are_loops c.laws_of_designs.ensures

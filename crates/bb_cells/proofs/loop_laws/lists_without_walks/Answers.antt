@@ -1,5 +1,0 @@
-use Rattle.bb_cells.proofs.DependenceWalks.{lists_without_walks}
-use Rattle.bb_cells.proofs.loop_laws.lists_without_walks.Goals as goal
-
-pub returns : goal.returns
-returns c = lists_without_walks c.laws_of_designs.ensures

@@ -1,5 +1,0 @@
-use Rattle.bb_cells.proofs.BoxHeights.{boxes_have_heights}
-use Rattle.bb_cells.proofs.naming_laws.boxes_have_heights.Goals as goal
-
-pub returns : goal.returns
-returns c = boxes_have_heights c.laws_of_designs.ensures

@@ -1,8 +1,0 @@
--- Laws, and the words that laws alone need.
-pub mod AlikeNets
-pub mod CellLaws
-pub mod ContentTables
-pub mod CopyLaws
-pub mod ListLaws
-pub mod LoopLaws
-pub mod NamingLaws

@@ -1,0 +1,4 @@
+-- What code and proofs share: no clause of the top call rests on it.
+pub mod IsomorphismLaws
+pub mod KindLaws
+pub mod Specification

@@ -1,0 +1,13 @@
+use Rattle.bb_equiv.proofs.SpelledContents.{tables_spell_contents}
+use Rattle.bb_equiv.proofs.laws.tables_spell_contents.Goals as goal
+
+pub returns : goal.returns
+returns c = tables_spell_contents (record {
+  laws = c.lower_laws.ensures;
+  orders = c.implementing_nets_have_box_orders.ensures;
+  fixed = c.rows_are_tables.ensures.unique;
+  fit = c.tables_are_spread.ensures.fit;
+  shown_fit = c.tables_are_spread.ensures.shown;
+  back = c.tables_are_spread.ensures.back;
+  at = c.tables_are_spread.ensures.at;
+})

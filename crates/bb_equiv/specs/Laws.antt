@@ -1,0 +1,3 @@
+-- Laws, and the words that laws alone need.
+pub mod IsomorphicPairs
+pub mod DesignRefusals

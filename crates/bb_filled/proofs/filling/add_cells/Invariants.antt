@@ -1,7 +1,0 @@
-use Rattle.std.proofs.Common.{◌≡◌, ◌≤◌, length}
-use Rattle.bb_net.specs.Kinds.{spread}
-use Rattle.bb_filled.specs.Inside.Filling.{IsFilledUpTo}
-use Rattle.bb_filled.proofs.filling.add_cells.Given as goal
-
-abbrev pub invariant-loop-k : goal.invariant-loop-k
-invariant-loop-k l = IsFilledUpTo l.old (spread l.kinds l.tables) l.k l.new l.places.items × (l.k-end ≡ length l.old.cells) × (l.k ≤ length l.old.cells)

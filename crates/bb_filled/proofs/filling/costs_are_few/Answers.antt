@@ -1,5 +1,0 @@
-use Rattle.bb_filled.proofs.CellCosts.{costs_are_few}
-use Rattle.bb_filled.proofs.filling.costs_are_few.Goals as goal
-
-pub returns : goal.returns
-returns c = costs_are_few

@@ -1,5 +1,0 @@
-use Rattle.bb_filled.proofs.FilledNets.{filled_have_bits}
-use Rattle.bb_filled.proofs.laws.filled_have_bits.Goals as goal
-
-pub returns : goal.returns
-returns c = filled_have_bits c.standing_keeps_bits.ensures c.trees_choose.ensures c.number_is_below.ensures

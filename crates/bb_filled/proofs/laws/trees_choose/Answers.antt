@@ -1,5 +1,0 @@
-use Rattle.bb_filled.proofs.ChoiceTrees.{trees_choose}
-use Rattle.bb_filled.proofs.laws.trees_choose.Goals as goal
-
-pub returns : goal.returns
-returns c = trees_choose c.value_exists.ensures c.number_is_below.ensures

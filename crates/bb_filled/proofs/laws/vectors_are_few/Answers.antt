@@ -1,5 +1,0 @@
-use Rattle.bb_filled.proofs.ForcedVectors.{vectors_are_few}
-use Rattle.bb_filled.proofs.laws.vectors_are_few.Goals as goal
-
-pub returns : goal.returns
-returns c = vectors_are_few c.number_is_below.ensures c.number_spelled_once.ensures

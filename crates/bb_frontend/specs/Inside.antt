@@ -1,0 +1,3 @@
+-- What code and proofs share: no clause of the top call rests on it.
+pub mod SideFaults
+pub mod TextRefusals

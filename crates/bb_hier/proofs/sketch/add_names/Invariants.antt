@@ -1,5 +1,0 @@
-use Rattle.std.proofs.Common.{◌≡◌, ◌++◌, map, take}
-use Rattle.bb_hier.proofs.sketch.add_names.Given as goal
-
-abbrev pub invariant-loop-call : goal.invariant-loop-call
-invariant-loop-call l = l.names.items ≡ l.initial.names.items ++ map (λ call. call.name) (take l.call-index l.call-items)

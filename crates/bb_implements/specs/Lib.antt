@@ -1,0 +1,5 @@
+pub mod BoxOrders
+pub mod Places
+pub mod Implements
+pub mod Inside
+pub mod Laws

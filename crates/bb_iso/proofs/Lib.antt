@@ -1,0 +1,5 @@
+pub mod IsomorphicCells
+pub mod FormulaLemmas
+pub mod FormulaValues
+pub mod OrderedFormulas
+pub mod RearrangedFormulas

@@ -1,5 +1,0 @@
-use Rattle.bb_lex.proofs.LawProofs.{read_bits_are_said}
-use Rattle.bb_lex.proofs.laws.read_bits_are_said.Goals as goal
-
-pub returns : goal.returns
-returns c = read_bits_are_said

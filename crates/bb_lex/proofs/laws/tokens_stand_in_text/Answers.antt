@@ -1,5 +1,0 @@
-use Rattle.bb_lex.proofs.LawProofs.{tokens_stand_in_text}
-use Rattle.bb_lex.proofs.laws.tokens_stand_in_text.Goals as goal
-
-pub returns : goal.returns
-returns c = tokens_stand_in_text

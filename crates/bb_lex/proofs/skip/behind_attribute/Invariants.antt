@@ -1,9 +1,0 @@
-use Rattle.std.proofs.Common.{◌≡◌, length}
-use Rattle.bb_lex.specs.Inside.Skips.{behind_parts}
-use Rattle.bb_lex.proofs.skip.behind_attribute.Given as goal
-
-abbrev pub invariant-parts : goal.invariant-parts
-invariant-parts l = behind_parts (length l.rest) l.rest ≡ behind_parts (length l.text) l.text
-
-abbrev pub decreases-parts : goal.decreases-parts
-decreases-parts l = length l.rest

@@ -1,5 +1,0 @@
-use Rattle.std.proofs.Common.{vec_len}
-use Rattle.bb_net.proofs.components.Search.close.Given as goal
-
-abbrev pub decreases-loop-next : goal.decreases-loop-next
-decreases-loop-next l = vec_len l.self.open

@@ -1,4 +1,0 @@
-use Rattle.bb_rungs.proofs.climbing.say_next.Goals as goal
-
-pub returns-clause-known : goal.returns-clause-known
-returns-clause-known c = c.known_after.ensures.known c.args.pair.now c.args.options.now c.in_ok-known.ensures.known

@@ -1,5 +1,0 @@
-use Rattle.bb_rungs.proofs.OpenLaw.{climbs_leave_open}
-use Rattle.bb_rungs.proofs.laws.climbs_leave_open.Goals as goal
-
-pub returns : goal.returns
-returns c = climbs_leave_open

@@ -1,5 +1,0 @@
-use Rattle.bb_rungs.proofs.InputTexts.{input_lines_fix_vectors}
-use Rattle.bb_rungs.proofs.laws.input_lines_fix_vectors.Goals as goal
-
-pub returns : goal.returns
-returns c = input_lines_fix_vectors

@@ -1,5 +1,0 @@
-use Rattle.bb_rungs.proofs.OpenLaw.{left_open_stays_open, staying_open_is_left_open}
-use Rattle.bb_rungs.proofs.laws.left_open_stays_open.Goals as goal
-
-pub returns : goal.returns
-returns c = record { left = staying_open_is_left_open; stays = left_open_stays_open }

@@ -1,5 +1,0 @@
-use Rattle.bb_rungs.proofs.RepairLaw.{tables_are_given_once}
-use Rattle.bb_rungs.proofs.laws.tables_are_given_once.Goals as goal
-
-pub returns : goal.returns
-returns c = tables_are_given_once

@@ -1,0 +1,11 @@
+pub mod Embeddings
+pub mod FilledNets
+pub mod FilledTrees
+pub mod FillingSteps
+pub mod DistinguishingVectors
+pub mod CellCosts
+pub mod ChoiceTrees
+pub mod GateCells
+pub mod SomeTrees
+pub mod SomeFilled
+pub mod IsomorphicFilled

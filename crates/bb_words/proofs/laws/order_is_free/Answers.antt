@@ -1,5 +1,0 @@
-use Rattle.bb_words.proofs.OrderLemmas.{order_is_free}
-use Rattle.bb_words.proofs.laws.order_is_free.Goals as goal
-
-pub returns : goal.returns
-returns c = order_is_free

@@ -1,5 +1,0 @@
-use Rattle.bb_words.proofs.PlainLemmas.{plain_words}
-use Rattle.bb_words.proofs.laws.plain_words_are_files.Goals as goal
-
-pub returns : goal.returns
-returns c = plain_words

@@ -1,5 +1,0 @@
-use Rattle.bb_words.proofs.PlainLemmas.{joined_values}
-use Rattle.bb_words.proofs.laws.values_may_be_joined.Goals as goal
-
-pub returns : goal.returns
-returns c = joined_values

@@ -1,5 +1,0 @@
-use Rattle.bb_written.proofs.FilledTexts.{filled_texts_are_read}
-use Rattle.bb_written.proofs.laws.filled_texts_are_read.Goals as goal
-
-pub returns : goal.returns
-returns c = filled_texts_are_read c.read_pieces_are_longest.ensures
