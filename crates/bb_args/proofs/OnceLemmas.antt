@@ -4,7 +4,7 @@ use Rattle.std.specs.Prelude.{◌&&◌, ◌||◌, is_some, not, option_and_then}
 use Rattle.std.specs.List.{list_all}
 use Rattle.bb_args.specs.Requests.{MadePair, Refutation, Request, comparison_by, made_pair_by, options_by, refutation_by, request_by, file, has_no_files, is_absent, is_alone, is_making, is_refuting}
 use Rattle.bb_args.specs.CommandLines.{Found, found_in, options}
-use Rattle.bb_args.specs.Laws.{WordsRequestOnce}
+use Rattle.bb_args.specs.Laws.{WordsRequestAtMostOne}
 use Rattle.bb_args.specs.Numbers.{number_within}
 use Rattle.bb_args.proofs.WithinLemmas.{both, file-some, given-some, if-some, some-same}
 
@@ -92,7 +92,7 @@ module _ {X Y : Type 0} (f : Found → Option X) (g : Found → Option Y) (o : O
       let b = given-some o g y second in
       not_true (sym (by_g b.0 y b.2) ∙ ap mark (some-same b.0 a.0 (sym b.1 ∙ a.1)) ∙ by_f a.0 x a.2)
 
-pub words_once : WordsRequestOnce
+pub words_once : WordsRequestAtMostOne
 words_once = record {
   not_both = λ words r f. never_two comparison_by refutation_by (found_in words) is_refuting (λ found x e. (found_files found x e).flag) (λ found y e. (found_refutation found y e).flag) r f;
   not_files_and_made = λ words r m. never_two comparison_by made_pair_by (found_in words) is_making (λ found x e. (found_files found x e).width) (λ found y e. (found_pair found y e).width) r m;

@@ -7,7 +7,7 @@ use Rattle.std.specs.Str.{bytes_eq}
 use Rattle.std.specs.Str.Parse.{digits_value}
 use Rattle.std.proofs.lemmas.List.Elements.{All-from_recursion, Contains-append_left, Contains-append_right}
 use lib.Pointwise.{bytes_decides}
-use Rattle.bb_args.specs.Requests.{RequestNothing, Request, requested, comparison_by, made_pair_by, refutation_by, given, requested_made_pair, name, requested_refutation}
+use Rattle.bb_args.specs.Requests.{RequestNothing, Request, requested, comparison_by, made_pair_by, refutation_by, if_given, requested_made_pair, name, requested_refutation}
 use Rattle.bb_args.specs.CommandLines.{Argument, File, Flag, Text, Valued, arguments_of, after_dashes, flags, is_among, is_dashed, is_equals, options, preceded, taken}
 use Rattle.bb_args.specs.Laws.{AllAreFilesAfter, RequestTheSame, CareNamesAreRequested, FewWordsRequestNothing, FillIsRequested, PlainWordsAreFiles, SomeWordsAreRefused, ValuesMayBeJoined, WidthsRequestPairs, files_alone, is_plain, pair_alone}
 use Rattle.bb_args.specs.Numbers.{is_number, number_within}
@@ -100,7 +100,7 @@ care_names program (x ∷ xs) (y ∷ ys) (v ∷ value) plain_spec plain_imp plai
     constrained : Request
     constrained = record (files_alone (x ∷ xs) (y ∷ ys)) { care = Some (v ∷ value) }
 
-    decided : (graphic : Bool) → given (option_map (λ text. Some text) (if graphic then name (v ∷ value) else None)) (λ care. Some (record (files_alone (x ∷ xs) (y ∷ ys)) { care = care })) ≡ (if graphic then Some constrained else None)
+    decided : (graphic : Bool) → if_given (option_map (λ text. Some text) (if graphic then name (v ∷ value) else None)) (λ care. Some (record (files_alone (x ∷ xs) (y ∷ ys)) { care = care })) ≡ (if graphic then Some constrained else None)
     decided true = refl
     decided false = refl
 

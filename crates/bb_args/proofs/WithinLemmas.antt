@@ -7,7 +7,7 @@ use Rattle.std.proofs.lemmas.List.Elements.{All-cons, All-nil}
 use Rattle.bb_options.specs.declared.options.Options.{Options}
 use Rattle.bb_options.specs.declared.rung.Rung.TheVariants.{Ternary, Expand}
 use Rattle.bb_options.specs.Rungs.{AreBounds, rank}
-use Rattle.bb_args.specs.Requests.{AreRequestFor, RequestNothing, HasBounds, IsWantedBy, MadePair, Request, comparison_by, made_pair_by, options_by, refutation_by, request_by, care, file, given, has_no_files, is_making, is_refuting, name, request_of, rung_named, top, value_or}
+use Rattle.bb_args.specs.Requests.{AreRequestFor, RequestNothing, HasBounds, IsWantedBy, MadePair, Request, comparison_by, made_pair_by, options_by, refutation_by, request_by, care, file, if_given, has_no_files, is_making, is_refuting, name, request_of, rung_named, top, value_or}
 use Rattle.bb_args.specs.CommandLines.{Found, found_in}
 use Rattle.clap.specs.declared.parser.matches.ArgMatches.{ArgMatches}
 use Rattle.bb_args.specs.Inside.Commands.{AreSame, FindsIn, by_matches}
@@ -18,7 +18,7 @@ use Rattle.bb_args.specs.Laws.{IsMadeWithin, IsWithin, MadePairsAreWithin, Reque
 use Rattle.bb_args.specs.Numbers.{number_within}
 
 -- what follows from a value that is there
-pub given-some : {X Y : Type 0} (o : Option X) (f : X → Option Y) (y : Y) → given o f ≡ Some y → (x : X) × (o ≡ Some x) × (f x ≡ Some y)
+pub given-some : {X Y : Type 0} (o : Option X) (f : X → Option Y) (y : Y) → if_given o f ≡ Some y → (x : X) × (o ≡ Some x) × (f x ≡ Some y)
 given-some None f y e = cc
 given-some (Some x) f y e = (x, refl, e)
 
@@ -45,13 +45,13 @@ bounded : (default least most : ℕ) (value : Option (List ℕ)) (n : ℕ) → l
 bounded default least most None n low high e = let same = some-same _ _ e in (omega (arith, same, low), omega (arith, same, high))
 bounded default least most (Some text) n low high e = number_within-some least most text n e
 
-name-some : (text given : List ℕ) → name text ≡ Some given → given ≢ []
-name-some [] given e = cc
-name-some (b ∷ bs) given e = λ empty. cc
+name-some : (text if_given : List ℕ) → name text ≡ Some if_given → if_given ≢ []
+name-some [] if_given e = cc
+name-some (b ∷ bs) if_given e = λ empty. cc
 
-pub file-some : (value : Option (List ℕ)) (given : List ℕ) → file value ≡ Some given → given ≢ []
-file-some None given e = cc
-file-some (Some text) given e = name-some text given e
+pub file-some : (value : Option (List ℕ)) (if_given : List ℕ) → file value ≡ Some if_given → if_given ≢ []
+file-some None if_given e = cc
+file-some (Some text) if_given e = name-some text if_given e
 
 graphic : (text : List ℕ) → list_all is_ascii_graphic text ≡ true → All (λ b. (33 ≤ b) × (b ≤ 126)) text
 graphic [] e = All-nil (λ b. (33 ≤ b) × (b ≤ 126))
@@ -59,17 +59,17 @@ graphic (b ∷ bs) e =
     let parts = both (is_ascii_graphic b) (list_all is_ascii_graphic bs) e in
     All-cons (λ b. (33 ≤ b) × (b ≤ 126)) b bs (grind (arith, parts.0), grind (arith, parts.0)) (graphic bs parts.1)
 
-care-within : (value given : Option (List ℕ)) → care value ≡ Some given → IfSome given (λ text. (text ≢ []) × All (λ b. (33 ≤ b) × (b ≤ 126)) text)
-care-within None given e = subst (λ o. IfSome o (λ text. (text ≢ []) × All (λ b. (33 ≤ b) × (b ≤ 126)) text)) (some-same None given e) tt
-care-within (Some text) given e = from (list_all is_ascii_graphic text) refl e
+care-within : (value if_given : Option (List ℕ)) → care value ≡ Some if_given → IfSome if_given (λ text. (text ≢ []) × All (λ b. (33 ≤ b) × (b ≤ 126)) text)
+care-within None if_given e = subst (λ o. IfSome o (λ text. (text ≢ []) × All (λ b. (33 ≤ b) × (b ≤ 126)) text)) (some-same None if_given e) tt
+care-within (Some text) if_given e = from (list_all is_ascii_graphic text) refl e
   where
-    from : (g : Bool) → list_all is_ascii_graphic text ≡ g → option_map (λ found. Some found) (if g then name text else None) ≡ Some given → IfSome given (λ text. (text ≢ []) × All (λ b. (33 ≤ b) × (b ≤ 126)) text)
+    from : (g : Bool) → list_all is_ascii_graphic text ≡ g → option_map (λ found. Some found) (if g then name text else None) ≡ Some if_given → IfSome if_given (λ text. (text ≢ []) × All (λ b. (33 ≤ b) × (b ≤ 126)) text)
     from false is e = cc
     from true is e = named text is e
       where
-        named : (text : List ℕ) → list_all is_ascii_graphic text ≡ true → option_map (λ found. Some found) (name text) ≡ Some given → IfSome given (λ text. (text ≢ []) × All (λ b. (33 ≤ b) × (b ≤ 126)) text)
+        named : (text : List ℕ) → list_all is_ascii_graphic text ≡ true → option_map (λ found. Some found) (name text) ≡ Some if_given → IfSome if_given (λ text. (text ≢ []) × All (λ b. (33 ≤ b) × (b ≤ 126)) text)
         named [] is e = cc
-        named (b ∷ bs) is e = subst (λ o. IfSome o (λ text. (text ≢ []) × All (λ b. (33 ≤ b) × (b ≤ 126)) text)) (some-same (Some (b ∷ bs)) given e) ((λ empty. cc), graphic (b ∷ bs) is)
+        named (b ∷ bs) is e = subst (λ o. IfSome o (λ text. (text ≢ []) × All (λ b. (33 ≤ b) × (b ≤ 126)) text)) (some-same (Some (b ∷ bs)) if_given e) ((λ empty. cc), graphic (b ∷ bs) is)
 
 options-within : (found : Found) (o : Options) → options_by found ≡ Some o → AreBounds o
 options-within found o e =

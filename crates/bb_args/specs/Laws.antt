@@ -89,7 +89,7 @@ FewWordsRequestNothing = RequestNothing [] × ((program : List ℕ) → RequestN
     → is_plain spec ≡ true → RequestNothing (program ∷ spec ∷ []))
 
 -- words request a comparison of files, a made pair or a refutation, or nothing
-pub record WordsRequestOnce : Type 0 where
+pub record WordsRequestAtMostOne : Type 0 where
   pub not_both : (words : List (List ℕ)) (r : Request) (f : Refutation) → requested words ≡ Some r
       → requested_refutation words ≡ Some f → ⊥
   pub not_files_and_made : (words : List (List ℕ)) (r : Request) (m : MadePair) → requested words ≡ Some r

@@ -65,7 +65,7 @@ file = option_and_then name
 
 -- the name of a module may be given
 abbrev pub top : Option (List ℕ) → Option (Option (List ℕ))
-top = value_or None (λ text. option_map (λ given. Some given) (name text))
+top = value_or None (λ text. option_map (λ if_given. Some if_given) (name text))
 
 -- a name that can be printed: one or more bytes, all from 33 to 126
 abbrev pub printable : List ℕ → Option (List ℕ)
@@ -73,22 +73,22 @@ printable text = if list_all is_ascii_graphic text then name text else None
 
 -- the text of a care output may be given; no bit of a port has a name that cannot be printed
 abbrev pub care : Option (List ℕ) → Option (Option (List ℕ))
-care = value_or None (λ text. option_map (λ given. Some given) (printable text))
+care = value_or None (λ text. option_map (λ if_given. Some if_given) (printable text))
 
 -- what follows from a value, if there is one
-abbrev pub given : {X Y : Type 0} → Option X → (X → Option Y) → Option Y
-given value next = option_and_then next value
+abbrev pub if_given : {X Y : Type 0} → Option X → (X → Option Y) → Option Y
+if_given value next = option_and_then next value
 
 -- which checks are run, and their bounds, by what was found
 abbrev pub options_by : Found → Option Options
 options_by found =
-    given (value_or Ternary rung_named (found.value (codes "from"))) (λ from.
-    given (value_or Expand rung_named (found.value (codes "to"))) (λ to.
-    given (value_or 32 (number_within 0 4096) (found.value (codes "patterns"))) (λ patterns.
-    given (value_or 1 (number_within 1 18446744073709551615) (found.value (codes "seed"))) (λ seed.
-    given (value_or 1000000 (number_within 0 50000000) (found.value (codes "nodes"))) (λ nodes.
-    given (value_or 65536 (number_within 1 1048576) (found.value (codes "cache"))) (λ cache.
-    given (value_or 2000000 (number_within 0 8000000) (found.value (codes "clauses"))) (λ clauses.
+    if_given (value_or Ternary rung_named (found.value (codes "from"))) (λ from.
+    if_given (value_or Expand rung_named (found.value (codes "to"))) (λ to.
+    if_given (value_or 32 (number_within 0 4096) (found.value (codes "patterns"))) (λ patterns.
+    if_given (value_or 1 (number_within 1 18446744073709551615) (found.value (codes "seed"))) (λ seed.
+    if_given (value_or 1000000 (number_within 0 50000000) (found.value (codes "nodes"))) (λ nodes.
+    if_given (value_or 65536 (number_within 1 1048576) (found.value (codes "cache"))) (λ cache.
+    if_given (value_or 2000000 (number_within 0 8000000) (found.value (codes "clauses"))) (λ clauses.
     if nat_le (rank from) (rank to) then Some (record {
       from = from;
       to = to;
@@ -105,12 +105,12 @@ options_by found =
 -- the whole comparison, by what was found
 abbrev pub request_by : Found → Option Request
 request_by found =
-    given (file found.spec) (λ spec.
-    given (file found.imp) (λ imp.
-    given (top (found.value (codes "top-spec"))) (λ top_spec.
-    given (top (found.value (codes "top-impl"))) (λ top_imp.
-    given (care (found.value (codes "care"))) (λ care.
-    given (options_by found) (λ options.
+    if_given (file found.spec) (λ spec.
+    if_given (file found.imp) (λ imp.
+    if_given (top (found.value (codes "top-spec"))) (λ top_spec.
+    if_given (top (found.value (codes "top-impl"))) (λ top_imp.
+    if_given (care (found.value (codes "care"))) (λ care.
+    if_given (options_by found) (λ options.
     Some (record {
       spec = spec;
       imp = imp;
@@ -152,16 +152,16 @@ comparison_by found = if is_refuting found || is_making found then None else req
 -- contents, a file, a top or a care output
 abbrev pub made_pair_by : Found → Option MadePair
 made_pair_by found =
-    given (option_and_then (number_within 1 256) (found.value (codes "make"))) (λ n.
-    given (options_by found) (λ options.
+    if_given (option_and_then (number_within 1 256) (found.value (codes "make"))) (λ n.
+    if_given (options_by found) (λ options.
     if not (is_refuting found) && (not options.shared && has_no_files found)
     then Some (record { n = n; fill = found.has_flag (codes "fill"); options = options }) else None))
 
 -- a refutation is requested with it alone, and with both files
 abbrev pub refutation_by : Found → Option Refutation
 refutation_by found =
-    given (file found.spec) (λ cnf.
-    given (file found.imp) (λ adds.
+    if_given (file found.spec) (λ cnf.
+    if_given (file found.imp) (λ adds.
     if is_refuting found && is_alone found then Some (record { cnf = cnf; adds = adds }) else None))
 
 -- the comparison of files that words request

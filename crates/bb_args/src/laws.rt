@@ -4,7 +4,7 @@
 
 ghost use Rattle.bb_args.specs.Laws.{AllAreFilesAfter, CareNamesAreRequested, FewWordsRequestNothing, FillIsRequested};
 ghost use Rattle.bb_args.specs.Laws.{MadePairsAreWithin, OrderIsFree, PlainWordsAreFiles, RequestsAreWithin};
-ghost use Rattle.bb_args.specs.Laws.{SomeWordsAreRefused, ValuesMayBeJoined, WidthsRequestPairs, WordsRequestOnce};
+ghost use Rattle.bb_args.specs.Laws.{SomeWordsAreRefused, ValuesMayBeJoined, WidthsRequestPairs, WordsRequestAtMostOne};
 
 /// Every request is within the bounds of the options.
 pub fn requests_are_within()
@@ -50,7 +50,7 @@ pub fn few_words_request_nothing()
 /// No words make two of these requests: a comparison of files, a made pair, a refutation. So the order in which the
 /// code tries them does not matter.
 pub fn words_request_once()
-    ensures { WordsRequestOnce }
+    ensures { WordsRequestAtMostOne }
 {}
 
 /// After two files a third one, an option or flag given twice, a value on a flag, and an unknown name are refused.

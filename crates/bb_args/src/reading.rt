@@ -6,7 +6,8 @@ ghost use Rattle.std.specs.Prelude.{IfErr, IfSome, IfNone, None, Some};
 ghost use Rattle.std.specs.List.{list_all};
 ghost use Rattle.bb_args.specs.CommandLines.{options as option_names};
 ghost use Rattle.bb_args.specs.Inside.Commands.{by_matches};
-ghost use Rattle.bb_args.specs.Requests.{AreRequestFor, RequestNothing, HasBounds, IsWantedBy, comparison_by, made_pair_by};
+ghost use Rattle.bb_args.specs.Requests.{AreRequestFor, RequestNothing, HasBounds, IsWantedBy, comparison_by};
+ghost use Rattle.bb_args.specs.Requests.{made_pair_by};
 ghost use Rattle.bb_args.specs.Requests.{options_by, refutation_by, request_by, has_no_files, is_absent};
 ghost use Rattle.bb_args.specs.Requests.{is_alone, is_refuting, request_of};
 
@@ -69,8 +70,9 @@ fn request<'a>(matches: &ArgMatches<'a>) -> Option<FileComparison<'a>>
 }
 
 fn no_bound(matches: &ArgMatches<'_>) -> bool
-    ensures { result ≡ list_all (is_absent (by_matches matches.now))
-        (codes "patterns" ∷ codes "seed" ∷ codes "nodes" ∷ codes "clauses" ∷ codes "cache" ∷ codes "care" ∷ codes "make" ∷ []) }
+    ensures { result
+        ≡ list_all (is_absent (by_matches matches.now)) (codes "patterns" ∷ codes "seed" ∷ codes "nodes"
+        ∷ codes "clauses" ∷ codes "cache" ∷ codes "care" ∷ codes "make" ∷ []) }
 {
     value(matches, "patterns").is_none()
         && value(matches, "seed").is_none()
@@ -175,7 +177,8 @@ fn wanted<'a>(matches: &ArgMatches<'a>) -> Option<Wanted<'a>>
 /// | Words | Value | Without it |
 /// |---|---|---|
 /// | `--top-spec`, `--top-impl` | the name of a module | the one that no module instantiates |
-/// | `--from`, `--to` | `ternary`, `symbolic`, `local`, `output`, `input`, `expand`, the last no earlier than the first | `ternary`, `expand` |
+/// | `--from` | `ternary`, `symbolic`, `local`, `output`, `input`, `expand` | `ternary` |
+/// | `--to` | the same, no earlier than that of `--from` | `expand` |
 /// | `--patterns` | 0 to 4,096 | 32 |
 /// | `--seed` | 1 to 18,446,744,073,709,551,615 | 1 |
 /// | `--nodes` | 0 to 50,000,000 | 1,000,000 |

@@ -9,7 +9,7 @@ use Rattle.bb_bits.specs.Numbers.{number_of}
 abbrev pub Contents : Type 0
 Contents = List ℕ → List (List Bool)
 
--- the rows fit a box with these numbers of input and output pins
+-- there is a row for each list of bits at the input pins, and it has a bit for each output pin
 pub record HasShape (inputs outputs : ℕ) (rows : List (List Bool)) : Type 0 where
   pub count : length rows ≡ 2 ^ inputs
   pub widths : All (λ row. length row ≡ outputs) rows

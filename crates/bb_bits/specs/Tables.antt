@@ -34,3 +34,7 @@ zero_table inputs outputs = record { inputs = inputs; outputs = outputs; rows = 
 -- all rows, in the order of their numbers
 abbrev pub rows_of : TableBits → List (List Bool)
 rows_of t = map (row_of t) (range_with_len 0 (2 ^ t.inputs))
+
+-- the bits of an output pin in all rows, row 0 first
+abbrev pub column : TableBits → ℕ → List Bool
+column t pin = map (λ row. table_bit t row pin) (range_with_len 0 (2 ^ t.inputs))

@@ -2,7 +2,8 @@
 //! a report prints is bounded at 2^24 bits, and this type alone has that bound: definitions speak of tables of any
 //! size.
 
-ghost use Rattle.std.specs.Prelude.{◌≡◌, ℕ, ◌+◌, ◌*◌, ◌<◌, ◌≤◌, ◌^◌, Bool, List, length, take, drop, slice_set, IfOk, All};
+ghost use Rattle.std.specs.Prelude.{◌≡◌, ℕ, ◌+◌, ◌*◌, ◌<◌, ◌≤◌, ◌^◌, Bool, List, length, take, drop, slice_set, IfOk};
+ghost use Rattle.std.specs.Prelude.{All};
 ghost use Rattle.bb_bits.specs.Numbers.{number_of};
 ghost use Rattle.bb_bits.specs.Tables.{TableBits, IsTable, row_of, table_bit, zero_table};
 ghost use Rattle.bb_bits.specs.Laws.RowLaws.{RowsHaveShape, RowsAreChosen, BitsAreChosen, RowsHaveTable, RowsFixTable};

@@ -8,7 +8,7 @@ use Rattle.bb_design.specs.Hierarchy.{Design}
 use Rattle.bb_design.specs.NetBits.{Bit, same_bit, net_order}
 use Rattle.bb_blast.specs.Inside.Listing.{Sources, is_open, given_one, given_all, place_or_zero}
 use Rattle.bb_design.specs.Inside.Allowed.{IsBounded}
-use Rattle.bb_implements.specs.Places.{CellPlace, Constant, Numbering, Lowering, place_in}
+use Rattle.bb_implements.specs.Places.{CellName, Constant, Numbering, Lowering, place_in}
 use Rattle.bb_blast.proofs.BitNumbers.{bit_number, distinguished}
 use Rattle.bb_blast.proofs.ListedParts.{pair}
 use Rattle.bb_design.specs.Laws.DesignLaws.{DesignLaws}
@@ -74,20 +74,20 @@ got_replicate (suc n) zero x lt = refl
 got_replicate (suc n) (suc k) x lt = got_replicate n k x (omega (arith, lt))
 
 module _ (of_designs : DesignLaws) (names : NetNamesDiffer) (d : Design) (bounded : IsBounded d) (lowering : Lowering) (number : Numbering) (nets start : ℕ) (zero_is : number (Constant false) ≡ 0) where
-  found_same : (k : ℕ) (b : Bit) → slice_get (net_order d) k ≡ Some b → (all : List (Bit × CellPlace))
+  found_same : (k : ℕ) (b : Bit) → slice_get (net_order d) k ≡ Some b → (all : List (Bit × CellName))
       → option_map_or (λ w. w.1) (find (λ w. k == w.0) (map (pair d lowering number nets start) all)) 0 ≡ number (place_in all b)
   found_same k b e [] = sym zero_is
   found_same k b e (y ∷ all) = by (same_bit b y.0) (k == bit_number d y.0) (distinguished of_designs names d bounded k b y.0 e) (found_same k b e all)
     where
       by : (s t : Bool) → s ≡ t → option_map_or (λ (w : ℕ × ℕ). w.1) (find (λ (w : ℕ × ℕ). k == w.0) (map (pair d lowering number nets start) all)) 0 ≡ number (place_in all b)
           → option_map_or (λ (w : ℕ × ℕ). w.1) (if t then Some (pair d lowering number nets start y) else find (λ (w : ℕ × ℕ). k == w.0) (map (pair d lowering number nets start) all)) 0
-          ≡ number (option_map_or (λ (x : Bit × CellPlace). x.1) (if s then Some y else find (λ (x : Bit × CellPlace). same_bit b x.0) all) (Constant false))
+          ≡ number (option_map_or (λ (x : Bit × CellName). x.1) (if s then Some y else find (λ (x : Bit × CellName). same_bit b x.0) all) (Constant false))
       by true true same rest = refl
       by false false same rest = rest
       by true false same rest = absurd (grind (arith, same))
       by false true same rest = absurd (grind (arith, same))
 
   -- what is noted for a bit
-  pub noted : (total k : ℕ) (b : Bit) → k < total → slice_get (net_order d) k ≡ Some b → (all : List (Bit × CellPlace))
+  pub noted : (total k : ℕ) (b : Bit) → k < total → slice_get (net_order d) k ≡ Some b → (all : List (Bit × CellName))
       → place_or_zero (slice_get (given_all (replicate total None) (map (pair d lowering number nets start) all)) k) ≡ number (place_in all b)
   noted total k b fits e all = first_counts (map (pair d lowering number nets start) all) (replicate total None) k (got_replicate total k None fits) ∙ found_same k b e all

@@ -20,7 +20,7 @@ use Rattle.bb_blast.specs.Inside.Listing.{Sources, Site, CellList, Terminals, gi
 use Rattle.bb_blast.specs.Inside.Logic.{constant_place}
 use Rattle.bb_blast.proofs.LogicSteps.{step_place}
 use Rattle.bb_blast.specs.Inside.ModuleTemplates.{IsPartOf}
-use Rattle.bb_implements.specs.Places.{CellPlace, Constant, Input, NetBit, Step, Joined, Inverted, BoxPin, Numbering, Lowering, Steps, IsLoweringOf, AreSteps, given_at, data_at, places_at}
+use Rattle.bb_implements.specs.Places.{CellName, Constant, Input, NetBit, Step, Joined, Inverted, BoxPin, Numbering, Lowering, Steps, IsLoweringOf, AreSteps, given_at, data_at, places_at}
 use Rattle.bb_blast.proofs.BitNumbers.{bit_number, IsSiteOf}
 use Rattle.bb_blast.proofs.ListedConstructs.{part_puts}
 use Rattle.bb_blast.proofs.ListedParts.{lowereds, Puts, pair}
@@ -153,7 +153,7 @@ module _ (d : Design) (lowering : Lowering) (number : Numbering) (nets start : �
     pub lowered : All (IsLoweringOf lowering) (enumerate_from k xs)
     pub steps : All (AreSteps lowering number) (enumerate_from k xs)
 
-  joined : (a b c : Sources) (xs ys : List (Bit × CellPlace)) → b ≡ given_all a (map (pair d lowering number nets start) xs) → c ≡ given_all b (map (pair d lowering number nets start) ys)
+  joined : (a b c : Sources) (xs ys : List (Bit × CellName)) → b ≡ given_all a (map (pair d lowering number nets start) xs) → c ≡ given_all b (map (pair d lowering number nets start) ys)
       → c ≡ given_all a (map (pair d lowering number nets start) (xs ++ ys))
   joined a b c xs ys p q =
       q ∙ ap (λ z. given_all z (map (pair d lowering number nets start) ys)) p ∙ sym (fold-append given_one a (map (pair d lowering number nets start) xs) (map (pair d lowering number nets start) ys))

@@ -15,7 +15,7 @@ use Rattle.bb_design.specs.NetBits.{Bit, scope_bits, input_bits, output_bits}
 use Rattle.bb_blast.specs.Inside.Counting.{capped, after}
 use Rattle.bb_blast.specs.Inside.Listing.{Boxed, given_one, given_all, in_row, with_pins, with_box}
 use Rattle.bb_bits.specs.Inside.Places.{AreAt}
-use Rattle.bb_implements.specs.Places.{CellPlace, NetBit, BoxPin, Numbering, Lowering, given_by_box, box_places, pins_of}
+use Rattle.bb_implements.specs.Places.{CellName, NetBit, BoxPin, Numbering, Lowering, given_by_box, box_places, pins_of}
 use Rattle.bb_blast.proofs.BitNumbers.{bit_number}
 use Rattle.bb_blast.proofs.CappedNumbers.{capped_first, capped_small, after_first, after_second}
 use Rattle.bb_lemmas.proofs.Numbered.{length-enumerated}
@@ -78,7 +78,7 @@ module _ (d : Design) (lowering : Lowering) (number : Numbering) (nets start : �
     pins_given =
         rows_same (after first) (bit_number d) (after (after start (length a.cells))) (λ x. number (BoxPin n x)) 0 o.outputs.items (output_bits s)
         (sym (numbers_are (bit_number d) (scope_bits s) first pins.own o.outputs.items (output_bits s) pins.outputs)) (λ x. sym (at_row x))
-        ∙ sym (map-twice {B = Bit × CellPlace} (λ (x : ℕ × Bit). (x.1, BoxPin n x.0)) (pair d lowering number nets start) (enumerate_from 0 (output_bits s)))
+        ∙ sym (map-twice {B = Bit × CellName} (λ (x : ℕ × Bit). (x.1, BoxPin n x.0)) (pair d lowering number nets start) (enumerate_from 0 (output_bits s)))
 
     mk_pins : List ℕ → List ℕ → Pins
     mk_pins ins outs = record { ins = ins; outs = outs }

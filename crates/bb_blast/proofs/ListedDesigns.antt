@@ -26,7 +26,7 @@ use Rattle.bb_design.specs.Refusals.{most_bits, most_cells}
 use Rattle.bb_design.specs.Sizes.{cells_in as cells_in_design}
 use Rattle.bb_blast.specs.Inside.ModuleTemplates.{IsModuleTemplate}
 use Rattle.bb_blast.specs.Inside.Placements.{ArePlaced, AreTemplated, AreStored, IsStoredAt}
-use Rattle.bb_implements.specs.Places.{CellPlace, Constant, Input, NetBit, BoxPin, Numbering, Lowering, IsLowering, given_at, given_by_box, given, data_at, data_places, place_in, box_places, places_at, prefix_places, operator_places, places, IsListOf}
+use Rattle.bb_implements.specs.Places.{CellName, Constant, Input, NetBit, BoxPin, Numbering, Lowering, IsLowering, given_at, given_by_box, driving_places, data_at, data_places, place_in, box_places, places_at, prefix_places, operator_places, placed_cells, IsListOf}
 use Rattle.bb_implements.specs.Laws.ListLaws.{PlacesAreFew}
 use Rattle.bb_design.specs.Registers.{RegisterBit, registers, cut_bits}
 use Rattle.bb_blast.proofs.BitNumbers.{bit_number, numbered, number_small, held_bits}
@@ -147,8 +147,8 @@ module _ (of_designs : DesignLaws) (names : NetNamesDiffer) (few : PlacesAreFew)
   is_lowering = parts_fit.lowered
 
   -- a small design has few places, boxes and pins
-  few_places : length (places d lowering number) < 2 ^ 32
-  few_places = below (2 ^ 32) (length (places d lowering number)) (cells_in_design d + length (net_order d)) (few d lowering number bounded is_lowering)
+  few_places : length (placed_cells d lowering number) < 2 ^ 32
+  few_places = below (2 ^ 32) (length (placed_cells d lowering number)) (cells_in_design d + length (net_order d)) (few d lowering number bounded is_lowering)
       (below_both most_cells most_bits (2 ^ 32) (cells_in_design d) (length (net_order d)) bounded.small.1 (omega (arith, bounded.small.0)) (omega arith))
 
   few_boxes : length (boxes d) < 2 ^ 32
@@ -156,7 +156,7 @@ module _ (of_designs : DesignLaws) (names : NetNamesDiffer) (few : PlacesAreFew)
       (below_both 1 most_bits (2 ^ 32) 1 (length (net_order d) + length (instances d)) (omega arith) bounded.small.0 (omega arith))
 
   few_pins : length (flat_map output_bits (boxes d)) < 2 ^ 32
-  few_pins = below (2 ^ 32) (length (flat_map output_bits (boxes d))) (length (places d lowering number))
+  few_pins = below (2 ^ 32) (length (flat_map output_bits (boxes d))) (length (placed_cells d lowering number))
       (omega (arith, length-append (prefix_places d lowering number) (operator_places d lowering number), length-append (flat_map box_places (enumerate_from 0 (boxes d))) (flat_map (places_at lowering number) (enumerate_from 0 (parts d))), pins_long 0 (boxes d)))
       few_places
 
@@ -165,7 +165,7 @@ module _ (of_designs : DesignLaws) (names : NetNamesDiffer) (few : PlacesAreFew)
       (λ k s p at has. boxes_are of_designs names d bounded placed are templates templated lowering number nets start net_places (boxes d) pins_occur few_boxes few_pins k s p at has)
       (record { counted = refl; whole = refl; long = refl })
 
-  abbrev noting : Bit × CellPlace → ℕ × ℕ
+  abbrev noting : Bit × CellName → ℕ × ℕ
   noting = pair d lowering number nets start
 
   -- what gives each bit
@@ -184,41 +184,41 @@ module _ (of_designs : DesignLaws) (names : NetNamesDiffer) (few : PlacesAreFew)
   pub cut_long : length ins ≡ length (cut_bits d)
   cut_long = sym (length-map ins (after 0)) ∙ ap length cut_numbers ∙ length-map (cut_bits d) (bit_number d)
 
-  abbrev given_inputs : List (Bit × CellPlace)
+  abbrev given_inputs : List (Bit × CellName)
   given_inputs = map (λ x. (x.1, Input x.0)) (enumerate_from 0 (cut_bits d))
 
-  abbrev given_pins : List (Bit × CellPlace)
+  abbrev given_pins : List (Bit × CellName)
   given_pins = flat_map given_by_box (enumerate_from 0 (boxes d))
 
-  abbrev given_parts : List (Bit × CellPlace)
+  abbrev given_parts : List (Bit × CellName)
   given_parts = flat_map (given_at lowering) (enumerate_from 0 (parts d))
 
   inputs_noted : in_row 0 ins 2 ≡ map noting given_inputs
   inputs_noted =
       rows_same (after 0) (bit_number d) (after 2) (λ i. number (Input i)) 0 ins (cut_bits d) cut_numbers (λ i. sym (inputs_are i))
-      ∙ sym (map-twice {B = Bit × CellPlace} (λ (x : ℕ × Bit). (x.1, Input x.0)) noting (enumerate_from 0 (cut_bits d)))
+      ∙ sym (map-twice {B = Bit × CellName} (λ (x : ℕ × Bit). (x.1, Input x.0)) noting (enumerate_from 0 (cut_bits d)))
 
-  joined : (xs ys : List (Bit × CellPlace)) (a : Sources) → given_all (given_all a (map noting xs)) (map noting ys) ≡ given_all a (map noting (xs ++ ys))
+  joined : (xs ys : List (Bit × CellName)) (a : Sources) → given_all (given_all a (map noting xs)) (map noting ys) ≡ given_all a (map noting (xs ++ ys))
   joined xs ys a = sym (fold-append given_one a (map noting xs) (map noting ys)) ∙ ap (given_all a) (sym (map-append noting xs ys))
 
-  sources_are : cell_list.sources ≡ given_all (replicate bits None) (map noting (given d lowering))
+  sources_are : cell_list.sources ≡ given_all (replicate bits None) (map noting (driving_places d lowering))
   sources_are =
       parts_fit.sources ∙ ap (λ a. given_all a (map noting given_parts)) (boxes_fit.sources ∙ ap (λ ws. given_all (given_all (replicate bits None) ws) (map noting given_pins)) inputs_noted ∙ joined given_inputs given_pins (replicate bits None))
       ∙ joined (given_inputs ++ given_pins) given_parts (replicate bits None)
 
-  abbrev data_given : List (Bit × CellPlace)
+  abbrev data_given : List (Bit × CellName)
   data_given = flat_map (data_at lowering) (enumerate_from 0 (parts d))
 
   next_is : cell_list.next ≡ given_all (replicate bits None) (map noting data_given)
   next_is = parts_fit.next
 
   sources_long : length cell_list.sources ≡ length (net_order d)
-  sources_long = ap length sources_are ∙ given_long (map noting (given d lowering)) (replicate bits None) ∙ length-replicate bits None ∙ bits_whole
+  sources_long = ap length sources_are ∙ given_long (map noting (driving_places d lowering)) (replicate bits None) ∙ length-replicate bits None ∙ bits_whole
 
-  copies_are : map (λ x. cell.Copy (place_or_zero (Some x))) cell_list.sources ≡ map (λ b. cell.Copy (number (place_in (given d lowering) b))) (net_order d)
-  copies_are = same_by_places (λ x. cell.Copy (place_or_zero (Some x))) (λ b. cell.Copy (number (place_in (given d lowering) b))) cell_list.sources (net_order d) sources_long (λ k x b at has.
+  copies_are : map (λ x. cell.Copy (place_or_zero (Some x))) cell_list.sources ≡ map (λ b. cell.Copy (number (place_in (driving_places d lowering) b))) (net_order d)
+  copies_are = same_by_places (λ x. cell.Copy (place_or_zero (Some x))) (λ b. cell.Copy (number (place_in (driving_places d lowering) b))) cell_list.sources (net_order d) sources_long (λ k x b at has.
       ap (λ z. cell.Copy (place_or_zero z)) (sym at ∙ ap (λ z. slice_get z k) sources_are)
-      ∙ ap cell.Copy (noted of_designs names d bounded lowering number nets start zero_is bits k b (omega (arith, slice_get_within (net_order d) k b has, bits_whole)) has (given d lowering)))
+      ∙ ap cell.Copy (noted of_designs names d bounded lowering number nets start zero_is bits k b (omega (arith, slice_get_within (net_order d) k b has, bits_whole)) has (driving_places d lowering)))
 
   -- the front of the list
 
@@ -229,20 +229,20 @@ module _ (of_designs : DesignLaws) (names : NetNamesDiffer) (few : PlacesAreFew)
   input_entries = map (λ i. (Input i, cell.Input i)) (range_with_len 0 (length (cut_bits d)))
 
   abbrev net_entries : List Entry
-  net_entries = map (λ b. (NetBit b, cell.Copy (number (place_in (given d lowering) b)))) (net_order d)
+  net_entries = map (λ b. (NetBit b, cell.Copy (number (place_in (driving_places d lowering) b)))) (net_order d)
 
   prefix_cells : cells_before (length ins) cell_list.sources ≡ cells_in (prefix_places d lowering number)
   prefix_cells =
       ap (λ l. cell.Const false ∷ cell.Const true ∷ l) (ap₂ ◌++◌
       (ap (λ n. map cell.Input (range_with_len 0 n)) cut_long ∙ sym (map-twice {B = Entry} (λ i. (Input i, cell.Input i)) (λ (e : Entry). e.1) (range_with_len 0 (length (cut_bits d)))))
-      (copies_are ∙ sym (map-twice {B = Entry} (λ b. (NetBit b, cell.Copy (number (place_in (given d lowering) b)))) (λ (e : Entry). e.1) (net_order d)))
+      (copies_are ∙ sym (map-twice {B = Entry} (λ b. (NetBit b, cell.Copy (number (place_in (driving_places d lowering) b)))) (λ (e : Entry). e.1) (net_order d)))
       ∙ sym (map-append (λ (e : Entry). e.1) input_entries net_entries))
 
   inputs_long : length input_entries ≡ length ins
   inputs_long = length-map {B = Entry} (range_with_len 0 (length (cut_bits d))) (λ i. (Input i, cell.Input i)) ∙ length-range 0 (length (cut_bits d)) ∙ sym cut_long
 
   nets_long : length net_entries ≡ length (net_order d)
-  nets_long = length-map {B = Entry} (net_order d) (λ b. (NetBit b, cell.Copy (number (place_in (given d lowering) b))))
+  nets_long = length-map {B = Entry} (net_order d) (λ b. (NetBit b, cell.Copy (number (place_in (driving_places d lowering) b))))
 
   constant_row : AreInRow number 0 constant_entries
   constant_row = record { row = ap₂ (λ (m n : ℕ). m ∷ n ∷ []) (constants_are false ∙ sym (capped_small 0 (omega arith))) (constants_are true ∙ sym (capped_small 1 (omega arith))) }
@@ -258,7 +258,7 @@ module _ (of_designs : DesignLaws) (names : NetNamesDiffer) (few : PlacesAreFew)
 
   net_row : AreInRow number nets net_entries
   net_row = record {
-    row = map-twice {B = Entry} (λ b. (NetBit b, cell.Copy (number (place_in (given d lowering) b)))) (λ (e : Entry). number e.0) (net_order d)
+    row = map-twice {B = Entry} (λ b. (NetBit b, cell.Copy (number (place_in (driving_places d lowering) b)))) (λ (e : Entry). number e.0) (net_order d)
         ∙ row_of (λ b. number (NetBit b)) (net_order d) nets (λ k b e. net_places b ∙ ap (after nets) (numbered of_designs names d bounded k b e)) ∙ ap (λ n. map capped (range_with_len nets n)) (sym nets_long);
   }
 
@@ -280,12 +280,12 @@ module _ (of_designs : DesignLaws) (names : NetNamesDiffer) (few : PlacesAreFew)
   box_long : length boxed.cells ≡ length box_entries
   box_long = ap length boxes_fit.cells ∙ length-map {B = LooseCell} box_entries (λ (e : Entry). e.1)
 
-  all_row : AreInRow number 0 (places d lowering number)
+  all_row : AreInRow number 0 (placed_cells d lowering number)
   all_row = both_rows number 0 (prefix_places d lowering number) (box_entries ++ part_entries) prefix_row
       (both_rows number (0 + length (prefix_places d lowering number)) box_entries part_entries
       (subst (λ n. AreInRow number n box_entries) (omega (arith, prefix_long)) boxes_fit.row) (subst (λ n. AreInRow number n part_entries) (omega (arith, prefix_long, box_long)) parts_fit.row))
 
-  cells_are : cells_before (length ins) cell_list.sources ++ cell_list.cells ≡ cells_in (places d lowering number)
+  cells_are : cells_before (length ins) cell_list.sources ++ cell_list.cells ≡ cells_in (placed_cells d lowering number)
   cells_are =
       ap₂ ◌++◌ prefix_cells (parts_fit.cells ∙ ap (λ c. c ++ cells_in part_entries) boxes_fit.cells ∙ sym (map-append (λ (e : Entry). e.1) box_entries part_entries))
       ∙ sym (map-append (λ (e : Entry). e.1) (prefix_places d lowering number) (box_entries ++ part_entries))
@@ -301,8 +301,8 @@ module _ (of_designs : DesignLaws) (names : NetNamesDiffer) (few : PlacesAreFew)
       ∙ sym (map-twice (λ (r : RegisterBit). place_in data_given r.bit) number (registers d)))
 
   -- the numbers of all places are as they would be if nothing were capped
-  exact_row : map (λ (x : Entry). number x.0) (places d lowering number) ≡ range_with_len 0 (length (places d lowering number))
-  exact_row = all_row.row ∙ row_small (length (places d lowering number)) (omega (arith, few_places))
+  exact_row : map (λ (x : Entry). number x.0) (placed_cells d lowering number) ≡ range_with_len 0 (length (placed_cells d lowering number))
+  exact_row = all_row.row ∙ row_small (length (placed_cells d lowering number)) (omega (arith, few_places))
 
   exact_prefix : map (λ (x : Entry). number x.0) (prefix_places d lowering number) ≡ range_with_len 0 (length (prefix_places d lowering number))
   exact_prefix = prefix_row.row ∙ row_small (length (prefix_places d lowering number)) (omega (arith, few_places, length-append (prefix_places d lowering number) (operator_places d lowering number)))
@@ -312,9 +312,9 @@ module _ (of_designs : DesignLaws) (names : NetNamesDiffer) (few : PlacesAreFew)
     number = number;
     inputs = cut_long;
     prefix = exact_prefix;
-    numbers = subst (IsPermutation (map (λ (x : Entry). number x.0) (places d lowering number))) (exact_row ∙ ap (range_with_len 0) (sym (length-map {B = LooseCell} (places d lowering number) (λ (e : Entry). e.1)) ∙ ap length (sym cells_are)))
-        (IsPermutation-refl (map (λ (x : Entry). number x.0) (places d lowering number)));
-    cells = cells_occur number (places d lowering number) (finished (length ins) boxed.boxes cell_list (outs_of nets top stored cell_list.next)) exact_row cells_are;
+    numbers = subst (IsPermutation (map (λ (x : Entry). number x.0) (placed_cells d lowering number))) (exact_row ∙ ap (range_with_len 0) (sym (length-map {B = LooseCell} (placed_cells d lowering number) (λ (e : Entry). e.1)) ∙ ap length (sym cells_are)))
+        (IsPermutation-refl (map (λ (x : Entry). number x.0) (placed_cells d lowering number)));
+    cells = cells_occur number (placed_cells d lowering number) (finished (length ins) boxed.boxes cell_list (outs_of nets top stored cell_list.next)) exact_row cells_are;
     boxes = boxes_fit.boxes;
     outs = outs_are;
     steps = parts_fit.steps;

@@ -8,7 +8,7 @@ use Rattle.bb_net.specs.declared.loose.LooseCell.TheVariants as cell
 use Rattle.bb_design.specs.GateFunctions.{inverts}
 use Rattle.bb_blast.specs.Inside.Counting.{capped, after}
 use Rattle.bb_blast.specs.Inside.Listing.{Joining, joined_to, joined, inverted}
-use Rattle.bb_implements.specs.Places.{CellPlace, Joined, Inverted, Numbering, Lowering, joined_place, terminal_place, gate_place, join_cell, joining_places, inverting_place}
+use Rattle.bb_implements.specs.Places.{CellName, Joined, Inverted, Numbering, Lowering, joined_place, terminal_place, gate_place, join_cell, joining_places, inverting_place}
 use Rattle.bb_lemmas.proofs.Ranges.{length-range}
 use Rattle.bb_blast.proofs.PlacesInRow.{Entry, AreInRow, both_rows, no_row, one_row, cells_in}
 
@@ -67,7 +67,7 @@ module _ (lowering : Lowering) (number : Numbering) (k : ℕ) (gate : Gate) (sta
       (subst (λ n. JoinsFit (record { cells = cells; place = 0 }) (joined start gate cells (map terminal (range_with_len 0 (suc count)))) (map join (range_with_len 0 n)) count) less
       (record { cells = fit.cells; place = fit.place ∙ ap (λ n. number (joined_place lowering k n)) (omega arith); row = fit.row }))
 
-  pub record GateFits (before : List LooseCell) (afterwards : Joining) (all : List Entry) (last : CellPlace) : Type 0 where
+  pub record GateFits (before : List LooseCell) (afterwards : Joining) (all : List Entry) (last : CellName) : Type 0 where
     pub cells : afterwards.cells ≡ before ++ cells_in all
     pub place : afterwards.place ≡ number last
     pub row : AreInRow number (start + length before) all

@@ -22,7 +22,7 @@ use Rattle.bb_blast.specs.Inside.Logic.{constant_place, net_bit_place}
 use Rattle.bb_blast.proofs.LogicSteps.{with_steps, step_place, bit_places}
 use Rattle.bb_blast.specs.Inside.ModuleTemplates.{AreBitsIn, IsPinIn}
 use Rattle.bb_bits.specs.Inside.Places.{AreAt}
-use Rattle.bb_implements.specs.Places.{CellPlace, Constant, NetBit, Step, Joined, Inverted, Numbering, Lowering, Steps, IsLoweringOf, IsStepAt, AreSteps, step_places, step_cells, net_place, given_at, data_at, places_at}
+use Rattle.bb_implements.specs.Places.{CellName, Constant, NetBit, Step, Joined, Inverted, Numbering, Lowering, Steps, IsLoweringOf, IsStepAt, AreSteps, step_places, step_cells, net_place, given_at, data_at, places_at}
 use Rattle.bb_lemmas.proofs.LowBits.{low-map}
 use Rattle.bb_blast.proofs.BitNumbers.{bit_number, IsSiteOf}
 use Rattle.bb_blast.proofs.CappedNumbers.{after_first}
@@ -57,7 +57,7 @@ numbers_are f all first own (n ∷ numbers) (b ∷ bits) are =
     ap₂ ◌∷◌ (own n b (ap (λ l. get_or l 0 None) are)) (numbers_are f all first own numbers bits (ap (drop 1) are))
 
 module _ (d : Design) (lowering : Lowering) (number : Numbering) (nets start : ℕ) where
-  abbrev pub pair : Bit × CellPlace → ℕ × ℕ
+  abbrev pub pair : Bit × CellName → ℕ × ℕ
   pair y = (bit_number d y.0, number y.1)
 
   -- a construct leads from one cell list to the next
@@ -69,14 +69,14 @@ module _ (d : Design) (lowering : Lowering) (number : Numbering) (nets start : �
     pub lowered : IsLoweringOf lowering x
     pub steps : AreSteps lowering number x
 
-  pub beside_is : (bits : List Bit) (places : List CellPlace) (first : ℕ) (numbers : List ℕ) (given : List ℕ) → map (bit_number d) bits ≡ map (after first) numbers → map number places ≡ given
+  pub beside_is : (bits : List Bit) (places : List CellName) (first : ℕ) (numbers : List ℕ) (given : List ℕ) → map (bit_number d) bits ≡ map (after first) numbers → map number places ≡ given
       → map pair (zip bits places) ≡ beside first numbers given
   beside_is bits places first numbers given p q = map-zip (bit_number d) number bits places ∙ ap₂ zip p q
 
-  pub all_is : (bits : List Bit) (place : CellPlace) (first : ℕ) (numbers : List ℕ) (at : ℕ) → map (bit_number d) bits ≡ map (after first) numbers → at ≡ number place
+  pub all_is : (bits : List Bit) (place : CellName) (first : ℕ) (numbers : List ℕ) (at : ℕ) → map (bit_number d) bits ≡ map (after first) numbers → at ≡ number place
       → map pair (map (λ b. (b, place)) bits) ≡ all_given_by first numbers at
   all_is bits place first numbers at p q =
-      map-twice {B = Bit × CellPlace} (λ b. (b, place)) pair bits ∙ sym (map-twice {C = ℕ × ℕ} (bit_number d) (λ n. (n, number place)) bits)
+      map-twice {B = Bit × CellName} (λ b. (b, place)) pair bits ∙ sym (map-twice {C = ℕ × ℕ} (bit_number d) (λ n. (n, number place)) bits)
       ∙ ap (map {B = ℕ × ℕ} (λ n. (n, number place))) p ∙ map-twice {C = ℕ × ℕ} (after first) (λ n. (n, number place)) numbers
       ∙ ap (λ (m : ℕ). map {B = ℕ × ℕ} (λ i. (after first i, m)) numbers) (sym q)
 

@@ -8,14 +8,14 @@ use Rattle.bb_net.specs.declared.loose.LooseCell.{LooseCell}
 use Rattle.bb_net.specs.declared.loose.LooseCell.TheVariants as cell
 use Rattle.bb_net.specs.Loose.{LooseList, loose_at}
 use Rattle.bb_blast.specs.Inside.Counting.{capped, after}
-use Rattle.bb_implements.specs.Places.{CellPlace, Numbering}
+use Rattle.bb_implements.specs.Places.{CellName, Numbering}
 
 pub map-same : {A B : Type 0} (f g : A → B) → ((x : A) → f x ≡ g x) → (xs : List A) → map f xs ≡ map g xs
 map-same f g same [] = refl
 map-same f g same (x ∷ xs) = ap₂ ◌∷◌ (same x) (map-same f g same xs)
 
 abbrev pub Entry : Type 0
-Entry = CellPlace × LooseCell
+Entry = CellName × LooseCell
 
 -- places that are in a row from a number on, as far as 32 bits say
 pub record AreInRow (number : Numbering) (at : ℕ) (all : List Entry) : Type 0 where

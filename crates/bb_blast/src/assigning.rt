@@ -4,13 +4,13 @@
 //! truncated only then: a bit that is cut off may still be shifted into one that is kept.
 
 ghost use Rattle.std.specs.Prelude.{◌++◌, List, All, map, IfOk, OnOk};
-ghost use Rattle.std.specs.List.{AllZip, flat_map};
+ghost use Rattle.std.specs.List.{flat_map};
 ghost use Rattle.bb_ast.specs.Syntax.{Net};
 ghost use Rattle.bb_ast.specs.Inside.Views.{expression, always_view, arm_view, named_view};
 ghost use Rattle.bb_names.specs.Nets.{nets_of};
 ghost use Rattle.bb_expr.specs.Inside.Occurrences.{OccursAt};
 ghost use Rattle.bb_design.specs.Constructs.{Construct, Assignment, Register, SupplyNet, initial_construct};
-ghost use Rattle.bb_blast.specs.Inside.BitBlasting.{AreStarts, IsMakeable, IsPartAt, module_in};
+ghost use Rattle.bb_blast.specs.Inside.BitBlasting.{AreStarts, IsPartAt, module_in, ArePartsIn, IsMakeableIn};
 
 use crate::expression_steps::{scope_at, steps_beside};
 use crate::left_bits::{left_bits, net_bits};
@@ -31,8 +31,10 @@ fn assignment(
 ) -> Result<Part, NoMemory>
     requires starts { AreStarts (nets_of (module_in context.checked.now context.«module»)) context.starts.now }
     requires occurs { OccursAt context.checked.now context.«module» (expression left.now) }
-    requires makeable { IsMakeable context.checked.now context.«module» (Assignment (expression left.now) (expression right.now)) }
-    ensures part { IfOk result (λ part. IsPartAt context.entry.checked.now context.entry.«module» part (Assignment (expression left.now) (expression right.now))) }
+    requires makeable { IsMakeableIn context (Assignment (expression left.now)
+        (expression right.now)) }
+    ensures part { IfOk result (λ part. IsPartAt context.entry.checked.now context.entry.«module» part
+        (Assignment (expression left.now) (expression right.now))) }
 {
     occurrences_are_fit();
     let scope = scope_at(context.checked, context.module);
@@ -50,8 +52,10 @@ fn declared_assignment(
     right: &Expr,
 ) -> Result<Part, NoMemory>
     requires starts { AreStarts (nets_of (module_in context.checked.now context.«module»)) context.starts.now }
-    requires makeable { IsMakeable context.checked.now context.«module» (Assignment (Net name.now) (expression right.now)) }
-    ensures part { IfOk result (λ part. IsPartAt context.entry.checked.now context.entry.«module» part (Assignment (Net name.now) (expression right.now))) }
+    requires makeable { IsMakeableIn context (Assignment (Net name.now)
+        (expression right.now)) }
+    ensures part { IfOk result (λ part. IsPartAt context.entry.checked.now context.entry.«module» part
+        (Assignment (Net name.now) (expression right.now))) }
 {
     let scope = scope_at(context.checked, context.module);
     let left = net_bits(alloc, scope, context.starts, name)?;
@@ -69,9 +73,12 @@ pub(crate) fn add_assignments(
 ) -> Result<(), NoMemory>
     requires starts { AreStarts (nets_of (module_in context.checked.now context.«module»)) context.starts.now }
     requires occurs { All (λ x. OccursAt context.checked.now context.«module» x.0) (map arm_view all.now) }
-    requires makeable { All (λ x. IsMakeable context.checked.now context.«module» (Assignment x.0 x.1)) (map arm_view all.now) }
-    ensures parts { (before : List Construct) → AllZip (IsPartAt context.entry.checked.now context.entry.«module») parts.old.items before
-        → OnOk result (AllZip (IsPartAt context.entry.checked.now context.entry.«module») parts.new.items (before ++ map (λ x. Assignment x.0 x.1) (map arm_view all.now))) }
+    requires makeable { All (λ x. IsMakeableIn context (Assignment x.0 x.1))
+        (map arm_view all.now) }
+    ensures parts { (before : List Construct)
+        → ArePartsIn context.entry parts.old.items before
+        → OnOk result (ArePartsIn context.entry parts.new.items
+        (before ++ map (λ x. Assignment x.0 x.1) (map arm_view all.now))) }
 {
     for (left, right) in all {
         parts.push(assignment(alloc, context, left, right)?)?;
@@ -86,9 +93,11 @@ fn add_declared(
     parts: &mut Vec<Part>,
 ) -> Result<(), NoMemory>
     requires starts { AreStarts (nets_of (module_in context.checked.now context.«module»)) context.starts.now }
-    requires makeable { All (IsMakeable context.checked.now context.«module») (initial_construct (named_view net.now)) }
-    ensures parts { (before : List Construct) → AllZip (IsPartAt context.entry.checked.now context.entry.«module») parts.old.items before
-        → OnOk result (AllZip (IsPartAt context.entry.checked.now context.entry.«module») parts.new.items (before ++ initial_construct (named_view net.now))) }
+    requires makeable { All (IsMakeableIn context) (initial_construct (named_view net.now)) }
+    ensures parts { (before : List Construct)
+        → ArePartsIn context.entry parts.old.items before
+        → OnOk result (ArePartsIn context.entry parts.new.items
+        (before ++ initial_construct (named_view net.now))) }
 {
     if let Some(right) = &net.1 {
         parts.push(declared_assignment(alloc, context, &net.0, right)?)?;
@@ -103,9 +112,12 @@ pub(crate) fn add_all_declared(
     parts: &mut Vec<Part>,
 ) -> Result<(), NoMemory>
     requires starts { AreStarts (nets_of (module_in context.checked.now context.«module»)) context.starts.now }
-    requires makeable { All (λ x. All (IsMakeable context.checked.now context.«module») (initial_construct x)) (map named_view nets.now) }
-    ensures parts { (before : List Construct) → AllZip (IsPartAt context.entry.checked.now context.entry.«module») parts.old.items before
-        → OnOk result (AllZip (IsPartAt context.entry.checked.now context.entry.«module») parts.new.items (before ++ flat_map initial_construct (map named_view nets.now))) }
+    requires makeable { All (λ x. All (IsMakeableIn context) (initial_construct x))
+        (map named_view nets.now) }
+    ensures parts { (before : List Construct)
+        → ArePartsIn context.entry parts.old.items before
+        → OnOk result (ArePartsIn context.entry parts.new.items
+        (before ++ flat_map initial_construct (map named_view nets.now))) }
 {
     for net in nets {
         add_declared(alloc, context, net, parts)?;
@@ -121,9 +133,11 @@ pub(crate) fn add_supplies(
     parts: &mut Vec<Part>,
 ) -> Result<(), NoMemory>
     requires starts { AreStarts (nets_of (module_in context.checked.now context.«module»)) context.starts.now }
-    requires makeable { All (IsMakeable context.checked.now context.«module») (map (SupplyNet high) names.now) }
-    ensures parts { (before : List Construct) → AllZip (IsPartAt context.entry.checked.now context.entry.«module») parts.old.items before
-        → OnOk result (AllZip (IsPartAt context.entry.checked.now context.entry.«module») parts.new.items (before ++ map (SupplyNet high) names.now)) }
+    requires makeable { All (IsMakeableIn context) (map (SupplyNet high) names.now) }
+    ensures parts { (before : List Construct)
+        → ArePartsIn context.entry parts.old.items before
+        → OnOk result (ArePartsIn context.entry parts.new.items
+        (before ++ map (SupplyNet high) names.now)) }
 {
     for name in names {
         let scope = scope_at(context.checked, context.module);
@@ -140,8 +154,9 @@ pub(crate) fn register(
     always: &Always,
 ) -> Result<Part, NoMemory>
     requires starts { AreStarts (nets_of (module_in context.checked.now context.«module»)) context.starts.now }
-    requires makeable { IsMakeable context.checked.now context.«module» (Register (always_view always.now)) }
-    ensures part { IfOk result (λ part. IsPartAt context.entry.checked.now context.entry.«module» part (Register (always_view always.now))) }
+    requires makeable { IsMakeableIn context (Register (always_view always.now)) }
+    ensures part { IfOk result (λ part.
+        IsPartAt context.entry.checked.now context.entry.«module» part (Register (always_view always.now))) }
 {
     occurrences_are_fit();
     let scope = scope_at(context.checked, context.module);

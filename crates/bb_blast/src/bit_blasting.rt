@@ -33,7 +33,8 @@ fn template_of(
     targets: &[usize],
 ) -> Result<ModuleTemplate, NoMemory>
     requires outlinable { IsOutlinable checked.now (map (λ list. list.items) starts.now) place targets.now }
-    ensures template { IfOk result (λ template. IsModuleTemplate (map syntax checked.now) (module_in checked.now place) template) }
+    ensures template { IfOk result (λ template.
+        IsModuleTemplate (map syntax checked.now) (module_in checked.now place) template) }
 {
     laws_of_designs();
     occurrences_are_fit();
@@ -85,8 +86,10 @@ fn starts_where(alloc: Global, scope: &CheckedModule, used: bool) -> Result<Vec<
 
 fn all_starts(alloc: Global, checked: &Checked, used: &[bool]) -> Result<Vec<Vec<u32>>, NoMemory>
     requires long { length used.now ≡ length checked.now }
-    requires modest { (m : ℕ) → slice_get used.now m ≡ Some true → bit_count (nets_of (module_in checked.now m)) ≤ 1000000 }
-    ensures started { IfOk result (λ starts. (m : ℕ) → slice_get used.now m ≡ Some true → IsStarted checked.now (map (λ list. list.items) starts.items) m) }
+    requires modest { (m : ℕ) → slice_get used.now m ≡ Some true
+        → bit_count (nets_of (module_in checked.now m)) ≤ 1000000 }
+    ensures started { IfOk result (λ starts.
+        (m : ℕ) → slice_get used.now m ≡ Some true → IsStarted checked.now (map (λ list. list.items) starts.items) m) }
 {
     let modules = checked.modules();
     let mut starts = Vec::with_capacity(alloc, modules.len())?;
@@ -104,8 +107,10 @@ fn template_at(
     targets: &[usize],
     used: bool,
 ) -> Result<ModuleTemplate, NoMemory>
-    requires outlinable { used ≡ true → IsOutlinable checked.now (map (λ list. list.items) starts.now) place targets.now }
-    ensures template { IfOk result (λ template. used ≡ true → IsModuleTemplate (map syntax checked.now) (module_in checked.now place) template) }
+    requires outlinable { used ≡ true
+        → IsOutlinable checked.now (map (λ list. list.items) starts.now) place targets.now }
+    ensures template { IfOk result (λ template.
+        used ≡ true → IsModuleTemplate (map syntax checked.now) (module_in checked.now place) template) }
 {
     if used {
         return template_of(alloc, checked, place as u32, starts, targets);
@@ -127,9 +132,11 @@ pub fn module_templates(
     called: &[Vec<usize>],
     placed: &[Placed],
 ) -> Result<Vec<ModuleTemplate>, NoMemory>
-    requires called { map (λ list. list.items) called.now ≡ map (callees (map syntax checked.now)) (map syntax checked.now) }
+    requires called { map (λ list. list.items) called.now
+        ≡ map (callees (map syntax checked.now)) (map syntax checked.now) }
     requires design { (d : Design) × (d.text ≡ map syntax checked.now) × ArePlaced d placed.now × IsSmallDesign d }
-    ensures templated { IfOk result (λ all. (d : Design) → d.text ≡ map syntax checked.now → ArePlaced d placed.now → IsSmallDesign d → AreTemplated d placed.now all.items) }
+    ensures templated { IfOk result (λ all. (d : Design) → d.text ≡ map syntax checked.now → ArePlaced d placed.now
+        → IsSmallDesign d → AreTemplated d placed.now all.items) }
 {
     laws_of_designs();
     let modules = checked.modules();

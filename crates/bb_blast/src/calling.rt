@@ -1,15 +1,17 @@
 //! The template parts of port connections. A place in a list by order is looked up in the header, so both forms of
 //! connections are made by the name of the port.
 
-ghost use Rattle.std.specs.Prelude.{◌≡◌, ◌<◌, ◌+◌, ◌++◌, ◌^◌, ℕ, List, All, length, map, option_to_list, Some, IfOk, OnOk};
-ghost use Rattle.std.specs.List.{AllZip, flat_map};
+ghost use Rattle.std.specs.Prelude.{◌≡◌, ◌<◌, ◌+◌, ◌++◌, ◌^◌, ℕ, List, All, length, map, option_to_list, Some, IfOk};
+ghost use Rattle.std.specs.Prelude.{OnOk};
+ghost use Rattle.std.specs.List.{flat_map};
 ghost use Rattle.bb_ast.specs.Syntax.{Order, Named};
 ghost use Rattle.bb_ast.specs.Inside.Views.{optional_view, named_view, conns_view, call_view};
 ghost use Rattle.bb_names.specs.Inside.Checked.{syntax};
 ghost use Rattle.bb_names.specs.Sites.{module_named, pin_at};
 ghost use Rattle.bb_design.specs.Constructs.{Construct, connection, connections};
 ghost use Rattle.bb_design.specs.Hierarchy.{Instance, instance_of};
-ghost use Rattle.bb_blast.specs.Inside.BitBlasting.{IsStarted, IsStartedModule, IsCallAt, AreCallsAt, IsMakeable, IsPartAt, module_in};
+ghost use Rattle.bb_blast.specs.Inside.BitBlasting.{IsStarted, IsStartedModule, IsCallAt, AreCallsAt, module_in};
+ghost use Rattle.bb_blast.specs.Inside.BitBlasting.{ArePartsIn, IsMakeableIn};
 
 use crate::connecting::connected;
 use crate::expression_steps::scope_at;
@@ -38,9 +40,15 @@ fn ordered(
 ) -> Result<Option<Part>, NoMemory>
     requires own { IsStartedModule context.checked.now context.«module» context.starts.now }
     requires target { IsStartedModule context.checked.now inner.target inner.starts.now }
-    requires makeable { (i : List ℕ) × All (IsMakeable context.checked.now context.«module») (connection i (pin_at (module_in context.checked.now inner.target) number) (optional_view place.now)) }
-    ensures part { (called : Instance) → IsCallAt context.entry.checked.now context.entry.«module» inner.entry.instance inner.entry.target called
-        → IfOk result (λ part. AllZip (IsPartAt context.entry.checked.now context.entry.«module») (option_to_list part) (connection called.name (pin_at (module_in context.entry.checked.now inner.entry.target) number) (optional_view place.now))) }
+    requires makeable { (i : List ℕ)
+        × All (IsMakeableIn context) (connection i
+        (pin_at (module_in context.checked.now inner.target) number) (optional_view place.now)) }
+    ensures part { (called : Instance)
+        → IsCallAt context.entry.checked.now context.entry.«module» inner.entry.instance inner.entry.target called
+        → IfOk result (λ part. ArePartsIn context.entry
+        (option_to_list part)
+        (connection called.name (pin_at (module_in context.entry.checked.now inner.entry.target) number)
+        (optional_view place.now))) }
 {
     match scope_at(context.checked, inner.target)
         .module
@@ -61,9 +69,20 @@ fn add_ordered(
 ) -> Result<(), NoMemory>
     requires own { IsStartedModule context.checked.now context.«module» context.starts.now }
     requires target { IsStartedModule context.checked.now inner.target inner.starts.now }
-    requires makeable { (i : List ℕ) × All (IsMakeable context.checked.now context.«module») (connections (Some (module_in context.checked.now inner.target)) (i, Order (map optional_view places.now))) }
-    ensures parts { (called : Instance) → IsCallAt context.entry.checked.now context.entry.«module» inner.entry.instance inner.entry.target called → (before : List Construct) → AllZip (IsPartAt context.entry.checked.now context.entry.«module») parts.old.items before
-        → OnOk result (AllZip (IsPartAt context.entry.checked.now context.entry.«module») parts.new.items (before ++ connections (Some (module_in context.entry.checked.now inner.entry.target)) (called.name, Order (map optional_view places.now)))) }
+    requires makeable { (i : List ℕ)
+        × All (IsMakeableIn context) (connections
+        (Some (module_in context.checked.now inner.target)) (i, Order (map optional_view places.now))) }
+    ensures parts { (called : Instance)
+        → IsCallAt context.entry.checked.now context.entry.«module» inner.entry.instance inner.entry.target called
+        → (before : List Construct)
+        → ArePartsIn context.entry parts.old.items before
+        → OnOk result (ArePartsIn context.entry parts.new.items
+        (before
+        ++ connections (Some (module_in context.entry.checked.now inner.entry.target)) (
+          called.name,
+          Order
+              (map optional_view places.now),
+        ))) }
 {
     for k in 0..places.len() {
         let part = ordered(alloc, context, inner, k, &places[k])?;
@@ -81,9 +100,20 @@ fn add_named(
 ) -> Result<(), NoMemory>
     requires own { IsStartedModule context.checked.now context.«module» context.starts.now }
     requires target { IsStartedModule context.checked.now inner.target inner.starts.now }
-    requires makeable { (i : List ℕ) × All (IsMakeable context.checked.now context.«module») (connections (Some (module_in context.checked.now inner.target)) (i, Named (map named_view all.now))) }
-    ensures parts { (called : Instance) → IsCallAt context.entry.checked.now context.entry.«module» inner.entry.instance inner.entry.target called → (before : List Construct) → AllZip (IsPartAt context.entry.checked.now context.entry.«module») parts.old.items before
-        → OnOk result (AllZip (IsPartAt context.entry.checked.now context.entry.«module») parts.new.items (before ++ connections (Some (module_in context.entry.checked.now inner.entry.target)) (called.name, Named (map named_view all.now)))) }
+    requires makeable { (i : List ℕ)
+        × All (IsMakeableIn context) (connections
+        (Some (module_in context.checked.now inner.target)) (i, Named (map named_view all.now))) }
+    ensures parts { (called : Instance)
+        → IsCallAt context.entry.checked.now context.entry.«module» inner.entry.instance inner.entry.target called
+        → (before : List Construct)
+        → ArePartsIn context.entry parts.old.items before
+        → OnOk result (ArePartsIn context.entry parts.new.items
+        (before
+        ++ connections (Some (module_in context.entry.checked.now inner.entry.target)) (
+          called.name,
+          Named
+              (map named_view all.now),
+        ))) }
 {
     for (port, place) in all {
         let part = connected(alloc, context, inner, port, place)?;
@@ -101,9 +131,19 @@ fn add_conns(
 ) -> Result<(), NoMemory>
     requires own { IsStartedModule context.checked.now context.«module» context.starts.now }
     requires target { IsStartedModule context.checked.now inner.target inner.starts.now }
-    requires makeable { (i : List ℕ) × All (IsMakeable context.checked.now context.«module») (connections (Some (module_in context.checked.now inner.target)) (i, conns_view conns.now)) }
-    ensures parts { (called : Instance) → IsCallAt context.entry.checked.now context.entry.«module» inner.entry.instance inner.entry.target called → (before : List Construct) → AllZip (IsPartAt context.entry.checked.now context.entry.«module») parts.old.items before
-        → OnOk result (AllZip (IsPartAt context.entry.checked.now context.entry.«module») parts.new.items (before ++ connections (Some (module_in context.entry.checked.now inner.entry.target)) (called.name, conns_view conns.now))) }
+    requires makeable { (i : List ℕ)
+        × All (IsMakeableIn context) (connections
+        (Some (module_in context.checked.now inner.target)) (i, conns_view conns.now)) }
+    ensures parts { (called : Instance)
+        → IsCallAt context.entry.checked.now context.entry.«module» inner.entry.instance inner.entry.target called
+        → (before : List Construct)
+        → ArePartsIn context.entry parts.old.items before
+        → OnOk result (ArePartsIn context.entry parts.new.items
+        (before
+        ++ connections (Some (module_in context.entry.checked.now inner.entry.target)) (
+          called.name,
+          conns_view conns.now,
+        ))) }
 {
     match conns {
         Conns::Order(places) => add_ordered(alloc, context, inner, places, parts),
@@ -121,13 +161,23 @@ pub(crate) fn add_calls(
     parts: &mut Vec<Part>,
 ) -> Result<(), NoMemory>
     requires own { IsStartedModule context.checked.now context.«module» context.starts.now }
-    requires targets { All (IsStarted context.checked.now (map (λ list. list.items) targets.starts.now)) targets.modules.now }
+    requires targets { All (IsStarted context.checked.now (map (λ list. list.items) targets.starts.now))
+        targets.modules.now }
     requires few { length targets.modules.now < 2 ^ 32 }
-    requires makeable { (n : List ℕ) × AreCallsAt context.checked.now context.«module» targets.modules.now first (map (instance_of n) (map call_view calls.now))
-        × All (IsMakeable context.checked.now context.«module») (flat_map (connections (module_named (map syntax context.checked.now) n)) (map call_view calls.now)) }
-    ensures parts { (n : List ℕ) → AreCallsAt context.entry.checked.now context.entry.«module» targets.entry.modules.now first (map (instance_of n) (map call_view calls.now))
-        → (before : List Construct) → AllZip (IsPartAt context.entry.checked.now context.entry.«module») parts.old.items before
-        → OnOk result (AllZip (IsPartAt context.entry.checked.now context.entry.«module») parts.new.items (before ++ flat_map (connections (module_named (map syntax context.entry.checked.now) n)) (map call_view calls.now))) }
+    requires makeable { (n : List ℕ)
+        × AreCallsAt context.checked.now context.«module» targets.modules.now first (map (instance_of n)
+        (map call_view calls.now))
+        × All (IsMakeableIn context) (flat_map
+        (connections (module_named (map syntax context.checked.now) n)) (map call_view calls.now)) }
+    ensures parts { (n : List ℕ)
+        → AreCallsAt context.entry.checked.now context.entry.«module» targets.entry.modules.now first
+        (map (instance_of n) (map call_view calls.now))
+        → (before : List Construct)
+        → ArePartsIn context.entry parts.old.items before
+        → OnOk result (ArePartsIn context.entry parts.new.items
+        (before
+        ++ flat_map (connections (module_named (map syntax context.entry.checked.now) n))
+        (map call_view calls.now))) }
 {
     for k in 0..calls.len() {
         let number = first + k;

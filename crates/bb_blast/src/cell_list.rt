@@ -1,11 +1,12 @@
-//! The cell list (cell list) to which constructs add: they append cells and note which place drives each bit.
+//! The cell list to which constructs add: they append cells and note which place drives each bit.
 //!
 //! Drivers are noted and not patched into readers: a bit may be read before its driver is met, so readers use the place
 //! of the bit's buffer, which is known beforehand.
 
 ghost use Rattle.std.specs.Prelude.{◌≡◌, All, length, map, OnOk};
 ghost use Rattle.bb_blast.specs.Inside.Counting.{after};
-ghost use Rattle.bb_blast.specs.Inside.Listing.{cell_list_view, beside, giving, giving_next, driven_by, with_gate, with_operators};
+ghost use Rattle.bb_blast.specs.Inside.Listing.{cell_list_view, beside, giving, giving_next, driven_by, with_gate};
+ghost use Rattle.bb_blast.specs.Inside.Listing.{with_operators};
 ghost use Rattle.bb_blast.specs.Inside.Logic.{IsLogicAmong, logic_places};
 
 use crate::box_cells::add_moved;
@@ -33,7 +34,8 @@ fn put_logic(spot: Spot<'_>, logic: &Logic, cell_list: &mut CellListLists) -> Re
     ensures places { OnOk result (cell_list.new.places.items
         ≡ logic_places spot.entry.others spot.entry.bits spot.entry.starts.now cell_list.old.cells.items logic.now) }
     ensures put { OnOk result (cell_list_view cell_list.new
-        ≡ with_operators spot.entry.others spot.entry.bits spot.entry.starts.now (cell_list_view cell_list.old) logic.now) }
+        ≡ with_operators spot.entry.others spot.entry.bits spot.entry.starts.now (cell_list_view cell_list.old)
+        logic.now) }
 {
     add_logic(spot, logic, &mut cell_list.places, &mut cell_list.cells)
 }
@@ -48,8 +50,11 @@ pub(crate) fn put_assignment(
 ) -> Result<(), NoMemory>
     requires nets { IsLogicAmong (length spot.starts.now) right.now }
     ensures put { OnOk result (cell_list_view cell_list.new
-        ≡ giving (with_operators spot.entry.others spot.entry.bits spot.entry.starts.now (cell_list_view cell_list.old) right.now)
-        (beside first left.now (logic_places spot.entry.others spot.entry.bits spot.entry.starts.now cell_list.old.cells.items right.now))) }
+        ≡ giving
+        (with_operators spot.entry.others spot.entry.bits spot.entry.starts.now (cell_list_view cell_list.old)
+        right.now)
+        (beside first left.now (logic_places spot.entry.others spot.entry.bits spot.entry.starts.now
+        cell_list.old.cells.items right.now))) }
 {
     put_logic(spot, right, cell_list)?;
     give_beside(&mut cell_list.sources, first, left, &cell_list.places);
@@ -66,8 +71,11 @@ pub(crate) fn put_register(
 ) -> Result<(), NoMemory>
     requires nets { IsLogicAmong (length spot.starts.now) right.now }
     ensures put { OnOk result (cell_list_view cell_list.new
-        ≡ giving_next (with_operators spot.entry.others spot.entry.bits spot.entry.starts.now (cell_list_view cell_list.old) right.now)
-        (beside first left.now (logic_places spot.entry.others spot.entry.bits spot.entry.starts.now cell_list.old.cells.items right.now))) }
+        ≡ giving_next
+        (with_operators spot.entry.others spot.entry.bits spot.entry.starts.now (cell_list_view cell_list.old)
+        right.now)
+        (beside first left.now (logic_places spot.entry.others spot.entry.bits spot.entry.starts.now
+        cell_list.old.cells.items right.now))) }
 {
     put_logic(spot, right, cell_list)?;
     give_beside(&mut cell_list.next, first, left, &cell_list.places);
@@ -102,8 +110,10 @@ pub(crate) fn put_gate(
 ) -> Result<(), NoMemory>
     requires ins { All (IsLogicAmong (length spot.starts.now)) ins.now }
     ensures put { OnOk result (cell_list_view cell_list.new
-        ≡ driven_by (cell_list_view cell_list.old) (with_gate spot.entry.others spot.entry.bits spot.entry.starts.now gate.now
-        cell_list.old.cells.items ins.now) first outs.now) }
+        ≡ driven_by (cell_list_view cell_list.old)
+        (with_gate spot.entry.others spot.entry.bits spot.entry.starts.now gate.now cell_list.old.cells.items
+        ins.now)
+        first outs.now) }
 {
     let place = add_gate(spot, gate, ins, &mut cell_list.places, &mut cell_list.cells)?;
     give_all(&mut cell_list.sources, first, outs, place);

@@ -2,7 +2,6 @@
 //! port.
 
 ghost use Rattle.std.specs.Prelude.{◌≡◌, ◌<◌, ℕ, List, All, None, map, option_to_list, Some, IfOk, IfSome};
-ghost use Rattle.std.specs.List.{AllZip};
 ghost use Rattle.bb_ast.specs.Inside.Views.{optional_view};
 ghost use Rattle.bb_names.specs.Inside.Checked.{module_facts, syntax, HasNets};
 ghost use Rattle.bb_names.specs.Declarations.{port_direction};
@@ -10,7 +9,7 @@ ghost use Rattle.bb_names.specs.Sites.{pin_named};
 ghost use Rattle.bb_expr.specs.Inside.Fit.{HasNet};
 ghost use Rattle.bb_design.specs.Constructs.{connection, connections};
 ghost use Rattle.bb_design.specs.Hierarchy.{Instance};
-ghost use Rattle.bb_blast.specs.Inside.BitBlasting.{IsStartedModule, IsCallAt, IsMakeable, IsPartAt, module_in};
+ghost use Rattle.bb_blast.specs.Inside.BitBlasting.{IsStartedModule, IsCallAt, module_in, ArePartsIn, IsMakeableIn};
 
 use crate::expression_steps::{logic_alone, scope_at};
 use crate::left_bits::{left_bits, net_bits};
@@ -44,9 +43,15 @@ pub(crate) fn connected(
 ) -> Result<Option<Part>, NoMemory>
     requires own { IsStartedModule context.checked.now context.«module» context.starts.now }
     requires target { IsStartedModule context.checked.now inner.target inner.starts.now }
-    requires makeable { (i : List ℕ) × All (IsMakeable context.checked.now context.«module») (connection i (pin_named (module_in context.checked.now inner.target) port.now) (optional_view place.now)) }
-    ensures part { (called : Instance) → IsCallAt context.entry.checked.now context.entry.«module» inner.entry.instance inner.entry.target called
-        → IfOk result (λ part. AllZip (IsPartAt context.entry.checked.now context.entry.«module») (option_to_list part) (connection called.name (pin_named (module_in context.entry.checked.now inner.entry.target) port.now) (optional_view place.now))) }
+    requires makeable { (i : List ℕ)
+        × All (IsMakeableIn context) (connection i
+        (pin_named (module_in context.checked.now inner.target) port.now) (optional_view place.now)) }
+    ensures part { (called : Instance)
+        → IsCallAt context.entry.checked.now context.entry.«module» inner.entry.instance inner.entry.target called
+        → IfOk result (λ part. ArePartsIn context.entry
+        (option_to_list part)
+        (connection called.name (pin_named (module_in context.entry.checked.now inner.entry.target) port.now)
+        (optional_view place.now))) }
 {
     let Some(expr) = place else {
         return Ok(None);

@@ -37,9 +37,13 @@ pub(crate) fn steps_beside(
 ) -> Result<Lowered, NoMemory>
     requires occurs { OccursAt context.checked.now context.«module» (expression expr.now) }
     requires least { least ≤ 65536 }
-    requires few { length (made_in (scope_of (module_in context.checked.now context.«module»)) (expression expr.now)
-        (max least (width_of (scope_of (module_in context.checked.now context.«module»)) (expression expr.now)))).cells ≤ 2000000 }
-    ensures made { IfOk result (λ l. IsMadeIn (module_in context.entry.checked.now context.entry.«module») l (expression expr.now) (λ s. max least (width_of s (expression expr.now)))) }
+    requires few { length
+        (made_in (scope_of (module_in context.checked.now context.«module»)) (expression expr.now)
+        (max least (width_of (scope_of (module_in context.checked.now context.«module»))
+        (expression expr.now)))).cells
+        ≤ 2000000 }
+    ensures made { IfOk result (λ l. IsMadeIn (module_in context.entry.checked.now context.entry.«module») l
+        (expression expr.now) (λ s. max least (width_of s (expression expr.now)))) }
 {
     occurrences_are_fit();
     cells_are_counted();
@@ -58,7 +62,8 @@ pub(crate) fn logic_alone(
     requires occurs { OccursAt context.checked.now context.«module» (expression expr.now) }
     requires few { length (made_in (scope_of (module_in context.checked.now context.«module»)) (expression expr.now)
         (width_of (scope_of (module_in context.checked.now context.«module»)) (expression expr.now))).cells ≤ 2000000 }
-    ensures kept { IfOk result (λ g. IsWholeIn (module_in context.entry.checked.now context.entry.«module») g (expression expr.now)) }
+    ensures kept { IfOk result (λ g.
+        IsWholeIn (module_in context.entry.checked.now context.entry.«module») g (expression expr.now)) }
 {
     let steps = steps_beside(alloc, context, expr, 0)?;
     logic_of(alloc, &steps, steps.bits.len())

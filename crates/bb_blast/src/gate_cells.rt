@@ -43,8 +43,10 @@ fn add_terminals(
     cells: &mut Vec<LooseCell>,
 ) -> Result<(), NoMemory>
     requires ins { All (IsLogicAmong (length spot.starts.now)) ins.now }
-    ensures places { OnOk result (places.new.items ≡ (with_terminals spot.entry.others spot.entry.bits spot.entry.starts.now cells.old.items ins.now).places) }
-    ensures added { OnOk result (cells.new.items ≡ (with_terminals spot.entry.others spot.entry.bits spot.entry.starts.now cells.old.items ins.now).cells) }
+    ensures places { OnOk result (places.new.items
+        ≡ (with_terminals spot.entry.others spot.entry.bits spot.entry.starts.now cells.old.items ins.now).places) }
+    ensures added { OnOk result (cells.new.items
+        ≡ (with_terminals spot.entry.others spot.entry.bits spot.entry.starts.now cells.old.items ins.now).cells) }
 {
     places.clear();
     for logic in ins {
@@ -81,8 +83,10 @@ fn add_inverter(
     place: u32,
     cells: &mut Vec<LooseCell>,
 ) -> Result<u32, NoMemory>
-    ensures place { IfOk result (λ last. last ≡ (inverted start gate.now (record { cells = cells.old.items; place = place })).place) }
-    ensures added { IfOk result (λ last. cells.new.items ≡ (inverted start gate.now (record { cells = cells.old.items; place = place })).cells) }
+    ensures place { IfOk result (λ last.
+        last ≡ (inverted start gate.now (record { cells = cells.old.items; place = place })).place) }
+    ensures added { IfOk result (λ last.
+        cells.new.items ≡ (inverted start gate.now (record { cells = cells.old.items; place = place })).cells) }
 {
     if !inverts(gate) {
         return Ok(place);
@@ -101,8 +105,10 @@ pub(crate) fn add_gate(
     cells: &mut Vec<LooseCell>,
 ) -> Result<u32, NoMemory>
     requires ins { All (IsLogicAmong (length spot.starts.now)) ins.now }
-    ensures place { IfOk result (λ place. place ≡ (with_gate spot.entry.others spot.entry.bits spot.entry.starts.now gate.now cells.old.items ins.now).place) }
-    ensures added { IfOk result (λ place. cells.new.items ≡ (with_gate spot.entry.others spot.entry.bits spot.entry.starts.now gate.now cells.old.items ins.now).cells) }
+    ensures place { IfOk result (λ place. place
+        ≡ (with_gate spot.entry.others spot.entry.bits spot.entry.starts.now gate.now cells.old.items ins.now).place) }
+    ensures added { IfOk result (λ place. cells.new.items
+        ≡ (with_gate spot.entry.others spot.entry.bits spot.entry.starts.now gate.now cells.old.items ins.now).cells) }
 {
     add_terminals(spot, ins, places, cells)?;
     let place = add_joins(spot.others, gate, places, cells)?;

@@ -9,7 +9,7 @@ ghost use Rattle.bb_expr.specs.Inside.Occurrences.{OccursAt};
 ghost use Rattle.bb_design.specs.Contexts.{width_of, made_in};
 ghost use Rattle.bb_design.specs.Constructs.{Construct, gate_construct};
 ghost use Rattle.bb_blast.specs.Inside.ModuleTemplates.{IsWholeIn};
-ghost use Rattle.bb_blast.specs.Inside.BitBlasting.{AreStarts, IsMakeable, IsPartAt, module_in, scope_of};
+ghost use Rattle.bb_blast.specs.Inside.BitBlasting.{AreStarts, IsPartAt, module_in, scope_of, ArePartsIn, IsMakeableIn};
 
 use crate::expression_steps::{logic_alone, scope_at};
 use crate::left_bits::lefts_bits;
@@ -37,8 +37,14 @@ fn gate_inputs(
     terms: &[Expr],
 ) -> Result<Vec<Logic>, NoMemory>
     requires occurs { All (OccursAt context.checked.now context.«module») (map expression terms.now) }
-    requires few { All (λ e. length (made_in (scope_of (module_in context.checked.now context.«module»)) e (width_of (scope_of (module_in context.checked.now context.«module»)) e)).cells ≤ 2000000) (map expression terms.now) }
-    ensures made { IfOk result (λ ins. AllZip (IsWholeIn (module_in context.entry.checked.now context.entry.«module»)) ins.items (map expression terms.now)) }
+    requires few { All
+        (λ e. length (made_in (scope_of (module_in context.checked.now context.«module»)) e (width_of
+        (scope_of (module_in context.checked.now context.«module»)) e)).cells
+        ≤ 2000000)
+        (map expression terms.now) }
+    ensures made { IfOk result (λ ins. AllZip
+        (IsWholeIn (module_in context.entry.checked.now context.entry.«module»)) ins.items
+        (map expression terms.now)) }
 {
     let mut ins = Vec::with_capacity(alloc, terms.len())?;
     for term in terms {
@@ -55,8 +61,10 @@ fn gate_part(
 ) -> Result<Part, NoMemory>
     requires starts { AreStarts (nets_of (module_in context.checked.now context.«module»)) context.starts.now }
     requires there { context.«module» < length context.checked.now }
-    requires makeable { IsMakeable context.checked.now context.«module» (gate_construct gate (map expression terms.now)) }
-    ensures part { IfOk result (λ part. IsPartAt context.entry.checked.now context.entry.«module» part (gate_construct gate (map expression terms.now))) }
+    requires makeable { IsMakeableIn context (gate_construct gate
+        (map expression terms.now)) }
+    ensures part { IfOk result (λ part. IsPartAt context.entry.checked.now context.entry.«module» part
+        (gate_construct gate (map expression terms.now))) }
 {
     let (outs, ins) = terms.split_at(output_count(gate, terms.len()));
     let scope = scope_at(context.checked, context.module);
@@ -74,9 +82,12 @@ pub(crate) fn add_gates(
 ) -> Result<(), NoMemory>
     requires starts { AreStarts (nets_of (module_in context.checked.now context.«module»)) context.starts.now }
     requires there { context.«module» < length context.checked.now }
-    requires makeable { All (λ x. IsMakeable context.checked.now context.«module» (gate_construct gate x.1)) (map gate_view all.now) }
-    ensures parts { (before : List Construct) → AllZip (IsPartAt context.entry.checked.now context.entry.«module») parts.old.items before
-        → OnOk result (AllZip (IsPartAt context.entry.checked.now context.entry.«module») parts.new.items (before ++ map (λ x. gate_construct gate x.1) (map gate_view all.now))) }
+    requires makeable { All (λ x. IsMakeableIn context (gate_construct gate x.1))
+        (map gate_view all.now) }
+    ensures parts { (before : List Construct)
+        → ArePartsIn context.entry parts.old.items before
+        → OnOk result (ArePartsIn context.entry parts.new.items
+        (before ++ map (λ x. gate_construct gate x.1) (map gate_view all.now))) }
 {
     for call in all {
         parts.push(gate_part(alloc, context, gate, call.terms.as_slice())?)?;

@@ -58,8 +58,10 @@ fn add_bits(
     requires starts { AreStarts scope.now.nets.items starts.now }
     requires has { HasNet (module_facts scope.now) name.now }
     requires within { place + count ≤ range_width (ranges_in (module_facts scope.now) name.now) }
-    ensures bits { (before : Scope → List Bit) → AreBitsIn (syntax (module_facts scope.now)) numbers.old.items before
-        → OnOk result (AreBitsIn (syntax (module_facts scope.now)) numbers.new.items (λ s. before s ++ bits_from s.path name.now place count)) }
+    ensures bits { (before : Scope → List Bit)
+        → AreBitsIn (syntax (module_facts scope.now)) numbers.old.items before
+        → OnOk result (AreBitsIn (syntax (module_facts scope.now)) numbers.new.items (λ s.
+        before s ++ bits_from s.path name.now place count)) }
 {
     let net = net_place(scope, name);
     add_run(numbers, starts[net as usize] + place, count)
@@ -74,8 +76,10 @@ fn add_net(
     requires nets { HasNets (module_facts scope.now) }
     requires starts { AreStarts scope.now.nets.items starts.now }
     requires has { HasNet (module_facts scope.now) name.now }
-    ensures bits { (before : Scope → List Bit) → AreBitsIn (syntax (module_facts scope.now)) numbers.old.items before
-        → OnOk result (AreBitsIn (syntax (module_facts scope.now)) numbers.new.items (λ s. before s ++ bits_named s name.now)) }
+    ensures bits { (before : Scope → List Bit)
+        → AreBitsIn (syntax (module_facts scope.now)) numbers.old.items before
+        → OnOk result (AreBitsIn (syntax (module_facts scope.now)) numbers.new.items (λ s.
+        before s ++ bits_named s name.now)) }
 {
     let count = range_width(net_range(scope, name));
     add_bits(scope, starts, name, 0, count, numbers)
@@ -94,9 +98,11 @@ fn add_selected(
     requires has { HasNet (module_facts scope.now) name.now }
     requires selects { has_bits (ranges_in (module_facts scope.now) name.now) left right ≡ true }
     requires bounded { distance left right + 1 ≤ 65536 }
-    ensures bits { (before : Scope → List Bit) → AreBitsIn (syntax (module_facts scope.now)) numbers.old.items before
-        → OnOk result (AreBitsIn (syntax (module_facts scope.now)) numbers.new.items
-        (λ s. before s ++ bits_from s.path name.now (place_of (ranges_in (module_facts scope.now) name.now) left) (distance left right + 1))) }
+    ensures bits { (before : Scope → List Bit)
+        → AreBitsIn (syntax (module_facts scope.now)) numbers.old.items before
+        → OnOk result (AreBitsIn (syntax (module_facts scope.now)) numbers.new.items (λ s. before s
+        ++ bits_from s.path name.now (place_of (ranges_in (module_facts scope.now) name.now) left)
+        (distance left right + 1))) }
 {
     let place = place_of(net_range(scope, name), left);
     let count = left.abs_diff(right) + 1;
@@ -115,7 +121,8 @@ fn add_left(
     requires starts { AreStarts scope.now.nets.items starts.now }
     requires fit { AreFit (module_facts scope.now) (expression expr.now) }
     ensures { (before : Scope → List Bit) → AreBitsIn (syntax (module_facts scope.now)) numbers.old.items before
-        → OnOk result (AreBitsIn (syntax (module_facts scope.now)) numbers.new.items (λ s. before s ++ written_bits s (expression expr.now))) }
+        → OnOk result (AreBitsIn (syntax (module_facts scope.now)) numbers.new.items (λ s.
+        before s ++ written_bits s (expression expr.now))) }
 {
     match expr {
         Expr::Net(name) => add_net(scope, starts, name, numbers),
@@ -138,7 +145,8 @@ fn add_lefts(
     requires starts { AreStarts scope.now.nets.items starts.now }
     requires fit { All (AreFit (module_facts scope.now)) (map expression all.now) }
     ensures { (before : Scope → List Bit) → AreBitsIn (syntax (module_facts scope.now)) numbers.old.items before
-        → OnOk result (AreBitsIn (syntax (module_facts scope.now)) numbers.new.items (λ s. before s ++ flat_map (written_bits s) (map expression all.now))) }
+        → OnOk result (AreBitsIn (syntax (module_facts scope.now)) numbers.new.items (λ s.
+        before s ++ flat_map (written_bits s) (map expression all.now))) }
 {
     for part in all {
         add_left(scope, starts, part, numbers)?;
@@ -156,7 +164,8 @@ pub(crate) fn net_bits(
     requires nets { HasNets (module_facts scope.now) }
     requires starts { AreStarts scope.now.nets.items starts.now }
     requires has { HasNet (module_facts scope.now) name.now }
-    ensures bits { IfOk result (λ numbers. AreBitsIn (syntax (module_facts scope.now)) numbers.items (λ s. bits_named s name.now)) }
+    ensures bits { IfOk result (λ numbers.
+        AreBitsIn (syntax (module_facts scope.now)) numbers.items (λ s. bits_named s name.now)) }
 {
     let mut numbers = Vec::new(alloc);
     add_net(scope, starts, name, &mut numbers)?;
@@ -173,7 +182,8 @@ pub(crate) fn lefts_bits(
     requires nets { HasNets (module_facts scope.now) }
     requires starts { AreStarts scope.now.nets.items starts.now }
     requires fit { All (AreFit (module_facts scope.now)) (map expression all.now) }
-    ensures bits { IfOk result (λ numbers. AreBitsIn (syntax (module_facts scope.now)) numbers.items (λ s. flat_map (written_bits s) (map expression all.now))) }
+    ensures bits { IfOk result (λ numbers. AreBitsIn (syntax (module_facts scope.now)) numbers.items
+        (λ s. flat_map (written_bits s) (map expression all.now))) }
 {
     let mut numbers = Vec::new(alloc);
     add_lefts(scope, starts, all, &mut numbers)?;
@@ -190,7 +200,8 @@ pub(crate) fn left_bits(
     requires nets { HasNets (module_facts scope.now) }
     requires starts { AreStarts scope.now.nets.items starts.now }
     requires fit { AreFit (module_facts scope.now) (expression expr.now) }
-    ensures bits { IfOk result (λ numbers. AreBitsIn (syntax (module_facts scope.now)) numbers.items (λ s. written_bits s (expression expr.now))) }
+    ensures bits { IfOk result (λ numbers.
+        AreBitsIn (syntax (module_facts scope.now)) numbers.items (λ s. written_bits s (expression expr.now))) }
 {
     let mut numbers = Vec::new(alloc);
     add_left(scope, starts, expr, &mut numbers)?;

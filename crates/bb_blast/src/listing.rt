@@ -7,7 +7,8 @@
 
 ghost use Rattle.std.specs.Prelude.{All, ◌≡◌, ◌<◌, None, length, replicate, IfOk};
 ghost use Rattle.bb_blast.specs.Inside.Counting.{capped};
-ghost use Rattle.bb_blast.specs.Inside.Listing.{IsScopeAmong, cell_list_view, boxed_view, first_sources, input_numbers, bit_count, boxed_in, cells_before, outs_of, finished, listed};
+ghost use Rattle.bb_blast.specs.Inside.Listing.{IsScopeAmong, cell_list_view, boxed_view, first_sources, input_numbers};
+ghost use Rattle.bb_blast.specs.Inside.Listing.{bit_count, boxed_in, cells_before, outs_of, finished, listed};
 ghost use Rattle.bb_design.specs.Hierarchy.{Design};
 ghost use Rattle.bb_design.specs.Inside.Allowed.{IsBounded};
 ghost use Rattle.bb_blast.specs.Inside.Placements.{ArePlaced, AreTemplated, AreStored};
@@ -110,7 +111,8 @@ fn boxed_in(
     templates: &[ModuleTemplate],
 ) -> Result<BoxedLists, NoMemory>
     requires there { All (λ p. p.module < length templates.now) placed.now }
-    ensures boxed { IfOk result (λ boxed. boxed_view boxed ≡ boxed_in layout.nets layout.others placed.now templates.now sources.items) }
+    ensures boxed { IfOk result (λ boxed.
+        boxed_view boxed ≡ boxed_in layout.nets layout.others placed.now templates.now sources.items) }
 {
     let mut boxed = BoxedLists {
         cells: Vec::new(alloc),
@@ -127,7 +129,8 @@ fn begun(
     cells: Vec<LooseCell>,
     sources: Vec<Option<u32>>,
 ) -> Result<CellListLists, NoMemory>
-    ensures cell_list { IfOk result (λ cell_list. cell_list_view cell_list ≡ record { cells = cells.items; sources = sources.items; next = replicate bits None }) }
+    ensures cell_list { IfOk result (λ cell_list. cell_list_view cell_list
+        ≡ record { cells = cells.items; sources = sources.items; next = replicate bits None }) }
 {
     let next = vec![in alloc; None; bits as usize]?;
     Ok(CellListLists {
@@ -191,8 +194,10 @@ pub fn list_cells(
     templates: &[ModuleTemplate],
     stored: &[Stored],
 ) -> Result<Loose, NoMemory>
-    requires design { (d : Design) × ArePlaced d placed.now × AreTemplated d placed.now templates.now × AreStored d stored.now × IsBounded d × AreDrivenOnce d }
-    ensures list { IfOk result (λ l. (d : Design) → ArePlaced d placed.now → AreTemplated d placed.now templates.now → AreStored d stored.now → IsBounded d → AreDrivenOnce d
+    requires design { (d : Design) × ArePlaced d placed.now × AreTemplated d placed.now templates.now
+        × AreStored d stored.now × IsBounded d × AreDrivenOnce d }
+    ensures list { IfOk result (λ l. (d : Design) → ArePlaced d placed.now → AreTemplated d placed.now templates.now
+        → AreStored d stored.now → IsBounded d → AreDrivenOnce d
         → (lowering : Lowering) × IsLowering d lowering × IsListOf d lowering l) }
 {
     laws_of_designs();

@@ -5,7 +5,9 @@
 
 ghost use Rattle.std.specs.Prelude.{◌≡◌, ◌<◌, ◌++◌, All, length, map, IfOk, OnOk};
 ghost use Rattle.bb_blast.specs.Inside.Counting.{after};
-ghost use Rattle.bb_blast.specs.Inside.Logic.{IsLogicAmong, IsOperandBelow, IsOperatorBelow, constant_place, net_bit_place, operand_in, operand_place, operator_cell, with_logic, logic_places};
+ghost use Rattle.bb_blast.specs.Inside.Logic.{IsLogicAmong, IsOperandBelow, IsOperatorBelow, constant_place};
+ghost use Rattle.bb_blast.specs.Inside.Logic.{net_bit_place, operand_in, operand_place, operator_cell, with_logic};
+ghost use Rattle.bb_blast.specs.Inside.Logic.{logic_places};
 
 use crate::logic::{Logic, Operand, Operator, operand_at};
 use crate::sources::{after, next_place};
@@ -82,7 +84,8 @@ fn add_operators(
 ) -> Result<(), NoMemory>
     requires below { All (IsOperatorBelow (length spot.starts.now)) operators.now }
     ensures added { OnOk result (cells.new.items
-        ≡ cells.old.items ++ map (operator_cell (operand_place spot.entry.bits spot.entry.starts.now first)) operators.now) }
+        ≡ cells.old.items
+        ++ map (operator_cell (operand_place spot.entry.bits spot.entry.starts.now first)) operators.now) }
 {
     for operator in operators {
         cells.push(operator_cell(spot, first, *operator))?;
@@ -97,7 +100,8 @@ fn note_operands(
     places: &mut Vec<u32>,
 ) -> Result<(), NoMemory>
     requires below { All (IsOperandBelow (length spot.starts.now)) operands.now }
-    ensures noted { OnOk result (places.new.items ≡ map (operand_place spot.entry.bits spot.entry.starts.now first) operands.now) }
+    ensures noted { OnOk result (places.new.items
+        ≡ map (operand_place spot.entry.bits spot.entry.starts.now first) operands.now) }
 {
     places.clear();
     for operand in operands {

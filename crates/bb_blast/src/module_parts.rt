@@ -2,13 +2,13 @@
 //! callees are.
 
 ghost use Rattle.std.specs.Prelude.{◌≡◌, ◌<◌, ◌++◌, ◌^◌, List, All, length, map, IfOk, OnOk};
-ghost use Rattle.std.specs.List.{AllZip};
 ghost use Rattle.bb_ast.specs.Inside.Views.{body_view};
 ghost use Rattle.bb_names.specs.Inside.Checked.{syntax};
 ghost use Rattle.bb_expr.specs.Inside.Occurrences.{OccursAt, item_expressions};
 ghost use Rattle.bb_design.specs.Constructs.{Construct, body_constructs};
 ghost use Rattle.bb_design.specs.Hierarchy.{instances_in, instances_of};
-ghost use Rattle.bb_blast.specs.Inside.BitBlasting.{IsStarted, IsStartedModule, AreCallsAt, IsMakeable, IsPartAt, module_in, module_constructs};
+ghost use Rattle.bb_blast.specs.Inside.BitBlasting.{IsStarted, IsStartedModule, AreCallsAt, module_in};
+ghost use Rattle.bb_blast.specs.Inside.BitBlasting.{module_constructs, ArePartsIn, IsMakeableIn};
 
 use crate::assigning::{add_all_declared, add_assignments, add_supplies, register};
 use crate::calling::add_calls;
@@ -39,13 +39,18 @@ fn add_body(
     parts: &mut Vec<Part>,
 ) -> Result<(), NoMemory>
     requires own { IsStartedModule context.checked.now context.«module» context.starts.now }
-    requires targets { All (IsStarted context.checked.now (map (λ list. list.items) targets.starts.now)) targets.modules.now }
+    requires targets { All (IsStarted context.checked.now (map (λ list. list.items) targets.starts.now))
+        targets.modules.now }
     requires few { length targets.modules.now < 2 ^ 32 }
-    requires calls { AreCallsAt context.checked.now context.«module» targets.modules.now first (instances_in (body_view body.now)) }
+    requires calls { AreCallsAt context.checked.now context.«module» targets.modules.now first (instances_in
+        (body_view body.now)) }
     requires occurs { All (OccursAt context.checked.now context.«module») (item_expressions (body_view body.now)) }
-    requires makeable { All (IsMakeable context.checked.now context.«module») (body_constructs (map syntax context.checked.now) (body_view body.now)) }
-    ensures parts { (before : List Construct) → AllZip (IsPartAt context.entry.checked.now context.entry.«module») parts.old.items before
-        → OnOk result (AllZip (IsPartAt context.entry.checked.now context.entry.«module») parts.new.items (before ++ body_constructs (map syntax context.entry.checked.now) (body_view body.now))) }
+    requires makeable { All (IsMakeableIn context) (body_constructs
+        (map syntax context.checked.now) (body_view body.now)) }
+    ensures parts { (before : List Construct)
+        → ArePartsIn context.entry parts.old.items before
+        → OnOk result (ArePartsIn context.entry parts.new.items
+        (before ++ body_constructs (map syntax context.entry.checked.now) (body_view body.now))) }
 {
     match body {
         Body::Nets(_, nets) => add_all_declared(alloc, context, nets, parts),
@@ -69,11 +74,17 @@ pub(crate) fn parts_of(
     targets: Targets<'_>,
 ) -> Result<Vec<Part>, NoMemory>
     requires own { IsStartedModule context.checked.now context.«module» context.starts.now }
-    requires targets { All (IsStarted context.checked.now (map (λ list. list.items) targets.starts.now)) targets.modules.now }
+    requires targets { All (IsStarted context.checked.now (map (λ list. list.items) targets.starts.now))
+        targets.modules.now }
     requires few { length targets.modules.now < 2 ^ 32 }
-    requires calls { AreCallsAt context.checked.now context.«module» targets.modules.now 0 (instances_of (module_in context.checked.now context.«module»)) }
-    requires makeable { All (IsMakeable context.checked.now context.«module») (module_constructs (map syntax context.checked.now) (module_in context.checked.now context.«module»)) }
-    ensures parts { IfOk result (λ parts. AllZip (IsPartAt context.entry.checked.now context.entry.«module») parts.items (module_constructs (map syntax context.entry.checked.now) (module_in context.entry.checked.now context.entry.«module»))) }
+    requires calls { AreCallsAt context.checked.now context.«module» targets.modules.now 0 (instances_of
+        (module_in context.checked.now context.«module»)) }
+    requires makeable { All (IsMakeableIn context) (module_constructs
+        (map syntax context.checked.now) (module_in context.checked.now context.«module»)) }
+    ensures parts { IfOk result (λ parts. ArePartsIn context.entry
+        parts.items
+        (module_constructs (map syntax context.entry.checked.now) (module_in context.entry.checked.now
+        context.entry.«module»))) }
 {
     let items = &scope_at(context.checked, context.module).module.items;
     let mut parts = Vec::new(alloc);

@@ -82,8 +82,9 @@ pub(crate) fn port_bits(
     input: bool,
 ) -> Result<Vec<u32>, NoMemory>
     requires starts { AreStarts nets.now starts.now }
-    ensures bits { IfOk result (λ numbers. (path : Path) →
-        AreAt (flat_map (bits_of_net path) nets.now) numbers.items (flat_map (bits_of_net path) (filter (is_port_of input) nets.now))) }
+    ensures bits { IfOk result (λ numbers. (path : Path)
+        → AreAt (flat_map (bits_of_net path) nets.now) numbers.items (flat_map (bits_of_net path)
+        (filter (is_port_of input) nets.now))) }
 {
     let mut bits = Vec::new(alloc);
     for k in 0..nets.len() {

@@ -5,7 +5,8 @@
 
 ghost use Rattle.std.specs.Prelude.{◌≡◌, ◌<◌, All, length, Some, slice_get, OnOk};
 ghost use Rattle.std.specs.List.{fold};
-ghost use Rattle.bb_blast.specs.Inside.Listing.{IsPartAmong, IsScopeAmong, cell_list_view, with_part, inner_first, with_parts, with_scope};
+ghost use Rattle.bb_blast.specs.Inside.Listing.{IsPartAmong, IsScopeAmong, cell_list_view, with_part, inner_first};
+ghost use Rattle.bb_blast.specs.Inside.Listing.{with_parts, with_scope};
 
 use crate::cell_list::{CellListLists, put_assignment, put_gate, put_output, put_register};
 use crate::logic_cells::{Spot, constant_place};
@@ -40,7 +41,10 @@ fn add_part(
 ) -> Result<(), NoMemory>
     requires part { IsPartAmong (length starts.now) (length scope.now.children.items) part.now }
     requires children { All (λ c. c < length placed.now) scope.now.children.items }
-    ensures added { OnOk result (cell_list_view cell_list.new ≡ with_part layout.nets layout.others (record { first = scope.now.first; starts = starts.now; inner = inner_first placed.now scope.now }) (cell_list_view cell_list.old) part.now) }
+    ensures added { OnOk result (cell_list_view cell_list.new
+        ≡ with_part layout.nets layout.others
+        (record { first = scope.now.first; starts = starts.now; inner = inner_first placed.now scope.now })
+        (cell_list_view cell_list.old) part.now) }
 {
     let first = scope.first;
     let spot = Spot {
@@ -82,9 +86,12 @@ fn add_parts(
     template: &ModuleTemplate,
     cell_list: &mut CellListLists,
 ) -> Result<(), NoMemory>
-    requires parts { All (IsPartAmong (length template.now.starts.items) (length scope.now.children.items)) template.now.parts.items }
+    requires parts { All (IsPartAmong (length template.now.starts.items) (length scope.now.children.items))
+        template.now.parts.items }
     requires children { All (λ c. c < length placed.now) scope.now.children.items }
-    ensures added { OnOk result (cell_list_view cell_list.new ≡ with_parts layout.nets layout.others placed.now scope.now (cell_list_view cell_list.old) (Some template.now)) }
+    ensures added { OnOk result (cell_list_view cell_list.new
+        ≡ with_parts layout.nets layout.others placed.now scope.now (cell_list_view cell_list.old)
+        (Some template.now)) }
 {
     for part in &template.parts {
         add_part(layout, placed, scope, &template.starts, part, cell_list)?;
@@ -101,7 +108,8 @@ fn add_scope(
     cell_list: &mut CellListLists,
 ) -> Result<(), NoMemory>
     requires scope { IsScopeAmong placed.now templates.now scope.now }
-    ensures added { OnOk result (cell_list_view cell_list.new ≡ with_scope layout.nets layout.others placed.now templates.now (cell_list_view cell_list.old) scope.now) }
+    ensures added { OnOk result (cell_list_view cell_list.new
+        ≡ with_scope layout.nets layout.others placed.now templates.now (cell_list_view cell_list.old) scope.now) }
 {
     if scope.boxed {
         return Ok(());
@@ -118,7 +126,9 @@ pub(crate) fn add_scopes(
     cell_list: &mut CellListLists,
 ) -> Result<(), NoMemory>
     requires scopes { All (IsScopeAmong placed.now templates.now) placed.now }
-    ensures added { OnOk result (cell_list_view cell_list.new ≡ fold (with_scope layout.nets layout.others placed.now templates.now) (cell_list_view cell_list.old) placed.now) }
+    ensures added { OnOk result (cell_list_view cell_list.new
+        ≡ fold (with_scope layout.nets layout.others placed.now templates.now) (cell_list_view cell_list.old)
+        placed.now) }
 {
     for scope in placed {
         add_scope(layout, placed, templates, scope, cell_list)?;

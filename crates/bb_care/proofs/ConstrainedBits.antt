@@ -2,7 +2,7 @@
 use Rattle.std.proofs.Common.{◌≡◌, ◌↔◌, ℕ, ◌+◌, ◌<◌, ◌≤◌, Bool, true, false, ◌&&◌, List, [], length, map, refl, sym, ap, ap₂, ◌∙◌, subst, arith}
 use Rattle.std.specs.Prelude.{slice_index}
 use Rattle.std.proofs.Math.Bool.{and-true, and-false}
-use Rattle.bb_subst.specs.Embeddings.{moved, OccursAt, OccursIn}
+use Rattle.bb_subst.specs.Embeddings.{renumbered, OccursAt, OccursIn}
 use Rattle.bb_subst.specs.Laws.EmbeddingLaws.{OccurrencesKeepBits}
 use Rattle.bb_net.specs.declared.cell.Cell.{Cell}
 use Rattle.bb_net.specs.declared.cell.Cell.TheVariants.{Const, Input, Not, And, Or, Xor, Mux, BoxOut}
@@ -14,7 +14,7 @@ use Rattle.bb_care.specs.Laws.{ConstrainedPairsAreRight}
 use Rattle.bb_care.proofs.ConstrainedPairs.{spec_is_netlist, imp_is_netlist}
 use Rattle.bb_care.proofs.ConstrainedCells.{inputs_fit, no_pin, not_moved, guarded_length, guarded_old, guarded_and, guarded_out, copied_length, copied_old, copy_cell, copy_there}
 
-occurs_is : (cells : List Cell) (at : ℕ → ℕ) (place : ℕ) (c : Cell) → cell_at cells place ≡ moved at c → OccursAt cells at c place
+occurs_is : (cells : List Cell) (at : ℕ → ℕ) (place : ℕ) (c : Cell) → cell_at cells place ≡ renumbered at c → OccursAt cells at c place
 occurs_is cells at place (Const b) is = is
 occurs_is cells at place (Input i) is = is
 occurs_is cells at place (Not a) is = is

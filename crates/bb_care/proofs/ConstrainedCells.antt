@@ -4,7 +4,7 @@ use Rattle.std.specs.Prelude.{slice_index}
 use Rattle.std.proofs.lemmas.Bool.{cases_lt, lt-ltb, le-ltb}
 use Rattle.std.proofs.lemmas.List.{get_or_append_left, get_or-append-add, get_or-map, get_or-drop, get_or-take, length-drop, length-map, length-take}
 use Rattle.std.proofs.lemmas.List.FromFn.{get_or-range_with_len, get_or-map-range_with_len, length-map-range_with_len}
-use Rattle.bb_subst.specs.Embeddings.{moved}
+use Rattle.bb_subst.specs.Embeddings.{renumbered}
 use Rattle.bb_net.specs.declared.cell.Cell.{Cell}
 use Rattle.bb_net.specs.declared.cell.Cell.TheVariants.{Const, Input, Not, And, Or, Xor, Mux, BoxOut}
 use Rattle.bb_net.specs.Netlists.{Netlist, cell_at, first_cells, ReadsBefore, IsNetlist, IsPinAt}
@@ -50,7 +50,7 @@ no_pin net kept none k b p lt is =
 
 -- moved cells
 
-pub not_moved : (c : Cell) → c ≡ moved (λ k. k) c
+pub not_moved : (c : Cell) → c ≡ renumbered (λ k. k) c
 not_moved (Const b) = refl
 not_moved (Input i) = refl
 not_moved (Not a) = refl
@@ -61,7 +61,7 @@ not_moved (Mux c t e) = refl
 not_moved (BoxOut b p) = refl
 
 -- a moved gate is no output pin of a box
-pub moved_plain : (to : ℕ → ℕ) (c : Cell) → ((b p : ℕ) → c ≡ BoxOut b p → ⊥) → (b p : ℕ) → moved to c ≡ BoxOut b p → ⊥
+pub moved_plain : (to : ℕ → ℕ) (c : Cell) → ((b p : ℕ) → c ≡ BoxOut b p → ⊥) → (b p : ℕ) → renumbered to c ≡ BoxOut b p → ⊥
 moved_plain to (Const v) plain b p e = grind (arith, e)
 moved_plain to (Input i) plain b p e = grind (arith, e)
 moved_plain to (Not x) plain b p e = grind (arith, e)
@@ -93,7 +93,7 @@ copy_before spec imp long a k lt = by (cases_lt a (spec.inputs + 2)) (cases_lt k
 
 pub copied_length : (spec imp : Netlist) → length (with_copies spec imp).cells ≡ length imp.cells + (length spec.cells - (spec.inputs + 2))
 copied_length spec imp =
-    length-append imp.cells (specification_copies spec imp) ∙ ap (λ n. length imp.cells + n) (length-map (drop (spec.inputs + 2) spec.cells) (moved (copy_place spec imp)) ∙ length-drop (spec.inputs + 2) spec.cells)
+    length-append imp.cells (specification_copies spec imp) ∙ ap (λ n. length imp.cells + n) (length-map (drop (spec.inputs + 2) spec.cells) (renumbered (copy_place spec imp)) ∙ length-drop (spec.inputs + 2) spec.cells)
 
 pub copied_old : (spec imp : Netlist) (k : ℕ) → k < length imp.cells → cell_at (with_copies spec imp).cells k ≡ cell_at imp.cells k
 copied_old spec imp k lt = get_or_append_left imp.cells (specification_copies spec imp) (Const false) k lt
@@ -105,16 +105,16 @@ copy_there spec imp long k lt = elim (cases_lt k (spec.inputs + 2)) [
 ]
 
 -- the constants and the inputs read nothing
-prefix_moved : (at : ℕ → ℕ) (n k : ℕ) → k < n + 2 → moved at (cell_at (first_cells n) k) ≡ cell_at (first_cells n) k
+prefix_moved : (at : ℕ → ℕ) (n k : ℕ) → k < n + 2 → renumbered at (cell_at (first_cells n) k) ≡ cell_at (first_cells n) k
 prefix_moved at n zero lt = refl
 prefix_moved at n (suc zero) lt = refl
 prefix_moved at n (suc (suc j)) lt =
     let is : cell_at (first_cells n) (suc (suc j)) ≡ Input j = get_or-map-range_with_len Input 0 n j j (Const false) (omega (arith, lt)) (omega arith) in
-    ap (moved at) is ∙ sym is
+    ap (renumbered at) is ∙ sym is
 
 -- at the place of a copy is the cell, which reads the places of copies
 pub copy_cell : (spec imp : Netlist) → IsNetlist spec → IsNetlist imp → spec.inputs ≡ imp.inputs → (k : ℕ) → k < length spec.cells
-    → cell_at (with_copies spec imp).cells (copy_place spec imp k) ≡ moved (copy_place spec imp) (cell_at spec.cells k)
+    → cell_at (with_copies spec imp).cells (copy_place spec imp k) ≡ renumbered (copy_place spec imp) (cell_at spec.cells k)
 copy_cell spec imp kept also inputs k lt = by (cases_lt k (spec.inputs + 2))
   where
     at : ℕ → ℕ
@@ -126,18 +126,18 @@ copy_cell spec imp kept also inputs k lt = by (cases_lt k (spec.inputs + 2))
     own : k < spec.inputs + 2 → cell_at spec.cells k ≡ cell_at (first_cells spec.inputs) k
     own low = sym (get_or-take (spec.inputs + 2) spec.cells k (Const false) low) ∙ ap (λ l. cell_at l k) kept.prefix
 
-    by : (k < spec.inputs + 2) ⊎ (spec.inputs + 2 ≤ k) → cell_at (with_copies spec imp).cells (at k) ≡ moved at (cell_at spec.cells k)
+    by : (k < spec.inputs + 2) ⊎ (spec.inputs + 2 ≤ k) → cell_at (with_copies spec imp).cells (at k) ≡ renumbered at (cell_at spec.cells k)
     by (inl low) =
         ap (cell_at (with_copies spec imp).cells) (copy_prefix spec imp k low) ∙ copied_old spec imp k (omega (arith, low, long)) ∙ sym (prefix_same spec imp kept also inputs k low)
-        ∙ own low ∙ sym (prefix_moved at spec.inputs k low) ∙ ap (moved at) (sym (own low))
+        ∙ own low ∙ sym (prefix_moved at spec.inputs k low) ∙ ap (renumbered at) (sym (own low))
     by (inr past) =
         ap (cell_at (with_copies spec imp).cells) (copy_after spec imp k past) ∙ get_or-append-add imp.cells (specification_copies spec imp) (k - (spec.inputs + 2)) (Const false)
-        ∙ get_or-map (moved at) (drop (spec.inputs + 2) spec.cells) (k - (spec.inputs + 2)) (Const false) (Const false) (omega (arith, lt, past, length-drop (spec.inputs + 2) spec.cells))
-        ∙ ap (moved at) (get_or-drop (spec.inputs + 2) spec.cells (k - (spec.inputs + 2)) (Const false) ∙ ap (cell_at spec.cells) (omega (arith, past)))
+        ∙ get_or-map (renumbered at) (drop (spec.inputs + 2) spec.cells) (k - (spec.inputs + 2)) (Const false) (Const false) (omega (arith, lt, past, length-drop (spec.inputs + 2) spec.cells))
+        ∙ ap (renumbered at) (get_or-drop (spec.inputs + 2) spec.cells (k - (spec.inputs + 2)) (Const false) ∙ ap (cell_at spec.cells) (omega (arith, past)))
 
 -- what a copy reads precedes it
 pub copy_reads : (spec imp : Netlist) → spec.inputs ≡ imp.inputs → spec.inputs + 2 ≤ length imp.cells → (k : ℕ) (c : Cell) → ((b p : ℕ) → c ≡ BoxOut b p → ⊥)
-    → ReadsBefore spec.inputs spec.boxes k c → ReadsBefore imp.inputs imp.boxes (copy_place spec imp k) (moved (copy_place spec imp) c)
+    → ReadsBefore spec.inputs spec.boxes k c → ReadsBefore imp.inputs imp.boxes (copy_place spec imp k) (renumbered (copy_place spec imp) c)
 copy_reads spec imp inputs long k (Const b) none reads = tt
 copy_reads spec imp inputs long k (Input i) none reads = omega (arith, inputs, reads)
 copy_reads spec imp inputs long k (Not a) none reads = copy_before spec imp long a k reads

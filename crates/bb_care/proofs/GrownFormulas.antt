@@ -11,7 +11,7 @@ use Rattle.bb_lemmas.proofs.Ranges.{range_parts}
 use Rattle.bb_iso.specs.Laws.Isomorphism.{AreIsomorphic}
 use Rattle.bb_iso.specs.Laws.Formulas.{Formula, Not, And, Or, Xor, Mux, cell_formula, formula_at, cell_formulas, pin_formulas}
 use Rattle.bb_iso.specs.Laws.{FormulasAreOfCells}
-use Rattle.bb_subst.specs.Embeddings.{moved}
+use Rattle.bb_subst.specs.Embeddings.{renumbered}
 use Rattle.bb_net.specs.declared.cell.Cell.{Cell}
 use Rattle.bb_net.specs.declared.cell.Cell.TheVariants as cell
 use Rattle.bb_net.specs.Netlists.{Netlist, Pins, IsNetlist, ReadsBefore, box_at, cell_at}
@@ -19,7 +19,7 @@ use Rattle.bb_care.proofs.ConstrainedCells.{prefix_long, not_moved}
 use Rattle.bb_care.proofs.GrownNets.{grown, old_cell}
 
 -- a moved cell has the formula that it had, where what it reads has
-pub moved_formula : (inputs : ℕ) (boxes : List Pins) (to : ℕ → ℕ) (at new : ℕ → Formula) (place : ℕ) (c : Cell) → ReadsBefore inputs boxes place c → ((k : ℕ) → k < place → new (to k) ≡ at k) → cell_formula new (moved to c) ≡ cell_formula at c
+pub moved_formula : (inputs : ℕ) (boxes : List Pins) (to : ℕ → ℕ) (at new : ℕ → Formula) (place : ℕ) (c : Cell) → ReadsBefore inputs boxes place c → ((k : ℕ) → k < place → new (to k) ≡ at k) → cell_formula new (renumbered to c) ≡ cell_formula at c
 moved_formula inputs boxes to at new place (cell.Const b) h same = refl
 moved_formula inputs boxes to at new place (cell.Input i) h same = refl
 moved_formula inputs boxes to at new place (cell.Not a) h same = ap Not (same a h)

@@ -5,7 +5,7 @@
 -- reads its own constants and inputs, and so has a care cell of its own, on which no box has a bearing.
 use Rattle.std.specs.Prelude.{ℕ, ◌+◌, ◌-◌, if◌then◌else◌, nat_lt, List, ◌++◌, length, map, drop}
 use Rattle.std.specs.List.{range_with_len}
-use Rattle.bb_subst.specs.Embeddings.{moved}
+use Rattle.bb_subst.specs.Embeddings.{renumbered}
 use Rattle.bb_net.specs.declared.cell.Cell.{Cell}
 use Rattle.bb_net.specs.declared.cell.Cell.TheVariants.{And}
 use Rattle.bb_net.specs.Netlists.{Netlist}
@@ -18,7 +18,7 @@ copy_place spec imp k = if nat_lt k (spec.inputs + 2) then k else length imp.cel
 
 -- these copies
 abbrev pub specification_copies : Netlist → Netlist → List Cell
-specification_copies spec imp = map (moved (copy_place spec imp)) (drop (spec.inputs + 2) spec.cells)
+specification_copies spec imp = map (renumbered (copy_place spec imp)) (drop (spec.inputs + 2) spec.cells)
 
 -- the implementation with the copies after its cells
 abbrev pub with_copies : Netlist → Netlist → Netlist

@@ -3,9 +3,10 @@
 //! Both sides need it: with one on the implementation's side alone, an output that is 1 in the specification would be
 //! wrong wherever the care cell is 0.
 
-ghost use Rattle.std.specs.Prelude.{◌≡◌, ◌+◌, ◌-◌, ◌<◌, ◌≤◌, ◌^◌, [], ◌++◌, All, length, map, nat_lt, if◌then◌else◌, IfOk, OnOk};
+ghost use Rattle.std.specs.Prelude.{◌≡◌, ◌+◌, ◌-◌, ◌<◌, ◌≤◌, ◌^◌, [], ◌++◌, All, length, map, nat_lt, if◌then◌else◌};
+ghost use Rattle.std.specs.Prelude.{IfOk, OnOk};
 ghost use Rattle.std.specs.List.{range_with_len};
-ghost use Rattle.bb_subst.specs.Embeddings.{moved};
+ghost use Rattle.bb_subst.specs.Embeddings.{renumbered};
 ghost use Rattle.bb_net.specs.declared.cell.Cell.TheVariants.{And};
 ghost use Rattle.bb_net.specs.Netlists.{Netlist, reads_of};
 ghost use Rattle.bb_care.specs.Constrained.{copy_place, guarded, with_copies};
@@ -33,7 +34,7 @@ fn copy_place(first: u32, after: u32, k: u32) -> u32
 
 fn copied(first: u32, after: u32, cell: Cell) -> Cell
     requires room { All (λ k. after + k < 2 ^ 32) (reads_of [] cell) }
-    ensures cell { result ≡ moved (λ k. if nat_lt k first then k else after + (k - first)) cell }
+    ensures cell { result ≡ renumbered (λ k. if nat_lt k first then k else after + (k - first)) cell }
 {
     match cell {
         Cell::Const(b) => Cell::Const(b),
@@ -71,7 +72,8 @@ fn add_ands(net: &mut Net, outs: &[u32], care: u32) -> Result<(), NoMemory>
     requires outs { All (λ out. out < length net.old.cells) outs.now }
     requires care { care < length net.old.cells }
     requires room { length net.old.cells + length outs.now < 2 ^ 32 }
-    ensures ands { OnOk result (net.new ≡ record net.old { cells = net.old.cells ++ map (λ out. And out care) outs.now }) }
+    ensures ands { OnOk result (net.new
+        ≡ record net.old { cells = net.old.cells ++ map (λ out. And out care) outs.now }) }
 {
     for out in outs {
         net.push(Cell::And(*out, care))?;

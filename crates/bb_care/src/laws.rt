@@ -1,6 +1,7 @@
 //! Laws of pairs with a care cell. Each function has a law as its contract and does nothing.
 
-ghost use Rattle.bb_care.specs.Laws.{ConstrainedPairsArePairs, ConstrainedPairsAreRight, ConstrainedPairsStayIsomorphic};
+ghost use Rattle.bb_care.specs.Laws.{ConstrainedPairsArePairs, ConstrainedPairsAreRight};
+ghost use Rattle.bb_care.specs.Laws.{ConstrainedPairsStayIsomorphic};
 
 use bb_iso::laws::formulas_are_of_cells;
 use bb_net::value_exists;

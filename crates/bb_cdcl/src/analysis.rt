@@ -3,12 +3,12 @@
 //! literals of the level: where a decision lies between, the trail may go back to it. The counter only says when it is
 //! worth looking, so it needs no proof.
 
-ghost use Rattle.std.specs.Prelude.{ℕ, ◌≡◌, ◌+◌, ◌<◌, false, true, length, take, slice_get, Some, None, IfOk, OnOk, IfSome, IfNone};
+ghost use Rattle.std.specs.Prelude.{ℕ, ◌≡◌, ◌+◌, ◌<◌, false, true, length, take, slice_get, Some, None, IfOk, OnOk};
+ghost use Rattle.std.specs.Prelude.{IfSome, IfNone};
 ghost use Rattle.bb_cnf.specs.declared.clauses.Lit.{Lit as Literal};
-ghost use Rattle.bb_cnf.specs.Clauses.{Literals};
 ghost use Rattle.bb_cnf.specs.Inside.PartialResolvent.{held, AreListed};
 ghost use Rattle.bb_cdcl.specs.Inside.Trails.{falsified, AreNew, HaveReasons};
-ghost use Rattle.bb_cdcl.specs.Inside.Analysis.{AreFalsified, IsCovered, IsBackjump, IsResolved};
+ghost use Rattle.bb_cdcl.specs.Inside.Analysis.{AreFalsified, IsCovered, IsBackjump, StaysResolved};
 
 use crate::NoMemory;
 use crate::backjumping::backjump_target;
@@ -35,9 +35,12 @@ pub(crate) fn entry_at(entries: &[Entry], place: usize) -> Entry
 
 pub(crate) fn has_at(resolvent: &PartialResolvent, entries: &[Entry], place: usize) -> bool
     requires { place < length entries.now }
-    ensures covered { result ≡ true → AreFalsified (take (place + 1) entries.now) (held resolvent.now) → IsCovered entries.now (held resolvent.now) place place }
-    ensures passed { result ≡ false → AreFalsified (take (place + 1) entries.now) (held resolvent.now) → AreFalsified (take place entries.now) (held resolvent.now) }
-    ensures lower { result ≡ false → (top : ℕ) → IsCovered entries.now (held resolvent.now) top (place + 1) → IsCovered entries.now (held resolvent.now) top place }
+    ensures covered { result ≡ true → AreFalsified (take (place + 1) entries.now) (held resolvent.now)
+        → IsCovered entries.now (held resolvent.now) place place }
+    ensures passed { result ≡ false → AreFalsified (take (place + 1) entries.now) (held resolvent.now)
+        → AreFalsified (take place entries.now) (held resolvent.now) }
+    ensures lower { result ≡ false → (top : ℕ) → IsCovered entries.now (held resolvent.now) top (place + 1)
+        → IsCovered entries.now (held resolvent.now) top place }
 {
     let entry = entry_at(entries, place);
     resolvent.has(negation(entry.lit))
@@ -60,7 +63,8 @@ fn resolve_at(
     requires covered { IsCovered entries.now (held resolvent.old) place place }
     requires listed { AreListed resolvent.old }
     ensures falsified { OnOk result (AreFalsified (take place entries.now) (held resolvent.new)) }
-    ensures resolved { OnOk result ((first : Literals) → IsResolved clauses.now first pairs.old.items resolvent.old → IsResolved clauses.now first pairs.new.items resolvent.new) }
+    ensures resolved { OnOk result (StaysResolved clauses.now pairs.old.items resolvent.old pairs.new.items
+        resolvent.new) }
     ensures listed { OnOk result (AreListed resolvent.new) }
 {
     laws::chains();
@@ -89,7 +93,8 @@ fn stop(
     requires listed { AreListed resolvent.old }
     ensures covered { OnOk result (IsCovered entries.now (held resolvent.new) place place) }
     ensures backjump { IfOk result (λ back. IfSome back (IsBackjump entries.now (held resolvent.new) place)) }
-    ensures resolved { OnOk result ((first : Literals) → IsResolved clauses.now first pairs.old.items resolvent.old → IsResolved clauses.now first pairs.new.items resolvent.new) }
+    ensures resolved { OnOk result (StaysResolved clauses.now pairs.old.items resolvent.old pairs.new.items
+        resolvent.new) }
     ensures listed { OnOk result (AreListed resolvent.new) }
 {
     if entry_at(entries, place).reason.is_some() && !heuristic.is_asserting() {
@@ -116,7 +121,8 @@ fn step(
     requires listed { AreListed resolvent.old }
     ensures falsified { IfOk result (λ back. IfNone back (AreFalsified (take place entries.now) (held resolvent.new))) }
     ensures backjump { IfOk result (λ back. IfSome back (IsBackjump entries.now (held resolvent.new) place)) }
-    ensures resolved { OnOk result ((first : Literals) → IsResolved clauses.now first pairs.old.items resolvent.old → IsResolved clauses.now first pairs.new.items resolvent.new) }
+    ensures resolved { OnOk result (StaysResolved clauses.now pairs.old.items resolvent.old pairs.new.items
+        resolvent.new) }
     ensures listed { OnOk result (AreListed resolvent.new) }
 {
     if !has_at(resolvent, entries, place) {
@@ -151,8 +157,10 @@ pub(crate) fn analyze(
     requires falsified { AreFalsified entries.now (held resolvent.old) }
     requires listed { AreListed resolvent.old }
     ensures empty { IfOk result (λ backjump. IfNone backjump ((l : Literal) → held resolvent.new l ≡ false)) }
-    ensures backjump { IfOk result (λ backjump. IfSome backjump (λ j. IsBackjump entries.now (held resolvent.new) j.place j.back)) }
-    ensures resolved { OnOk result ((first : Literals) → IsResolved clauses.now first pairs.old.items resolvent.old → IsResolved clauses.now first pairs.new.items resolvent.new) }
+    ensures backjump { IfOk result (λ backjump.
+        IfSome backjump (λ j. IsBackjump entries.now (held resolvent.new) j.place j.back)) }
+    ensures resolved { OnOk result (StaysResolved clauses.now pairs.old.items resolvent.old pairs.new.items
+        resolvent.new) }
     ensures listed { OnOk result (AreListed resolvent.new) }
 {
     let mut place = entries.len();

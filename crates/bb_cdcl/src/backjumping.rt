@@ -15,7 +15,8 @@ use bb_cnf::{Lit, PartialResolvent};
 
 fn nearest(entries: &[Entry], at: usize, back: Option<usize>) -> Option<usize>
     requires { at < length entries.now }
-    ensures { (c : Literals) (place : ℕ) → IsCovered entries.now c place at → IfSome back (IsBackjump entries.now c place) → IfSome result (IsBackjump entries.now c place) }
+    ensures { (c : Literals) (place : ℕ) → IsCovered entries.now c place at
+        → IfSome back (IsBackjump entries.now c place) → IfSome result (IsBackjump entries.now c place) }
 {
     let entry = entry_at(entries, at);
     match entry.reason {
@@ -54,7 +55,8 @@ fn prefix_for(
 ) -> Option<usize>
     requires within { place < length entries.now }
     ensures before { IfSome result (λ prefix. prefix ≤ place) }
-    ensures enough { IfSome result (λ prefix. held resolvent.now lit ≡ true → (same_literal kept lit || falsified (take prefix entries.now) lit) ≡ true) }
+    ensures enough { IfSome result (λ prefix.
+        held resolvent.now lit ≡ true → (same_literal kept lit || falsified (take prefix entries.now) lit) ≡ true) }
 {
     if kept == lit || !resolvent.has(lit) {
         return Some(0);

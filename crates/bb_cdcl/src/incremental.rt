@@ -76,7 +76,8 @@ impl Solver {
     /// The clause is taken in by the next `solve`, not here, so pushing many costs no backtracking between them.
     pub fn push(&mut self, clause: SmallVec<Lit, 4>) -> Result<(), NoMemory>
         requires { All (λ l. (1 ≤ l.var) × (l.var ≤ self.old.vars)) clause.items }
-        ensures ok { OnOk result (self.new ≡ record { vars = self.old.vars; clauses = self.old.clauses ++ clause.items ∷ [] }) }
+        ensures ok { OnOk result (self.new
+            ≡ record { vars = self.old.vars; clauses = self.old.clauses ++ clause.items ∷ [] }) }
         ensures err { OnErr result (self.new ≡ self.old) }
     {
         self.cnf.push(clause)?;

@@ -37,7 +37,8 @@ fn analyzed(
     requires values { AreValues trail.now.entries.items trail.now.values.items }
     requires conflict { IsConflict clauses.now trail.now.values.items number }
     ensures made { IfOk result (λ r. made_by (map literals_of clauses.now) r.1 ≡ Some (held resolvent.new)) }
-    ensures some { IfOk result (λ r. IfSome r.0 (λ j. IsBackjump trail.now.entries.items (held resolvent.new) j.place j.back)) }
+    ensures some { IfOk result (λ r.
+        IfSome r.0 (λ j. IsBackjump trail.now.entries.items (held resolvent.new) j.place j.back)) }
     ensures none { IfOk result (λ r. IfNone r.0 ((l : Literal) → held resolvent.new l ≡ false)) }
     ensures listed { OnOk result (AreListed resolvent.new) }
 {

@@ -7,7 +7,7 @@ ghost use Rattle.std.specs.Prelude.{◌<◌, length, OnOk};
 ghost use Rattle.bb_cnf.specs.Clauses.{Literals};
 ghost use Rattle.bb_cnf.specs.Inside.PartialResolvent.{held, AreListed};
 ghost use Rattle.bb_cdcl.specs.Inside.Trails.{AreNew, HaveReasons};
-ghost use Rattle.bb_cdcl.specs.Inside.Analysis.{IsCovered, IsResolved};
+ghost use Rattle.bb_cdcl.specs.Inside.Analysis.{IsCovered, StaysResolved};
 
 use crate::NoMemory;
 use crate::analysis::entry_at;
@@ -88,7 +88,8 @@ fn resolve_before(
     requires covered { IsCovered entries.now (held resolvent.old) place place }
     requires listed { AreListed resolvent.old }
     ensures covered { OnOk result (IsCovered entries.now (held resolvent.new) place place) }
-    ensures resolved { OnOk result ((first : Literals) → IsResolved clauses.now first pairs.old.items resolvent.old → IsResolved clauses.now first pairs.new.items resolvent.new) }
+    ensures resolved { OnOk result (StaysResolved clauses.now pairs.old.items resolvent.old pairs.new.items
+        resolvent.new) }
     ensures listed { OnOk result (AreListed resolvent.new) }
 {
     laws::chains();
@@ -121,7 +122,8 @@ pub(crate) fn minimize(
     requires covered { IsCovered entries.now (held resolvent.old) place place }
     requires listed { AreListed resolvent.old }
     ensures covered { OnOk result (IsCovered entries.now (held resolvent.new) place place) }
-    ensures resolved { OnOk result ((first : Literals) → IsResolved clauses.now first pairs.old.items resolvent.old → IsResolved clauses.now first pairs.new.items resolvent.new) }
+    ensures resolved { OnOk result (StaysResolved clauses.now pairs.old.items resolvent.old pairs.new.items
+        resolvent.new) }
     ensures listed { OnOk result (AreListed resolvent.new) }
 {
     for at in redundant(alloc, resolvent, clauses, entries, heuristic)? {

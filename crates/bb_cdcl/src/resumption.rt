@@ -59,7 +59,7 @@ pub(crate) fn resume(
     let level = helpers
         .heuristic
         .levels
-        .requested(&given[known..], &s.trail.values);
+        .backjump_level(&given[known..], &s.trail.values);
     take_back(s, helpers, level);
     helpers.take_in(given, known, &s.trail.entries, &s.trail.values)?;
     move_trail(given, known, s);

@@ -28,7 +28,8 @@ fn outcome(
     requires some { satisfied ≡ true → 0 < length s.trail.values.items }
     requires refutes { satisfied ≡ false → Refutes (lists_of given.now) s }
     ensures sat { IfOk result (λ outcome. (vars : ℕ) (old : SolverState) → length old.trail.values.items ≡ vars + 1
-        → HasVariablesWithin vars (lists_of given.now) → Ends (lists_of given.now) old s satisfied → IfSat outcome (formula vars (lists_of given.now))) }
+        → HasVariablesWithin vars (lists_of given.now) → Ends (lists_of given.now) old s satisfied
+        → IfSat outcome (formula vars (lists_of given.now))) }
     ensures unsat { IfOk result (λ outcome. (vars : ℕ) → IfUnsat outcome (formula vars (lists_of given.now))) }
 {
     if satisfied {
@@ -60,9 +61,12 @@ fn decide_within(
     learned: usize,
 ) -> Result<Attempt, NoMemory>
     requires { HasVariablesWithin vars (lists_of given.now) }
-    ensures sat { IfOk result (λ attempt. IfDecided attempt (λ outcome. IfSat outcome (formula vars (lists_of given.now)))) }
-    ensures unsat { IfOk result (λ attempt. IfDecided attempt (λ outcome. IfUnsat outcome (formula vars (lists_of given.now)))) }
-    ensures spent { IfOk result (λ attempt. IfSpent attempt (λ steps. (learned ≤ length steps) × Derive (lists_of given.now) steps)) }
+    ensures sat { IfOk result (λ attempt.
+        IfDecided attempt (λ outcome. IfSat outcome (formula vars (lists_of given.now)))) }
+    ensures unsat { IfOk result (λ attempt.
+        IfDecided attempt (λ outcome. IfUnsat outcome (formula vars (lists_of given.now)))) }
+    ensures spent { IfOk result (λ attempt.
+        IfSpent attempt (λ steps. (learned ≤ length steps) × Derive (lists_of given.now) steps)) }
 {
     let mut s = start(alloc, vars)?;
     let mut helpers = Helpers::new(alloc, vars, given.len())?;
@@ -97,7 +101,8 @@ pub fn solve_within(alloc: Global, cnf: &Cnf, conflicts: u32) -> Result<Attempt,
     ensures sat { IfOk result (λ attempt. IfDecided attempt (λ outcome. IfSat outcome cnf.now)) }
     ensures unsat { IfOk result (λ attempt. IfDecided attempt (λ outcome. IfUnsat outcome cnf.now)) }
     ensures exact { IfOk result (λ attempt. IfDecided attempt (λ outcome. IsSat outcome ↔ HasModel cnf.now)) }
-    ensures spent { IfOk result (λ attempt. IfSpent attempt (λ steps. (conflicts ≤ length steps) × Derive cnf.now.clauses steps)) }
+    ensures spent { IfOk result (λ attempt.
+        IfSpent attempt (λ steps. (conflicts ≤ length steps) × Derive cnf.now.clauses steps)) }
 {
     laws::refutations();
     let attempt = decide_within(alloc, cnf.vars, &cnf.clauses, conflicts as usize)?;

@@ -1,7 +1,8 @@
 //! The first state, and the model of the last. The model needs no search of its own: the loop ends when every clause is
 //! true under the values so far, so unassigned variables may have any bit.
 
-ghost use Rattle.std.specs.Prelude.{ℕ, ◌≡◌, ◌+◌, ◌-◌, ◌<◌, ◌≤◌, Bool, true, false, not, Some, None, length, map, replicate, get_or, All, IfOk, List};
+ghost use Rattle.std.specs.Prelude.{ℕ, ◌≡◌, ◌+◌, ◌-◌, ◌<◌, ◌≤◌, Bool, true, false, not, Some, None, length, map};
+ghost use Rattle.std.specs.Prelude.{replicate, get_or, All, IfOk, List};
 ghost use Rattle.bb_cnf.specs.Clauses.{HasVariablesWithin};
 ghost use Rattle.bb_cnf.specs.declared.clauses.Lit.{Lit as Literal};
 ghost use Rattle.bb_cnf.specs.Truth.{assignment_of, Satisfies};
@@ -36,7 +37,9 @@ pub(crate) fn start(alloc: Global, vars: u32) -> Result<State, NoMemory>
 pub(crate) fn model(alloc: Global, values: &[Option<bool>]) -> Result<Vec<bool>, NoMemory>
     requires { 0 < length values.now }
     ensures length { IfOk result (λ bits. length bits.items + 1 ≡ length values.now) }
-    ensures satisfies { IfOk result (λ bits. (clauses : List (List Literal)) → HasVariablesWithin (length values.now - 1) clauses → All (IsSatisfied values.now) clauses → Satisfies (assignment_of bits.items) clauses) }
+    ensures satisfies { IfOk result (λ bits. (clauses : List (List Literal))
+        → HasVariablesWithin (length values.now - 1) clauses → All (IsSatisfied values.now) clauses
+        → Satisfies (assignment_of bits.items) clauses) }
 {
     let values = &values[1..];
     let mut bits = Vec::with_capacity(alloc, values.len())?;

@@ -2,7 +2,8 @@
 //! with the partial resolvent that the checker of `bb_cnf` uses, so a learned clause is by construction what the
 //! checker makes of its chain, and no lemma relates two ways to resolve.
 
-ghost use Rattle.std.specs.Prelude.{◌≡◌, ◌-◌, ◌<◌, ◌++◌, ◌∷◌, [], false, Some, None, length, take, slice_get, IfOk, OnOk};
+ghost use Rattle.std.specs.Prelude.{◌≡◌, ◌-◌, ◌<◌, ◌++◌, ◌∷◌, [], false, Some, None, length, take, slice_get, IfOk};
+ghost use Rattle.std.specs.Prelude.{OnOk};
 ghost use Rattle.bb_cnf.specs.declared.clauses.Lit.{Lit as Literal};
 ghost use Rattle.bb_cnf.specs.Clauses.{Literals, literals_of};
 ghost use Rattle.bb_cnf.specs.Inside.PartialResolvent.{held, AreListed};
@@ -43,7 +44,8 @@ pub(crate) fn extend(s: &mut State, lit: Lit, reason: Option<usize>) -> Result<(
     requires in_range { lit.var < length s.old.trail.values.items }
     requires free { value_at s.old.trail.values.items lit.var ≡ None }
     ensures ready { OnOk result (IsReady s.new) }
-    ensures entries { OnOk result (s.new.trail.entries.items ≡ s.old.trail.entries.items ++ record { lit = lit; reason = reason } ∷ []) }
+    ensures entries { OnOk result (s.new.trail.entries.items
+        ≡ s.old.trail.entries.items ++ record { lit = lit; reason = reason } ∷ []) }
     ensures within { length s.old.trail.entries.items < length s.old.trail.values.items }
     ensures same { OnOk result (length s.new.trail.values.items ≡ length s.old.trail.values.items) }
     ensures learned { s.new.learned.items ≡ s.old.learned.items }
@@ -93,7 +95,9 @@ pub(crate) fn go_back(
     requires backjump { (c : Literals) × IsBackjump s.old.trail.entries.items c backjump.place backjump.back }
     ensures advances { OnOk result (Advances s.old s.new) }
     ensures entries { OnOk result ((e : TrailEntry) → slice_get s.old.trail.entries.items backjump.place ≡ Some e
-        → s.new.trail.entries.items ≡ take backjump.back s.old.trail.entries.items ++ record { lit = opposite e.lit; reason = Some reason } ∷ []) }
+        → s.new.trail.entries.items
+        ≡ take backjump.back s.old.trail.entries.items ++ record { lit = opposite e.lit; reason = Some reason }
+        ∷ []) }
     ensures learned { s.new.learned.items ≡ s.old.learned.items }
     ensures steps { s.new.steps.items ≡ s.old.steps.items }
 {

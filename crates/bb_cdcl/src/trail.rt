@@ -1,7 +1,8 @@
 //! The trail and the assignment. The list of values is redundant, but a look-up in the trail would take its length.
 //! Reasons are clause numbers, moved in one walk when given clauses come.
 
-ghost use Rattle.std.specs.Prelude.{ℕ, ◌≡◌, ◌+◌, ◌-◌, ◌^◌, ◌<◌, ◌≤◌, ◌++◌, ◌∷◌, [], length, take, map, not, None, Some, All, IfSome, OnOk, List};
+ghost use Rattle.std.specs.Prelude.{ℕ, ◌≡◌, ◌+◌, ◌-◌, ◌^◌, ◌<◌, ◌≤◌, ◌++◌, ◌∷◌, [], length, take, map, not, None, Some};
+ghost use Rattle.std.specs.Prelude.{All, IfSome, OnOk, List};
 ghost use Rattle.bb_cdcl.specs.declared.trail.Entry.{Entry as TrailEntry};
 ghost use Rattle.bb_cdcl.specs.Laws.Numbers.{moved_number};
 ghost use Rattle.bb_cdcl.specs.Inside.Trails.{value_at, AreNew, AreValues, HasRoom, opposite, moved_entry};
@@ -39,7 +40,8 @@ pub(crate) fn assign(trail: &mut Trail, lit: Lit, reason: Option<usize>) -> Resu
     requires free { value_at trail.old.values.items lit.var ≡ None }
     requires values { AreValues trail.old.entries.items trail.old.values.items }
     requires room { HasRoom trail.old.entries.items trail.old.values.items }
-    ensures entries { OnOk result (trail.new.entries.items ≡ trail.old.entries.items ++ record { lit = lit; reason = reason } ∷ []) }
+    ensures entries { OnOk result (trail.new.entries.items
+        ≡ trail.old.entries.items ++ record { lit = lit; reason = reason } ∷ []) }
     ensures values { OnOk result (AreValues trail.new.entries.items trail.new.values.items) }
     ensures room { OnOk result (HasRoom trail.new.entries.items trail.new.values.items) }
     ensures within { length trail.old.entries.items < length trail.old.values.items }
@@ -112,7 +114,8 @@ fn moved_reason(entry: Entry, given: usize, more: usize) -> Entry
 }
 
 pub(crate) fn move_reasons(trail: &mut Trail, given: usize, more: usize)
-    requires { All (λ (e : TrailEntry). IfSome e.reason (λ number. moved_number given more number < 2 ^ 64)) trail.old.entries.items }
+    requires { All (λ (e : TrailEntry). IfSome e.reason (λ number. moved_number given more number < 2 ^ 64))
+        trail.old.entries.items }
     ensures entries { trail.new.entries.items ≡ map (moved_entry given more) trail.old.entries.items }
     ensures values { trail.new.values ≡ trail.old.values }
 {

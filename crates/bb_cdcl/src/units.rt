@@ -2,13 +2,14 @@
 //! A learned clause is then resolved with them. Whether every such literal goes is not proved and no answer depends on
 //! it: the note of which clause is the unit clause is a hint, tested by its length.
 
-ghost use Rattle.std.specs.Prelude.{◌≡◌, ◌<◌, ◌∷◌, [], ℕ, false, length, map, slice_get, Some, IfOk, IfSome, OnOk, List};
+ghost use Rattle.std.specs.Prelude.{◌≡◌, ◌<◌, ◌∷◌, [], ℕ, false, length, map, slice_get, Some, IfOk, IfSome, OnOk};
+ghost use Rattle.std.specs.Prelude.{List};
 ghost use Rattle.bb_cnf.specs.declared.clauses.Lit.{Lit as Literal};
-ghost use Rattle.bb_cnf.specs.Clauses.{Literals, literals_of, lists_of};
+ghost use Rattle.bb_cnf.specs.Clauses.{literals_of, lists_of};
 ghost use Rattle.bb_cnf.specs.Chains.{made_by};
 ghost use Rattle.bb_cnf.specs.Inside.PartialResolvent.{held, AreListed};
 ghost use Rattle.bb_cdcl.specs.declared.trail.Entry.{Entry as TrailEntry};
-ghost use Rattle.bb_cdcl.specs.Inside.Analysis.{IsCovered, IsResolved};
+ghost use Rattle.bb_cdcl.specs.Inside.Analysis.{IsCovered, StaysResolved};
 ghost use Rattle.bb_cdcl.specs.Inside.States.{IsDerived, Grows, Leads};
 
 use crate::NoMemory;
@@ -41,9 +42,11 @@ fn resolve_unit(
     pairs: &mut Vec<(u64, u32)>,
 ) -> Result<(), NoMemory>
     requires listed { AreListed resolvent.old }
-    ensures covered { OnOk result ((entries : List TrailEntry) (place back : ℕ) (e : TrailEntry) → slice_get entries place ≡ Some e → e.lit.var ≡ kept
-        → IsCovered entries (held resolvent.old) place back → IsCovered entries (held resolvent.new) place back) }
-    ensures resolved { OnOk result ((first : Literals) → IsResolved clauses.now first pairs.old.items resolvent.old → IsResolved clauses.now first pairs.new.items resolvent.new) }
+    ensures covered { OnOk result ((entries : List TrailEntry) (place back : ℕ) (e : TrailEntry)
+        → slice_get entries place ≡ Some e → e.lit.var ≡ kept → IsCovered entries (held resolvent.old) place back
+        → IsCovered entries (held resolvent.new) place back) }
+    ensures resolved { OnOk result (StaysResolved clauses.now pairs.old.items resolvent.old pairs.new.items
+        resolvent.new) }
     ensures listed { OnOk result (AreListed resolvent.new) }
 {
     laws::chains();
@@ -74,9 +77,11 @@ fn resolve_units(
     heuristic: &Heuristic,
 ) -> Result<(), NoMemory>
     requires listed { AreListed resolvent.old }
-    ensures covered { OnOk result ((entries : List TrailEntry) (place back : ℕ) (e : TrailEntry) → slice_get entries place ≡ Some e → e.lit.var ≡ kept
-        → IsCovered entries (held resolvent.old) place back → IsCovered entries (held resolvent.new) place back) }
-    ensures resolved { OnOk result ((first : Literals) → IsResolved clauses.now first pairs.old.items resolvent.old → IsResolved clauses.now first pairs.new.items resolvent.new) }
+    ensures covered { OnOk result ((entries : List TrailEntry) (place back : ℕ) (e : TrailEntry)
+        → slice_get entries place ≡ Some e → e.lit.var ≡ kept → IsCovered entries (held resolvent.old) place back
+        → IsCovered entries (held resolvent.new) place back) }
+    ensures resolved { OnOk result (StaysResolved clauses.now pairs.old.items resolvent.old pairs.new.items
+        resolvent.new) }
     ensures listed { OnOk result (AreListed resolvent.new) }
 {
     for lit in lits {

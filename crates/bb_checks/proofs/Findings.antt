@@ -11,7 +11,7 @@ use Rattle.bb_expand.specs.declared.expanded.ExpandFault.{ExpandFault}
 use Rattle.bb_expand.specs.declared.expanded.ExpandFault.TheVariants as expand
 use Rattle.bb_expand.specs.Expanded.{IsExpanded}
 use Rattle.bb_net.specs.Completions.{HaveSmallTables, table_bits}
-use Rattle.bb_net.specs.Kinds.{shown}
+use Rattle.bb_net.specs.Kinds.{representatives}
 use Rattle.bb_net.specs.Pairs.{NetPair}
 use Rattle.bb_sym.specs.declared.fault.RungFault.{RungFault}
 use Rattle.bb_sym.specs.declared.fault.RungFault.TheVariants as faults
@@ -35,10 +35,10 @@ finds o functions Finds none (Ok a) (Err x) found missing nodes within e = tt
 finds o functions Finds none (Err f) (Err x) found missing nodes within e = tt
 
 -- what the expansion answers, where its tables are not too wide
-pub decides : (p : NetPair) (o : Options) (answer : Expanded) → IsExpanded p.spec p.imp p.kinds o.clauses answer → (2 ^ 24 < table_bits (shown p.kinds p.imp.boxes) → IsErrOf (Ok answer) expand.Wide)
+pub decides : (p : NetPair) (o : Options) (answer : Expanded) → IsExpanded p.spec p.imp p.kinds o.clauses answer → (2 ^ 24 < table_bits (representatives p.kinds p.imp.boxes) → IsErrOf (Ok answer) expand.Wide)
     → MayExpand p o (reported_expanded answer)
 decides p o answer is narrow =
-    let small : HaveSmallTables (shown p.kinds p.imp.boxes) = not_below (2 ^ 24) (table_bits (shown p.kinds p.imp.boxes)) (λ wide. not_err answer expand.Wide (narrow wide)) in
+    let small : HaveSmallTables (representatives p.kinds p.imp.boxes) = not_below (2 ^ 24) (table_bits (representatives p.kinds p.imp.boxes)) (λ wide. not_err answer expand.Wide (narrow wide)) in
     Decided small answer is refl
   where
     not_err : (answer : Expanded) (fault : ExpandFault) → IsErrOf (Ok answer) fault → ⊥

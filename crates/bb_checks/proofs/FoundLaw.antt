@@ -3,7 +3,7 @@ use Rattle.std.proofs.Common.{◌≡◌, ℕ, Bool, List, Contains, None, Some, 
 use Rattle.std.proofs.lemmas.List.Elements.{All-contains}
 use Rattle.std.specs.Prelude.{slice_index}
 use Rattle.bb_net.specs.Equivalence.{IsVector, IsOutput}
-use Rattle.bb_net.specs.Conditions.{IsKnownWrong, IsAlwaysWrong, HasAlwaysWrong}
+use Rattle.bb_net.specs.Conditions.{IsKnownWrong, IsAlwaysWrong, AlwaysSomeWrongAt}
 use Rattle.bb_net.specs.Netlists.{Netlist}
 use Rattle.bb_net.specs.Pairs.{NetPair}
 use Rattle.bb_net.specs.Ternary.{tern, tern_of}
@@ -32,7 +32,7 @@ module _ (known : KnownIsValue) (vectors : PatternsAreVectors) (p : NetPair) (o 
   at_output : (found : Found) (j : ℕ) → found.output ≡ Some j → IsVector p.imp found.input.items → IsOutput p.imp j → IsAlwaysWrong p.spec p.imp found.input.items j → IsMistake p found
   at_output found j is vector there wrong = record { vector = vector; wrong = subst (IsWrongAt p found.input.items) (sym is) (there, wrong) }
 
-  somewhere : (found : Found) → found.output ≡ None → IsVector p.imp found.input.items → HasAlwaysWrong p.spec p.imp found.input.items → IsMistake p found
+  somewhere : (found : Found) → found.output ≡ None → IsVector p.imp found.input.items → AlwaysSomeWrongAt p.spec p.imp found.input.items → IsMistake p found
   somewhere found is vector wrong = record { vector = vector; wrong = subst (IsWrongAt p found.input.items) (sym is) wrong }
 
   said_mistake : (r : Rung) (check_result : CheckResult) → MayReport p o r check_result → CheckResultIsMistake p check_result

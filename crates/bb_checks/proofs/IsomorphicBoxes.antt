@@ -11,7 +11,7 @@ use Rattle.bb_net.specs.Netlists.{Pins, box_at}
 use Rattle.bb_net.specs.Pairs.{pin_count}
 use Rattle.bb_net.specs.Values.{output_pins}
 use Rattle.bb_sym.specs.Plain.{block_functions}
-use Rattle.bb_input.specs.InputFunctions.{pin_bits, in_places, box_quantified, boxes_quantified, box_functions, boxes_functions}
+use Rattle.bb_input.specs.InputFunctions.{point_pins, in_places, box_quantified, boxes_quantified, box_functions, boxes_functions}
 use Rattle.bb_iso.specs.Laws.Formulas.{formula_at, pin_formulas}
 
 abbrev pub AreAsMany : List Pins → List Pins → Type 0
@@ -76,13 +76,13 @@ in_places_isomorphic (p ∷ ps) (q ∷ qs) h =
 own_bits : ℕ → ℕ → List Bool → PinBits
 own_bits ins outs point = record { ins = take ins point; outs = take outs (drop ins point) }
 
-pub pin_bits_isomorphic : (ps qs : List Pins) → AreAsMany ps qs → (point : List Bool) → pin_bits ps point ≡ pin_bits qs point
+pub pin_bits_isomorphic : (ps qs : List Pins) → AreAsMany ps qs → (point : List Bool) → point_pins ps point ≡ point_pins qs point
 unfolding own_bits
 pin_bits_isomorphic [] [] h point = refl
 pin_bits_isomorphic [] (q ∷ qs) h point = absurd h
 pin_bits_isomorphic (p ∷ ps) [] h point = absurd h
 pin_bits_isomorphic (p ∷ ps) (q ∷ qs) h point =
-    ap₂ (λ (i o : ℕ). own_bits i o point ∷ pin_bits ps (drop (i + o) point)) h.0 h.1
+    ap₂ (λ (i o : ℕ). own_bits i o point ∷ point_pins ps (drop (i + o) point)) h.0 h.1
     ∙ ap (λ (rest : List PinBits). own_bits (length q.ins) (length q.outs) point ∷ rest) (pin_bits_isomorphic ps qs h.2 (drop (length q.ins + length q.outs) point))
 
 -- the variables of one box quantified, and the functions on the way, by its numbers of pins

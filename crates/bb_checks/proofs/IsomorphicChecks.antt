@@ -8,7 +8,7 @@ use Rattle.bb_options.specs.declared.options.Options.{Options}
 use Rattle.bb_options.specs.declared.rung.Rung.{Rung}
 use Rattle.bb_options.specs.declared.rung.Rung.TheVariants.{Ternary, Symbolic, Local, Output, Input, Expand}
 use Rattle.bb_checks.specs.Laws.IsomorphicPairs.{IsomorphicPairsAreLeftOpen, IsomorphicPairsStayOpen, IsomorphicPairsDependTheSame, IsomorphicPairsAreDecided}
-use Rattle.bb_checks.specs.LeftOpen.{LeavesOpen, StaysOpen, Decides}
+use Rattle.bb_checks.specs.LeftOpen.{MayLeaveOpen, MustLeaveOpen, Decides}
 use Rattle.bb_checks.specs.Laws.Searches.{MayDependOnSearch}
 use Rattle.bb_checks.proofs.IsomorphicConditions.{right_among_isomorphic, right_everywhere_isomorphic, each_right_isomorphic, all_right_isomorphic, choices_isomorphic}
 use Rattle.bb_checks.specs.Inside.IsomorphismLaws.{PairLaws}
@@ -16,7 +16,7 @@ use Rattle.bb_checks.proofs.IsomorphicShared.{Share, bits_isomorphic, small_isom
 use Rattle.bb_checks.proofs.IsomorphicTables.{too_many_among}
 
 module _ (p q : NetPair) (to : Share p q) (from : Share q p) (o : Options) where
-  open_isomorphic : (r : Rung) → LeavesOpen p o r → LeavesOpen q o r
+  open_isomorphic : (r : Rung) → MayLeaveOpen p o r → MayLeaveOpen q o r
   open_isomorphic Ternary right =
       subst (λ n. MayBeRightAmong q.spec q.imp (patterns n o.patterns o.seed)) to.nets.imp.inputs
       (right_among_isomorphic p.spec p.imp q.spec q.imp to.nets to.known (patterns p.imp.inputs o.patterns o.seed) right)
@@ -31,7 +31,7 @@ module _ (p q : NetPair) (to : Share p q) (from : Share q p) (o : Options) where
   open_isomorphic Expand (inl wide) = inl (subst (λ n. 2 ^ 24 < n) (bits_isomorphic p q to) wide)
   open_isomorphic Expand (inr needs) = inr (to.needs o.clauses needs)
 
-  stays_isomorphic : (r : Rung) → StaysOpen p o r → StaysOpen q o r
+  stays_isomorphic : (r : Rung) → MustLeaveOpen p o r → MustLeaveOpen q o r
   stays_isomorphic Ternary stays = open_isomorphic Ternary stays
   stays_isomorphic Symbolic stays = open_isomorphic Symbolic stays
   stays_isomorphic Local stays = open_isomorphic Local stays

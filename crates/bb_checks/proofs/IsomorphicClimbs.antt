@@ -6,7 +6,7 @@ use Rattle.std.specs.List.{AllZip, list_any}
 use Rattle.std.proofs.lemmas.List.Elements.{All-head}
 use Rattle.bb_lemmas.proofs.Apart.{pairs_tail}
 use Rattle.bb_lemmas.proofs.Members.{contains_here, contains_there}
-use Rattle.bb_net.specs.Kinds.{shown}
+use Rattle.bb_net.specs.Kinds.{representatives}
 use Rattle.bb_net.specs.Pairs.{NetPair, IsPair}
 use Rattle.bb_iso.specs.Laws.Isomorphism.{AreIsomorphicPairs}
 use Rattle.bb_expand.specs.declared.expanded.Expanded.TheVariants as expanded
@@ -76,7 +76,7 @@ module _ (laws : OneLaws) (p q : NetPair) (to : Share p q) (from : Share q p) (a
   same_details (Error NoChoices) = refl
   same_details (Error (Refutation proof)) = refl
   same_details Nothing = refl
-  same_details (Repair tables) = ap₂ (λ ks boxes. table_lines o.shared (shown ks boxes) tables.items) alike.kinds alike.boxes
+  same_details (Repair tables) = ap₂ (λ ks boxes. table_lines o.shared (representatives ks boxes) tables.items) alike.kinds alike.boxes
   same_details Nodes = refl
   same_details Clauses = refl
   same_details Wide = refl

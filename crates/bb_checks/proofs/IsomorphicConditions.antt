@@ -2,7 +2,7 @@
 use Rattle.std.proofs.Common.{◌≡◌, ℕ, ◌<◌, Bool, List, [], ◌∷◌, ◌++◌, length, sym, subst, ◌∙◌, arith}
 use Rattle.std.specs.Prelude.{IfSome, slice_index}
 use Rattle.bb_net.specs.Equivalence.{wanted_bit, IsVector, IsOutput}
-use Rattle.bb_net.specs.Conditions.{MayBeRight, MayBeRightAmong, MayBeRightEverywhere, EachSometimesRight, AllSometimesRight, PinBits, all_outs, Suit, Wins, SomeChoicesSuit}
+use Rattle.bb_net.specs.Conditions.{MayBeRight, MayBeRightAmong, MayBeRightEverywhere, EachSometimesRight, AllRightTogether, PinBits, all_outs, ChoicesSuit, InputsHaveOutputs, SomeChoicesSuit}
 use Rattle.bb_net.specs.Netlists.{Netlist, Pins}
 use Rattle.bb_net.specs.Ternary.{tern, tern_of}
 use Rattle.bb_checks.proofs.IsomorphicBoxes.{AreAsMany, output_pins_isomorphic}
@@ -12,7 +12,7 @@ use Rattle.bb_checks.proofs.IsomorphicFunctions.{ShareAll}
 abbrev pub AreKnownIsomorphic : Netlist → Netlist → Type 0
 AreKnownIsomorphic a b = (x : List Bool) (j : ℕ) → j < length a.outs → tern_of (tern a x) (slice_index a.outs j) ≡ tern_of (tern b x) (slice_index b.outs j)
 
-pub wins_isomorphic : (P Q : List PinBits → Type 0) → ((chosen : List PinBits) → P chosen → Q chosen) → (ps qs : List Pins) → AreAsMany ps qs → (chosen : List PinBits) → Wins P ps chosen → Wins Q qs chosen
+pub wins_isomorphic : (P Q : List PinBits → Type 0) → ((chosen : List PinBits) → P chosen → Q chosen) → (ps qs : List Pins) → AreAsMany ps qs → (chosen : List PinBits) → InputsHaveOutputs P ps chosen → InputsHaveOutputs Q qs chosen
 wins_isomorphic P Q to [] [] h chosen w = to chosen w
 wins_isomorphic P Q to [] (q ∷ qs) h chosen w = absurd h
 wins_isomorphic P Q to (p ∷ ps) [] h chosen w = absurd h
@@ -48,7 +48,7 @@ module _ (spec imp other_spec other_imp : Netlist) (share : ShareAll spec imp ot
       let z = found.0 in
       (z, found.1 ∙ output_pins_isomorphic imp.boxes other_imp.boxes share.imp.boxes, sym (share.imp.out_bits x z j (there j l)) ∙ found.2 ∙ wanted_isomorphic x j (there j l))
 
-  pub all_right_isomorphic : AllSometimesRight spec imp → AllSometimesRight other_spec other_imp
+  pub all_right_isomorphic : AllRightTogether spec imp → AllRightTogether other_spec other_imp
   all_right_isomorphic right x long =
       let found = right x (vector x long) in
       let z = found.0 in (
@@ -57,10 +57,10 @@ module _ (spec imp other_spec other_imp : Netlist) (share : ShareAll spec imp ot
         λ j l. sym (share.imp.out_bits x z j (there j l)) ∙ found.2 j (there j l) ∙ wanted_isomorphic x j (there j l),
       )
 
-  pub suit_isomorphic : (chosen : List PinBits) → Suit spec imp chosen → Suit other_spec other_imp chosen
+  pub suit_isomorphic : (chosen : List PinBits) → ChoicesSuit spec imp chosen → ChoicesSuit other_spec other_imp chosen
   suit_isomorphic chosen suit x long leads j l =
       let z = all_outs chosen in
       sym (share.imp.out_bits x z j (there j l)) ∙ suit x (vector x long) (share.imp.box_bits x z ∙ leads) j (there j l) ∙ wanted_isomorphic x j (there j l)
 
   pub choices_isomorphic : SomeChoicesSuit spec imp → SomeChoicesSuit other_spec other_imp
-  choices_isomorphic suits = wins_isomorphic (Suit spec imp) (Suit other_spec other_imp) suit_isomorphic imp.boxes other_imp.boxes share.imp.boxes [] suits
+  choices_isomorphic suits = wins_isomorphic (ChoicesSuit spec imp) (ChoicesSuit other_spec other_imp) suit_isomorphic imp.boxes other_imp.boxes share.imp.boxes [] suits

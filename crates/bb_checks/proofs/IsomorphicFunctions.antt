@@ -8,7 +8,7 @@ use Rattle.bb_bits.specs.Truth.{Truth}
 use Rattle.bb_net.specs.Netlists.{Netlist}
 use Rattle.bb_net.specs.Values.{bit_of, flat, output_pins}
 use Rattle.bb_sym.specs.Functions.{inputs_and_pins, inputs_first, is_wrong, plain_functions, for_all_pins, wrong_for_all_pins, local_functions, some_wrong, first_some_wrong, output_functions}
-use Rattle.bb_sym.specs.Plain.{Function, Reading, table, tables, variables, places, outputs, one_of, first_of, without_pins, cell_bit, is_wrong_at, plain_functions_at, block_functions}
+use Rattle.bb_sym.specs.Plain.{Function, Reading, table, tables, variables, cell_numbers, output_numbers, one_of, first_of, without_pins, cell_bit, is_wrong_at, plain_functions_at, block_functions}
 use Rattle.bb_checks.specs.Inside.IsomorphismLaws.{FunctionsFixTables}
 use Rattle.bb_checks.proofs.IsomorphicBits.{ShareBits}
 use Rattle.bb_checks.proofs.IsomorphicBoxes.{output_pins_isomorphic}
@@ -46,24 +46,24 @@ module _ (r s : Reading) (read : AreReadIsomorphic r s) where
     plain_among fix n m e =
         subst (λ k. AreAmong (plain_functions_at n r spec imp) (plain_functions_at k s other_spec other_imp)) e
         (among_append (variables n) (variables n)
-        (tables n (map (cell_bit (without_pins r) spec) (places spec) ++ map (cell_bit r imp) (places imp)))
-        (tables n (map (cell_bit (without_pins s) other_spec) (places other_spec) ++ map (cell_bit s other_imp) (places other_imp)))
+        (tables n (map (cell_bit (without_pins r) spec) (cell_numbers spec) ++ map (cell_bit r imp) (cell_numbers imp)))
+        (tables n (map (cell_bit (without_pins s) other_spec) (cell_numbers other_spec) ++ map (cell_bit s other_imp) (cell_numbers other_imp)))
         (λ t has. has)
         (among_two_tables n
-        (map (cell_bit (without_pins r) spec) (places spec)) (map (cell_bit (without_pins s) other_spec) (places other_spec))
-        (map (cell_bit r imp) (places imp)) (map (cell_bit s other_imp) (places other_imp))
+        (map (cell_bit (without_pins r) spec) (cell_numbers spec)) (map (cell_bit (without_pins s) other_spec) (cell_numbers other_spec))
+        (map (cell_bit r imp) (cell_numbers imp)) (map (cell_bit s other_imp) (cell_numbers other_imp))
         (among_tables fix n (cell_bit (without_pins r) spec) (cell_bit (without_pins s) other_spec) (length spec.cells) (length other_spec.cells)
         (λ k l. let found = share.spec.cells k l in (found.0, found.1, plain_bit_isomorphic spec other_spec k found.0 found.2)))
         (among_tables fix n (cell_bit r imp) (cell_bit s other_imp) (length imp.cells) (length other_imp.cells)
         (λ k l. let found = share.imp.cells k l in (found.0, found.1, cell_bit_isomorphic imp other_imp k found.0 found.2)))))
 
     -- each output's function, and their folds
-    pub wrong_tables_among : FunctionsFixTables → (n : ℕ) → AreAmong (tables n (map (is_wrong_at r spec imp) (outputs imp))) (tables n (map (is_wrong_at s other_spec other_imp) (outputs other_imp)))
+    pub wrong_tables_among : FunctionsFixTables → (n : ℕ) → AreAmong (tables n (map (is_wrong_at r spec imp) (output_numbers imp))) (tables n (map (is_wrong_at s other_spec other_imp) (output_numbers other_imp)))
     wrong_tables_among fix n = among_tables fix n (is_wrong_at r spec imp) (is_wrong_at s other_spec other_imp) (length imp.outs) (length other_imp.outs)
         (λ j l. (j, omega (arith, l, share.imp.outputs), wrong_isomorphic j l))
 
     pub first_tables_among : FunctionsFixTables → (n : ℕ)
-        → AreAmong (tables n (map (first_of (is_wrong_at r spec imp)) (outputs imp))) (tables n (map (first_of (is_wrong_at s other_spec other_imp)) (outputs other_imp)))
+        → AreAmong (tables n (map (first_of (is_wrong_at r spec imp)) (output_numbers imp))) (tables n (map (first_of (is_wrong_at s other_spec other_imp)) (output_numbers other_imp)))
     first_tables_among fix n = among_tables fix n (first_of (is_wrong_at r spec imp)) (first_of (is_wrong_at s other_spec other_imp)) (length imp.outs) (length other_imp.outs)
         (λ j l. (j, omega (arith, l, share.imp.outputs), λ x. one_of_same (is_wrong_at r spec imp) (is_wrong_at s other_spec other_imp) (j + 1) x (λ i h. wrong_isomorphic i (omega (arith, h, l)) x)))
 
@@ -97,7 +97,7 @@ module _ (fix : FunctionsFixTables) (spec imp other_spec other_imp : Netlist) (s
   pub local_among : AreAmong (local_functions spec imp) (local_functions other_spec other_imp)
   local_among =
       among_append (plain_functions spec imp) (plain_functions other_spec other_imp)
-      (flat_map (wrong_for_all_pins spec imp) (outputs imp)) (flat_map (wrong_for_all_pins other_spec other_imp) (outputs other_imp))
+      (flat_map (wrong_for_all_pins spec imp) (output_numbers imp)) (flat_map (wrong_for_all_pins other_spec other_imp) (output_numbers other_imp))
       plain_isomorphic
       (among_each (wrong_for_all_pins spec imp) (wrong_for_all_pins other_spec other_imp) (length imp.outs) (length other_imp.outs)
       (λ j l. (j, omega (arith, l, share.imp.outputs), ap₂ (λ (t : Truth) (ts : List Truth). t ∷ ts) (wrong_table_isomorphic j l) (pins_quantified_isomorphic _ _ (wrong_table_isomorphic j l)))))
@@ -114,9 +114,9 @@ module _ (fix : FunctionsFixTables) (spec imp other_spec other_imp : Netlist) (s
       let first = first_tables_among (inputs_first imp) (inputs_first other_imp) first_isomorphic spec imp other_spec other_imp share fix n in
       let some = some_wrong_isomorphic (inputs_first imp) (inputs_first other_imp) first_isomorphic spec imp other_spec other_imp share in
       among_append (plain_functions spec imp) (plain_functions other_spec other_imp) _ _ plain_isomorphic
-      (among_append (tables n (map (is_wrong spec imp) (outputs imp))) (tables m (map (is_wrong other_spec other_imp) (outputs other_imp))) _ _
-      (subst (AreAmong _) (same_count (map (is_wrong other_spec other_imp) (outputs other_imp))) wrong)
-      (among_append (tables n (map (first_some_wrong spec imp) (outputs imp))) (tables m (map (first_some_wrong other_spec other_imp) (outputs other_imp))) _ _
-      (subst (AreAmong _) (same_count (map (first_some_wrong other_spec other_imp) (outputs other_imp))) first)
+      (among_append (tables n (map (is_wrong spec imp) (output_numbers imp))) (tables m (map (is_wrong other_spec other_imp) (output_numbers other_imp))) _ _
+      (subst (AreAmong _) (same_count (map (is_wrong other_spec other_imp) (output_numbers other_imp))) wrong)
+      (among_append (tables n (map (first_some_wrong spec imp) (output_numbers imp))) (tables m (map (first_some_wrong other_spec other_imp) (output_numbers other_imp))) _ _
+      (subst (AreAmong _) (same_count (map (first_some_wrong other_spec other_imp) (output_numbers other_imp))) first)
       (among_same (for_all_pins imp (table n (some_wrong spec imp (length imp.outs)))) (for_all_pins other_imp (table m (some_wrong other_spec other_imp (length other_imp.outs))))
       (pins_quantified_isomorphic _ _ (table_isomorphic (some_wrong spec imp (length imp.outs)) (some_wrong other_spec other_imp (length other_imp.outs)) some)))))

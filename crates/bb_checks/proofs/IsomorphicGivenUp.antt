@@ -14,7 +14,7 @@ use Rattle.bb_iso.specs.Laws.Isomorphism.{AreIsomorphic}
 use Rattle.bb_net.specs.Equivalence.{IsVector, out_bit}
 use Rattle.bb_net.specs.Completions.{table_bits}
 use Rattle.bb_net.specs.Conditions.{all_ins}
-use Rattle.bb_net.specs.Kinds.{shown, spread}
+use Rattle.bb_net.specs.Kinds.{representatives, per_box}
 use Rattle.bb_net.specs.Netlists.{Netlist, Pins, IsNetlist}
 use Rattle.bb_net.specs.Pairs.{NetPair, IsPair}
 use Rattle.bb_net.specs.Values.{FitBoxes, ValueGoesByBoxes, bit_of, flat, free_bit, tabled_bit, value_of}
@@ -60,7 +60,7 @@ module _ (by_boxes : ValueGoesByBoxes) (a b : Netlist) (one : IsNetlist a) (othe
 
 -- pairs that are alike
 module _ (laws : GivenLaws) (shared_laws : KindLaws) (fix : FunctionsFixTables) (p q : NetPair) (share : ShareAll p.spec p.imp q.spec q.imp)
-    (firsts : AreAsMany (shown p.kinds p.imp.boxes) (shown q.kinds q.imp.boxes)) (kinds : p.kinds ≡ q.kinds) (one : IsPair p) (other : IsPair q) (alike : AreIsomorphic p.imp q.imp) where
+    (firsts : AreAsMany (representatives p.kinds p.imp.boxes) (representatives q.kinds q.imp.boxes)) (kinds : p.kinds ≡ q.kinds) (one : IsPair p) (other : IsPair q) (alike : AreIsomorphic p.imp q.imp) where
   bits_same : table_bits p.imp.boxes ≡ table_bits q.imp.boxes
   bits_same = table_bits_isomorphic p.imp.boxes q.imp.boxes share.imp.boxes
 
@@ -83,14 +83,14 @@ module _ (laws : GivenLaws) (shared_laws : KindLaws) (fix : FunctionsFixTables) 
   ]
 
   -- tables of kinds, spread over all boxes of the one pair and of the other
-  fit_shown : (tables : List TableBits) → FitBoxes tables (shown p.kinds p.imp.boxes) → FitBoxes tables (shown q.kinds q.imp.boxes)
-  fit_shown = many_fit (shown p.kinds p.imp.boxes) (shown q.kinds q.imp.boxes) firsts
+  fit_shown : (tables : List TableBits) → FitBoxes tables (representatives p.kinds p.imp.boxes) → FitBoxes tables (representatives q.kinds q.imp.boxes)
+  fit_shown = many_fit (representatives p.kinds p.imp.boxes) (representatives q.kinds q.imp.boxes) firsts
 
-  agree_spread : (tables : List TableBits) (x : List Bool) → AreEquivalentAt p.spec p.imp (spread p.kinds tables) x → AreEquivalentAt q.spec q.imp (spread q.kinds tables) x
-  agree_spread tables x agree = subst (λ ks. AreEquivalentAt q.spec q.imp (spread ks tables) x) kinds (agree_isomorphic p.spec p.imp q.spec q.imp share (spread p.kinds tables) x agree)
+  agree_spread : (tables : List TableBits) (x : List Bool) → AreEquivalentAt p.spec p.imp (per_box p.kinds tables) x → AreEquivalentAt q.spec q.imp (per_box q.kinds tables) x
+  agree_spread tables x agree = subst (λ ks. AreEquivalentAt q.spec q.imp (per_box ks tables) x) kinds (agree_isomorphic p.spec p.imp q.spec q.imp share (per_box p.kinds tables) x agree)
 
-  agree_all : (tables : List TableBits) (vectors : List (List Bool)) → All (AreEquivalentAt p.spec p.imp (spread p.kinds tables)) vectors → All (AreEquivalentAt q.spec q.imp (spread q.kinds tables)) vectors
-  agree_all tables = All-weaker (AreEquivalentAt p.spec p.imp (spread p.kinds tables)) (AreEquivalentAt q.spec q.imp (spread q.kinds tables)) (agree_spread tables)
+  agree_all : (tables : List TableBits) (vectors : List (List Bool)) → All (AreEquivalentAt p.spec p.imp (per_box p.kinds tables)) vectors → All (AreEquivalentAt q.spec q.imp (per_box q.kinds tables)) vectors
+  agree_all tables = All-weaker (AreEquivalentAt p.spec p.imp (per_box p.kinds tables)) (AreEquivalentAt q.spec q.imp (per_box q.kinds tables)) (agree_spread tables)
 
   suits_isomorphic : (vectors : List (List Bool)) → SuitsLargeTables p.spec p.imp p.kinds vectors → SuitsLargeTables q.spec q.imp q.kinds vectors
   suits_isomorphic vectors (tables, fit, agree, cause) =
@@ -98,7 +98,7 @@ module _ (laws : GivenLaws) (shared_laws : KindLaws) (fix : FunctionsFixTables) 
         tables,
         fit_shown tables fit,
         agree_all tables vectors agree,
-        subst (λ ks. (2 ^ 20 < table_bits q.imp.boxes) ⊎ FillTooLarge q.spec q.imp (spread ks tables)) kinds (cause_isomorphic (spread p.kinds tables) spread_fit cause),
+        subst (λ ks. (2 ^ 20 < table_bits q.imp.boxes) ⊎ FillTooLarge q.spec q.imp (per_box ks tables)) kinds (cause_isomorphic (per_box p.kinds tables) spread_fit cause),
       )
 
   distinguishing_isomorphic : (vectors : List (List Bool)) → AreDistinguishing p.spec p.imp p.kinds vectors → AreDistinguishing q.spec q.imp q.kinds vectors
@@ -109,7 +109,7 @@ module _ (laws : GivenLaws) (shared_laws : KindLaws) (fix : FunctionsFixTables) 
           tables,
           fit_shown tables fit,
           agree_all tables before agree,
-          subst (λ ks. FailAt q.spec q.imp (spread ks tables) x) kinds (fail_isomorphic p.spec p.imp q.spec q.imp share (spread p.kinds tables) x fail),
+          subst (λ ks. FailAt q.spec q.imp (per_box ks tables) x) kinds (fail_isomorphic p.spec p.imp q.spec q.imp share (per_box p.kinds tables) x fail),
         );
   }
 

@@ -8,7 +8,7 @@ use Rattle.bb_net.specs.Conditions.{PinBits, all_outs}
 use Rattle.bb_net.specs.Netlists.{Netlist}
 use Rattle.bb_net.specs.Pairs.{pin_count}
 use Rattle.bb_net.specs.Values.{bit_of}
-use Rattle.bb_sym.specs.Plain.{Function, table, tables, outputs, one_of, first_of, plain_functions_at, block_functions}
+use Rattle.bb_sym.specs.Plain.{Function, table, tables, output_numbers, one_of, first_of, plain_functions_at, block_functions}
 use Rattle.bb_input.specs.InputFunctions.{pins_and_inputs, boxes_first, in_places, in_pins, is_missed, is_wrong_output, has_wrong, leads, refutes, refuted, boxes_functions, wrong_functions, missed_functions, quantified_functions, input_functions}
 use Rattle.bb_checks.specs.Inside.IsomorphismLaws.{FunctionsFixTables}
 use Rattle.bb_checks.proofs.IsomorphicBoxes.{boxes_functions_isomorphic, in_places_isomorphic, pin_bits_isomorphic, pin_count_isomorphic}
@@ -58,9 +58,9 @@ module _ (fix : FunctionsFixTables) (spec imp other_spec other_imp : Netlist) (s
   wrong_among : AreAmong (wrong_functions spec imp) (wrong_functions other_spec other_imp)
   wrong_among =
       among_append _ _ _ _
-      (with_count (map (is_wrong_output spec imp) (outputs imp)) (map (is_wrong_output other_spec other_imp) (outputs other_imp))
+      (with_count (map (is_wrong_output spec imp) (output_numbers imp)) (map (is_wrong_output other_spec other_imp) (output_numbers other_imp))
       (wrong_tables_among (boxes_first imp) (boxes_first other_imp) read_isomorphic spec imp other_spec other_imp share fix (pins_and_inputs imp)))
-      (with_count (map (first_of (is_wrong_output spec imp)) (outputs imp)) (map (first_of (is_wrong_output other_spec other_imp)) (outputs other_imp))
+      (with_count (map (first_of (is_wrong_output spec imp)) (output_numbers imp)) (map (first_of (is_wrong_output other_spec other_imp)) (output_numbers other_imp))
       (first_tables_among (boxes_first imp) (boxes_first other_imp) read_isomorphic spec imp other_spec other_imp share fix (pins_and_inputs imp)))
 
   missed_among : AreAmong (missed_functions imp) (missed_functions other_imp)

@@ -8,7 +8,7 @@ use Rattle.bb_net.specs.declared.cell.Cell.TheVariants as cell
 use Rattle.bb_net.specs.Netlists.{Netlist, Pins, IsNetlist, ReadsBefore, cell_at}
 use Rattle.bb_net.specs.Ternary.{tern, tern_of}
 use Rattle.bb_sym.specs.Functions.{spec_bit, is_one, is_zero, known_one, known_zero, sum_tables, cell_tables, high, low, wanted, mismatches, known_tables, symbolic_functions}
-use Rattle.bb_sym.specs.Plain.{tables, variables, places, outputs}
+use Rattle.bb_sym.specs.Plain.{tables, variables, cell_numbers, output_numbers}
 use Rattle.bb_iso.specs.Laws.Isomorphism.{AreIsomorphic}
 use Rattle.bb_iso.specs.Laws.Formulas.{Formula, Const, Input, Not, And, Or, Xor, Mux, BoxOut, cell_formula, formula_at}
 use Rattle.bb_iso.specs.Laws.{FormulasAreOfCells, IsomorphicNetsHaveCells, IsomorphicCellsAreKnownTheSame}
@@ -123,11 +123,11 @@ module _ (laws : KnownLaws) (spec imp other_spec other_imp : Netlist) (share : S
   symbolic_among one other alike known =
       among_append (variables imp.inputs) (variables other_imp.inputs) _ _
       (subst (λ n. AreAmong (variables imp.inputs) (variables n)) share.imp.inputs (λ t has. has))
-      (among_append (tables imp.inputs (map (spec_bit spec) (places spec))) (tables other_imp.inputs (map (spec_bit other_spec) (places other_spec))) _ _
-      (subst (λ n. AreAmong (tables imp.inputs (map (spec_bit spec) (places spec))) (tables n (map (spec_bit other_spec) (places other_spec)))) share.imp.inputs
+      (among_append (tables imp.inputs (map (spec_bit spec) (cell_numbers spec))) (tables other_imp.inputs (map (spec_bit other_spec) (cell_numbers other_spec))) _ _
+      (subst (λ n. AreAmong (tables imp.inputs (map (spec_bit spec) (cell_numbers spec))) (tables n (map (spec_bit other_spec) (cell_numbers other_spec)))) share.imp.inputs
       (among_tables laws.fix imp.inputs (spec_bit spec) (spec_bit other_spec) (length spec.cells) (length other_spec.cells)
       (λ k l. let found = share.spec.cells k l in (found.0, found.1, λ x. found.2 x []))))
-      (among_append (flat_map (known_tables imp) (places imp)) (flat_map (known_tables other_imp) (places other_imp)) (flat_map (mismatches spec imp) (outputs imp)) (flat_map (mismatches other_spec other_imp) (outputs other_imp))
+      (among_append (flat_map (known_tables imp) (cell_numbers imp)) (flat_map (known_tables other_imp) (cell_numbers other_imp)) (flat_map (mismatches spec imp) (output_numbers imp)) (flat_map (mismatches other_spec other_imp) (output_numbers other_imp))
       (among_each (known_tables imp) (known_tables other_imp) (length imp.cells) (length other_imp.cells)
       (λ k l. let found = laws.cells imp other_imp one other alike k l in (found.0, found.1, known_tables_isomorphic laws imp other_imp one other alike k found.0 l found.1 found.2)))
       (among_each (mismatches spec imp) (mismatches other_spec other_imp) (length imp.outs) (length other_imp.outs)

@@ -3,8 +3,8 @@ use Rattle.std.proofs.Common.{◌≡◌, ◌<◌, ◌^◌, ◌⊎◌, inl, inr, 
 use Rattle.std.specs.Prelude.{List}
 use Rattle.bb_bits.specs.Truth.{Truth}
 use Rattle.bb_net.specs.Completions.{HaveSmallTables}
-use Rattle.bb_net.specs.Conditions.{MayBeRightAmong, IsFirstHit, IsKnownWrong, MayBeRight, IsAlwaysWrong, HasAlwaysWrong}
-use Rattle.bb_net.specs.Kinds.{NoSharedTablesMakeEquivalent, shown}
+use Rattle.bb_net.specs.Conditions.{MayBeRightAmong, IsFirstHit, IsKnownWrong, MayBeRight, IsAlwaysWrong, AlwaysSomeWrongAt}
+use Rattle.bb_net.specs.Kinds.{NoSharedTablesMakeEquivalent, representatives}
 use Rattle.bb_net.specs.Pairs.{NetPair}
 use Rattle.bb_tern.specs.Patterns.{patterns}
 use Rattle.bb_sym.specs.declared.found.Found.{Found}
@@ -32,7 +32,7 @@ use Rattle.bb_checks.proofs.IsomorphicWitnesses.{known_wrong_isomorphic, always_
 -- the clauses of a pair are refuted
 pub record IsRefuted (p : NetPair) (o : Options) (r : Rung) (check_result : CheckResult) : Type 0 where
   pub at : r ≡ Expand
-  pub small : HaveSmallTables (shown p.kinds p.imp.boxes)
+  pub small : HaveSmallTables (representatives p.kinds p.imp.boxes)
   pub proof : Proof
   pub same : check_result ≡ Error (Refutation proof)
   pub none : NoSharedTablesMakeEquivalent p.spec p.imp p.kinds
@@ -75,7 +75,7 @@ module _ (p q : NetPair) (to : Share p q) (from : Share q p) (o : Options) where
   least_reported : (found : Found) → IsLeastOf p found → IsLeastOf q found
   least_reported found (is, least) = (
     is,
-    least_vector_isomorphic p.spec p.imp q.spec q.imp to.nets from.nets (HasAlwaysWrong p.spec p.imp) (HasAlwaysWrong q.spec q.imp)
+    least_vector_isomorphic p.spec p.imp q.spec q.imp to.nets from.nets (AlwaysSomeWrongAt p.spec p.imp) (AlwaysSomeWrongAt q.spec q.imp)
         (has_wrong_isomorphic p.spec p.imp q.spec q.imp to.nets) (has_wrong_isomorphic q.spec q.imp p.spec p.imp from.nets) found.input.items least,
   )
 

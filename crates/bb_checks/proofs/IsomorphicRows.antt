@@ -2,7 +2,7 @@
 use Rattle.std.proofs.Common.{ℕ, ◌+◌, Bool, false, List, [], ◌∷◌, ◌++◌, drop, replicate, ap, sym, ◌∙◌, arith}
 use Rattle.bb_bits.specs.Numbers.{number_of}
 use Rattle.bb_bits.specs.Tables.{TableBits, row_of}
-use Rattle.bb_net.specs.Conditions.{PinBits, Suit}
+use Rattle.bb_net.specs.Conditions.{PinBits, ChoicesSuit}
 use Rattle.bb_net.specs.Netlists.{Netlist}
 use Rattle.bb_net.specs.Values.{table_at}
 use Rattle.bb_nest.specs.Rows.{AreNestedTables, AreOutputsOf, IsLeast, AreZeros, IsRow, Suffice}
@@ -15,7 +15,7 @@ use Rattle.bb_checks.proofs.IsomorphicWitnesses.{completion_isomorphic}
 suffice_isomorphic : (spec imp other_spec other_imp : Netlist) → ShareAll spec imp other_spec other_imp → (b : ℕ) (earlier : List PinBits) (ins outs : List Bool)
     → Suffice spec imp b earlier ins outs → Suffice other_spec other_imp b earlier ins outs
 suffice_isomorphic spec imp other_spec other_imp share b earlier ins outs wins =
-    wins_isomorphic (Suit spec imp) (Suit other_spec other_imp) (suit_isomorphic spec imp other_spec other_imp share) (drop (b + 1) imp.boxes) (drop (b + 1) other_imp.boxes)
+    wins_isomorphic (ChoicesSuit spec imp) (ChoicesSuit other_spec other_imp) (suit_isomorphic spec imp other_spec other_imp share) (drop (b + 1) imp.boxes) (drop (b + 1) other_imp.boxes)
     (last_boxes_isomorphic imp.boxes other_imp.boxes share.imp.boxes (b + 1)) (earlier ++ record { ins = ins; outs = outs } ∷ []) wins
 
 module _ (spec imp other_spec other_imp : Netlist) (to : ShareAll spec imp other_spec other_imp) (from : ShareAll other_spec other_imp spec imp) where

@@ -5,7 +5,7 @@ use Rattle.bb_bits.specs.Tables.{TableBits}
 use Rattle.std.proofs.lemmas.List.Sorted.{IsPermutation-refl}
 use Rattle.bb_net.specs.Completions.{HaveSmallTables, table_bits}
 use Rattle.bb_net.specs.Equivalence.{TablesMakeEquivalent}
-use Rattle.bb_net.specs.Kinds.{AreSharedCompletion, FitKinds, shown, spread}
+use Rattle.bb_net.specs.Kinds.{AreSharedCompletion, FitKinds, representatives, per_box}
 use Rattle.bb_net.specs.Netlists.{Netlist}
 use Rattle.bb_net.specs.Pairs.{NetPair, IsPair}
 use Rattle.bb_sym.specs.Functions.{symbolic_functions, local_functions, output_functions}
@@ -37,7 +37,7 @@ pub record Share (p q : NetPair) : Type 0 where
   pub pins : SharePins p.imp q.imp
   pub clauses : clause_total p.imp ≡ clause_total q.imp
   -- the first boxes of kinds have as many pins
-  pub firsts : AreAsMany (shown p.kinds p.imp.boxes) (shown q.kinds q.imp.boxes)
+  pub firsts : AreAsMany (representatives p.kinds p.imp.boxes) (representatives q.kinds q.imp.boxes)
   pub kinds : p.kinds ≡ q.kinds
   pub needs : (budget : ℕ) → NeedsMoreClauses p.spec p.imp p.kinds budget → NeedsMoreClauses q.spec q.imp q.kinds budget
   pub symbolic : AreAmong (symbolic_functions p.spec p.imp) (symbolic_functions q.spec q.imp)
@@ -46,17 +46,17 @@ pub record Share (p q : NetPair) : Type 0 where
   pub input : AreAmong (input_functions p.spec p.imp) (input_functions q.spec q.imp)
 
 module _ (p q : NetPair) (share : Share p q) where
-  pub bits_isomorphic : table_bits (shown p.kinds p.imp.boxes) ≡ table_bits (shown q.kinds q.imp.boxes)
-  bits_isomorphic = table_bits_isomorphic (shown p.kinds p.imp.boxes) (shown q.kinds q.imp.boxes) share.firsts
+  pub bits_isomorphic : table_bits (representatives p.kinds p.imp.boxes) ≡ table_bits (representatives q.kinds q.imp.boxes)
+  bits_isomorphic = table_bits_isomorphic (representatives p.kinds p.imp.boxes) (representatives q.kinds q.imp.boxes) share.firsts
 
-  pub small_isomorphic : HaveSmallTables (shown p.kinds p.imp.boxes) → HaveSmallTables (shown q.kinds q.imp.boxes)
+  pub small_isomorphic : HaveSmallTables (representatives p.kinds p.imp.boxes) → HaveSmallTables (representatives q.kinds q.imp.boxes)
   small_isomorphic small = subst (λ n. n ≤ 2 ^ 24) bits_isomorphic small
 
   pub shared_completion_isomorphic : (tables : List TableBits) → AreSharedCompletion p.spec p.imp p.kinds tables → AreSharedCompletion q.spec q.imp q.kinds tables
   shared_completion_isomorphic tables h = record {
-    fit = many_fit (shown p.kinds p.imp.boxes) (shown q.kinds q.imp.boxes) share.firsts tables h.fit;
-    agree = subst (λ ks. TablesMakeEquivalent q.spec q.imp (spread ks tables)) share.kinds
-        (λ x long. agree_isomorphic p.spec p.imp q.spec q.imp share.nets (spread p.kinds tables) x (h.agree x (vector p.spec p.imp q.spec q.imp share.nets x long)));
+    fit = many_fit (representatives p.kinds p.imp.boxes) (representatives q.kinds q.imp.boxes) share.firsts tables h.fit;
+    agree = subst (λ ks. TablesMakeEquivalent q.spec q.imp (per_box ks tables)) share.kinds
+        (λ x long. agree_isomorphic p.spec p.imp q.spec q.imp share.nets (per_box p.kinds tables) x (h.agree x (vector p.spec p.imp q.spec q.imp share.nets x long)));
   }
 
   pub finishable_isomorphic : AreFinishable p.imp p.kinds → AreFinishable q.imp q.kinds
@@ -82,8 +82,8 @@ module _ (laws : PairLaws) (p q : NetPair) (one : IsPair p) (other : IsPair q) (
   totals : clause_total p.imp ≡ clause_total q.imp
   totals = clause_totals_isomorphic p.imp q.imp nets.imp.inputs per_vector
 
-  firsts : AreAsMany (shown p.kinds p.imp.boxes) (shown q.kinds q.imp.boxes)
-  firsts = subst (λ ks. AreAsMany (shown p.kinds p.imp.boxes) (shown ks q.imp.boxes)) alike.kinds
+  firsts : AreAsMany (representatives p.kinds p.imp.boxes) (representatives q.kinds q.imp.boxes)
+  firsts = subst (λ ks. AreAsMany (representatives p.kinds p.imp.boxes) (representatives ks q.imp.boxes)) alike.kinds
       (many_shown laws.kinds p.kinds p.imp.boxes q.imp.boxes one.beside.kinds (subst (λ ks. FitKinds ks q.imp.boxes) (sym alike.kinds) other.beside.kinds) nets.imp.boxes)
 
   pub share : Share p q

@@ -3,7 +3,7 @@ use Rattle.std.proofs.Common.{ℕ, ◌<◌, Bool, List, ◌∙◌, sym, subst, a
 use Rattle.bb_bits.specs.Tables.{TableBits}
 use Rattle.bb_net.specs.Equivalence.{AllRight, IsOutput, SomeWrong}
 use Rattle.bb_net.specs.Completions.{AreCompletion}
-use Rattle.bb_net.specs.Conditions.{IsKnownWrong, IsFirstHit, IsAlwaysWrong, HasAlwaysWrong}
+use Rattle.bb_net.specs.Conditions.{IsKnownWrong, IsFirstHit, IsAlwaysWrong, AlwaysSomeWrongAt}
 use Rattle.bb_net.specs.Netlists.{Netlist, Pins}
 use Rattle.bb_net.specs.Values.{FitBoxes, flat_with}
 use Rattle.bb_sym.specs.Finds.{IsLeastVector, IsFirstFound, IsSometimesRight}
@@ -38,7 +38,7 @@ module _ (spec imp other_spec other_imp : Netlist) (share : ShareAll spec imp ot
   sometimes_right_isomorphic x j l (z, long, right) =
       (z, long ∙ output_pins_isomorphic imp.boxes other_imp.boxes share.imp.boxes, sym (share.imp.out_bits x z j l) ∙ right ∙ wanted_isomorphic spec imp other_spec other_imp share x j l)
 
-  pub has_wrong_isomorphic : (x : List Bool) → HasAlwaysWrong spec imp x → HasAlwaysWrong other_spec other_imp x
+  pub has_wrong_isomorphic : (x : List Bool) → AlwaysSomeWrongAt spec imp x → AlwaysSomeWrongAt other_spec other_imp x
   has_wrong_isomorphic x wrong z long =
       let (j, l, off) = wrong z (long ∙ sym (output_pins_isomorphic imp.boxes other_imp.boxes share.imp.boxes)) in
       (j, here j l, λ e. off (share.imp.out_bits x z j l ∙ e ∙ sym (wanted_isomorphic spec imp other_spec other_imp share x j l)))

@@ -3,7 +3,7 @@
 use Rattle.std.proofs.Common.{◌≡◌, ◌<◌, ◌≤◌, Bool, true, List, ◌++◌, ℕ, true≢false, refl, sym, ap, ap₂, ◌∙◌, arith}
 use Rattle.bb_net.specs.Conditions.{IsKnownWrong, MayBeRight, IsAlwaysWrong}
 use Rattle.bb_net.specs.Completions.{HaveSmallTables}
-use Rattle.bb_net.specs.Kinds.{shown}
+use Rattle.bb_net.specs.Kinds.{representatives}
 use Rattle.bb_net.specs.Pairs.{NetPair, IsPair}
 use Rattle.bb_bits.specs.Truth.{Truth}
 use Rattle.bb_tern.specs.Patterns.{PatternsAreVectors}
@@ -44,7 +44,7 @@ pub record SayIsomorphic (p : NetPair) (o : Options) (r : Rung) (s t : CheckResu
 
 -- the word of the expansion does not depend on the search
 abbrev pub IsFixed : NetPair → Options → Type 0
-IsFixed p o = HaveSmallTables (shown p.kinds p.imp.boxes) → NeedsMoreClauses p.spec p.imp p.kinds o.clauses → ⊥
+IsFixed p o = HaveSmallTables (representatives p.kinds p.imp.boxes) → NeedsMoreClauses p.spec p.imp p.kinds o.clauses → ⊥
 
 pub above : (n m : ℕ) → n < m → m ≤ n → ⊥
 above n m less more = omega (arith, less, more)
@@ -72,7 +72,7 @@ module _ (p : NetPair) (o : Options) (r : Rung) where
   answers_alike : (a b : InputAnswer) → IsSameAnswer a b → SayIsomorphic p o r (reported_answer a) (reported_answer b)
   answers_alike choices.Error b same = one_said _ _ _ refl (ap reported_answer same)
   answers_alike choices.Clear b same = one_said _ _ _ refl (ap reported_answer same)
-  answers_alike (choices.Repair tables) b (others, is, same) = by_reported _ _ _ _ refl (ap reported_answer is) (say_isomorphic _ _ refl refl refl (λ plain. ap (table_lines o.shared (shown p.kinds p.boxes)) same))
+  answers_alike (choices.Repair tables) b (others, is, same) = by_reported _ _ _ _ refl (ap reported_answer is) (say_isomorphic _ _ refl refl refl (λ plain. ap (table_lines o.shared (representatives p.kinds p.boxes)) same))
 
 module _ (laws : OneLaws) (p : NetPair) (o : Options) (kept : IsPair p) where
   -- an error excludes the word that there is none

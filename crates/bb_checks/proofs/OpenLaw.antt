@@ -6,7 +6,7 @@ use Rattle.std.proofs.lemmas.Bool.{cases_lt}
 use Rattle.std.proofs.lemmas.List.Elements.{All-nil, All-cons, All-contains, All-head, All-tail}
 use Rattle.bb_lemmas.proofs.Bits.{neither}
 use Rattle.bb_net.specs.Completions.{table_bits}
-use Rattle.bb_net.specs.Kinds.{shown}
+use Rattle.bb_net.specs.Kinds.{representatives}
 use Rattle.bb_net.specs.Pairs.{NetPair}
 use Rattle.bb_expand.specs.ClauseCounts.{clause_total}
 use Rattle.bb_expand.specs.declared.expanded.Expanded.TheVariants as expanded
@@ -19,7 +19,7 @@ use Rattle.bb_options.specs.declared.rung.Rung.{Rung}
 use Rattle.bb_options.specs.declared.rung.Rung.TheVariants.{Ternary, Symbolic, Local, Output, Input, Expand}
 use Rattle.bb_checks.specs.declared.verdict.Verdict.TheVariants as verdicts
 use Rattle.bb_checks.specs.Laws.{ClimbsLeaveOpen, StayingOpenIsReported, StayingOpenIsLeftOpen, LeftOpenStaysOpen, DecidersDecide}
-use Rattle.bb_checks.specs.LeftOpen.{Decides, LeavesOpen, StaysOpen}
+use Rattle.bb_checks.specs.LeftOpen.{Decides, MayLeaveOpen, MustLeaveOpen}
 use Rattle.bb_checks.specs.Laws.Searches.{MayDependOnSearch}
 use Rattle.bb_options.specs.Rungs.{requested_rungs}
 use Rattle.bb_checks.specs.Rungs.{MayReport, Hit, NoHit, TooMany, Finding, Without, ChoicesTooMany, Answered, TooWide, ClausesTooMany, Decided, Climbs, Top, End, Step, reports_error, reports_repair, is_error, is_repair}
@@ -47,7 +47,7 @@ module _ (p : NetPair) (o : Options) where
   no_repair : {T : Type 0} (check_result other : CheckResult) → check_result ≡ other → reports_repair other ≡ true → reports_repair check_result ≡ false → T
   no_repair check_result other same on off = absurd (true≢false (sym on ∙ ap reports_repair (sym same) ∙ off))
 
-  said_open : (r : Rung) (check_result : CheckResult) → MayReport p o r check_result → reports_error check_result ≡ false → reports_repair check_result ≡ false → LeavesOpen p o r
+  said_open : (r : Rung) (check_result : CheckResult) → MayReport p o r check_result → reports_error check_result ≡ false → reports_repair check_result ≡ false → MayLeaveOpen p o r
   said_open Ternary check_result (Hit found j is hit same) off none = no_error check_result _ same refl off
   said_open Ternary check_result (NoHit right same) off none = right
   said_open Symbolic check_result (TooMany many same) off none = inl many
@@ -68,7 +68,7 @@ module _ (p : NetPair) (o : Options) where
   said_open Expand check_result (Decided small (expanded.Error vectors cnf refutation) is same) off none = no_error check_result _ same refl off
   said_open Expand check_result (Decided small (expanded.Repair tables) is same) off none = no_repair check_result _ same refl none
 
-  climb_open : (rungs : List Rung) (lines : List Line) → Climbs p o rungs lines → list_any is_error lines ≡ false → list_any is_repair lines ≡ false → All (LeavesOpen p o) rungs
+  climb_open : (rungs : List Rung) (lines : List Line) → Climbs p o rungs lines → list_any is_error lines ≡ false → list_any is_repair lines ≡ false → All (MayLeaveOpen p o) rungs
   climb_open [] [] Top off none = All-nil _
   climb_open [] (line ∷ more) climb off none = elim climb [ ]
   climb_open (r ∷ rest) [] climb off none = elim climb [ ]
@@ -76,7 +76,7 @@ module _ (p : NetPair) (o : Options) where
   climb_open (r ∷ rest) (line ∷ more) (Step is reports on afterwards) off none =
       let no_error = neither (is_error line) (list_any is_error more) off in
       let no_tables = neither (is_repair line) (list_any is_repair more) none in
-      All-cons (LeavesOpen p o) r rest (said_open r line.check_result reports no_error.0 no_tables.0) (climb_open rest more afterwards no_error.1 no_tables.1)
+      All-cons (MayLeaveOpen p o) r rest (said_open r line.check_result reports no_error.0 no_tables.0) (climb_open rest more afterwards no_error.1 no_tables.1)
 
   -- what is said where the question stays open with a check
   abbrev IsOpen : CheckResult → Type 0
@@ -85,7 +85,7 @@ module _ (p : NetPair) (o : Options) where
   as_reported : (check_result reported : CheckResult) → check_result ≡ reported → IsOpen reported → IsOpen check_result
   as_reported check_result reported same h = subst IsOpen (sym same) h
 
-  open_said : (r : Rung) (check_result : CheckResult) → MayReport p o r check_result → StaysOpen p o r → IsOpen check_result
+  open_said : (r : Rung) (check_result : CheckResult) → MayReport p o r check_result → MustLeaveOpen p o r → IsOpen check_result
   open_said Ternary check_result (Hit found j is hit same) right =
       absurd (known_not_right p.spec p.imp found.input.items j hit.wrong (right found.input.items (subst (λ all. Contains all found.input.items) (sym hit.occurs) (contained hit.before found.input.items hit.after)) j hit.there))
   open_said Ternary check_result (NoHit right same) left = as_reported check_result _ same (refl, refl)
@@ -123,13 +123,13 @@ module _ (p : NetPair) (o : Options) where
   one_more : (line : Line) (more : List Line) → IsOpen line.check_result → AreOpen more → AreOpen (line ∷ more)
   one_more line more first h = record { error = ap₂ ◌||◌ first.0 h.error; repair = ap₂ ◌||◌ first.1 h.repair }
 
-  open_climb : (rungs : List Rung) (lines : List Line) → Climbs p o rungs lines → All (StaysOpen p o) rungs → AreOpen lines
+  open_climb : (rungs : List Rung) (lines : List Line) → Climbs p o rungs lines → All (MustLeaveOpen p o) rungs → AreOpen lines
   open_climb [] [] Top left = record { error = refl; repair = refl }
   open_climb [] (line ∷ more) climb left = elim climb [ ]
   open_climb (r ∷ rest) [] climb left = elim climb [ ]
-  open_climb (r ∷ rest) (line ∷ []) (End is reports last) left = one_more line [] (open_said r line.check_result reports (All-head (StaysOpen p o) r rest left)) (record { error = refl; repair = refl })
+  open_climb (r ∷ rest) (line ∷ []) (End is reports last) left = one_more line [] (open_said r line.check_result reports (All-head (MustLeaveOpen p o) r rest left)) (record { error = refl; repair = refl })
   open_climb (r ∷ rest) (line ∷ more) (Step is reports on afterwards) left =
-      one_more line more (open_said r line.check_result reports (All-head (StaysOpen p o) r rest left)) (open_climb rest more afterwards (All-tail (StaysOpen p o) r rest left))
+      one_more line more (open_said r line.check_result reports (All-head (MustLeaveOpen p o) r rest left)) (open_climb rest more afterwards (All-tail (MustLeaveOpen p o) r rest left))
 
 -- the verdict where no line says an error, and none says of tables
 open_verdict : (a b : Bool) → a ≡ false → b ≡ false → (if a then verdicts.Error else (if b then verdicts.Repairable else verdicts.Open)) ≡ verdicts.Open
@@ -155,32 +155,32 @@ staying_open_is_left_open p o Input stays = stays
 staying_open_is_left_open p o Expand wide = inl wide
 
 -- and what is left open stays open, or the tables of the expansion may be written down and it may need more clauses
-stays_or_depends : (p : NetPair) (o : Options) (r : Rung) → (MayDependOnSearch p o → ⊥) → Contains (requested_rungs o) r → LeavesOpen p o r → StaysOpen p o r
+stays_or_depends : (p : NetPair) (o : Options) (r : Rung) → (MayDependOnSearch p o → ⊥) → Contains (requested_rungs o) r → MayLeaveOpen p o r → MustLeaveOpen p o r
 stays_or_depends p o Ternary fixed requested left = left
 stays_or_depends p o Symbolic fixed requested left = left
 stays_or_depends p o Local fixed requested left = left
 stays_or_depends p o Output fixed requested left = left
 stays_or_depends p o Input fixed requested left = left
 stays_or_depends p o Expand fixed requested (inl wide) = wide
-stays_or_depends p o Expand fixed requested (inr needs) = elim (cases_lt (2 ^ 24) (table_bits (shown p.kinds p.imp.boxes))) [
+stays_or_depends p o Expand fixed requested (inr needs) = elim (cases_lt (2 ^ 24) (table_bits (representatives p.kinds p.imp.boxes))) [
   | inl wide ↦ wide
   | inr small ↦ absurd (fixed (record { requested = requested; small = small; needs = needs }))
 ]
 
 pub left_open_stays_open : LeftOpenStaysOpen
-left_open_stays_open p o fixed left = all_from (StaysOpen p o) (requested_rungs o)
-    (λ r requested. stays_or_depends p o r fixed requested (All-contains (LeavesOpen p o) (requested_rungs o) r left requested))
+left_open_stays_open p o fixed left = all_from (MustLeaveOpen p o) (requested_rungs o)
+    (λ r requested. stays_or_depends p o r fixed requested (All-contains (MayLeaveOpen p o) (requested_rungs o) r left requested))
 
 -- a check that decides does not leave the question open
-not_both : (p : NetPair) (o : Options) (r : Rung) → LeavesOpen p o r → Decides p o r → ⊥
+not_both : (p : NetPair) (o : Options) (r : Rung) → MayLeaveOpen p o r → Decides p o r → ⊥
 not_both p o Ternary leaves decides = decides
 not_both p o Symbolic leaves decides = decides
 not_both p o Local leaves decides = decides
 not_both p o Output leaves decides = decides
 not_both p o Input (inl many) decides = decides.1 many
 not_both p o Input (inr none) decides = none.1 decides.0
-not_both p o Expand (inl wide) decides = above (2 ^ 24) (table_bits (shown p.kinds p.imp.boxes)) wide decides.0
+not_both p o Expand (inl wide) decides = above (2 ^ 24) (table_bits (representatives p.kinds p.imp.boxes)) wide decides.0
 not_both p o Expand (inr needs) decides = above o.clauses (clause_total p.imp) needs.many decides.1
 
 pub deciders_decide : DecidersDecide
-deciders_decide p o lines climb (r, requested, decides) verdict = not_both p o r (All-contains (LeavesOpen p o) (requested_rungs o) r (climbs_leave_open p o lines climb verdict) requested) decides
+deciders_decide p o lines climb (r, requested, decides) verdict = not_both p o r (All-contains (MayLeaveOpen p o) (requested_rungs o) r (climbs_leave_open p o lines climb verdict) requested) decides

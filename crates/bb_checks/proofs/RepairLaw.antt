@@ -7,7 +7,7 @@ use Rattle.std.proofs.lemmas.List.{append-nil}
 use Rattle.std.proofs.lemmas.List.Elements.{All-contains}
 use Rattle.bb_lemmas.proofs.Bits.{neither, neither_left}
 use Rattle.bb_bits.specs.Tables.{TableBits}
-use Rattle.bb_net.specs.Kinds.{AreSharedCompletion, shown}
+use Rattle.bb_net.specs.Kinds.{AreSharedCompletion, representatives}
 use Rattle.bb_net.specs.Pairs.{NetPair, IsPair}
 use Rattle.bb_expand.specs.declared.expanded.Expanded.TheVariants as expanded
 use Rattle.bb_input.specs.declared.InputAnswer.TheVariants as choices
@@ -58,7 +58,7 @@ record EndsSo (p : NetPair) (o : Options) (lines : List Line) : Type 0 where
   pub tables : List TableBits
   pub given : GivesTables lines tables
   pub complete : AreSharedCompletion p.spec p.imp p.kinds tables
-  pub text : flat_map (check_line_text p o) lines ≡ flat_map rung_line lines ++ table_lines o.shared (shown p.kinds p.boxes) tables
+  pub text : flat_map (check_line_text p o) lines ≡ flat_map rung_line lines ++ table_lines o.shared (representatives p.kinds p.boxes) tables
 
 module _ (kinds : KindLaws) (p : NetPair) (o : Options) (kept : IsPair p) where
   not_given : {T : Type 0} (check_result other : CheckResult) (given : Vec TableBits Global) → check_result ≡ other → reports_repair other ≡ false → check_result ≡ Repair given → T
@@ -113,7 +113,7 @@ module _ (kinds : KindLaws) (p : NetPair) (o : Options) (kept : IsPair p) where
     text =
         append-nil (check_line_text p o line)
         ∙ ap (λ check_result. rung_line line ++ details p o check_result) given.2
-        ∙ ap (λ t. t ++ table_lines o.shared (shown p.kinds p.boxes) given.0.items) (sym (append-nil (rung_line line)));
+        ∙ ap (λ t. t ++ table_lines o.shared (representatives p.kinds p.boxes) given.0.items) (sym (append-nil (rung_line line)));
   }
 
   one_more : (line : Line) (more : List Line) → details p o line.check_result ≡ [] → EndsSo p o more → EndsSo p o (line ∷ more)
@@ -125,7 +125,7 @@ module _ (kinds : KindLaws) (p : NetPair) (o : Options) (kept : IsPair p) where
         ap (λ t. (rung_line line ++ t) ++ flat_map (check_line_text p o) more) none
         ∙ ap (λ t. t ++ flat_map (check_line_text p o) more) (append-nil (rung_line line))
         ∙ ap (λ t. rung_line line ++ t) rest.text
-        ∙ sym (append_assoc (rung_line line) (flat_map rung_line more) (table_lines o.shared (shown p.kinds p.boxes) rest.tables));
+        ∙ sym (append_assoc (rung_line line) (flat_map rung_line more) (table_lines o.shared (representatives p.kinds p.boxes) rest.tables));
   }
 
   climb_gives : (rungs : List Rung) (lines : List Line) → Climbs p o rungs lines → list_any is_error lines ≡ false → list_any is_repair lines ≡ true → EndsSo p o lines

@@ -3,7 +3,7 @@ use Rattle.std.proofs.Common.{◌≡◌, ℕ, ◌<◌, List, [], ◌∷◌, leng
 use Rattle.std.proofs.lemmas.List.Elements.{All-nil, All-cons, All-contains, Contains-append_right}
 use Rattle.std.proofs.lemmas.Slice.Zip.{AllZip-long}
 use Rattle.bb_bits.specs.Tables.{TableBits}
-use Rattle.bb_net.specs.Kinds.{AreSharedCompletion, shown}
+use Rattle.bb_net.specs.Kinds.{AreSharedCompletion, representatives}
 use Rattle.bb_net.specs.Pairs.{NetPair, IsPair, NamesPins}
 use Rattle.bb_tern.specs.Patterns.{PatternsAreVectors}
 use Rattle.bb_sym.specs.declared.found.Found.{Found}
@@ -35,11 +35,11 @@ module _ (kinds : KindLaws) (vectors : PatternsAreVectors) (p : NetPair) (o : Op
   tables_reported : (tables : List TableBits) → AreSharedCompletion p.spec p.imp p.kinds tables → TablesCanBeReported p tables
   tables_reported tables complete =
       let named = named_shown kinds p kept in
-      let long = AllZip-long NamesPins (shown p.kinds p.boxes) (shown p.kinds p.imp.boxes) named in
-      let count : length tables ≡ length (shown p.kinds p.boxes) = complete.fit.count ∙ long in
+      let long = AllZip-long NamesPins (representatives p.kinds p.boxes) (representatives p.kinds p.imp.boxes) named in
+      let count : length tables ≡ length (representatives p.kinds p.boxes) = complete.fit.count ∙ long in
       record {
         count = count;
-        outputs = λ k there. complete.fit.outputs k (omega (arith, there, complete.fit.count)) ∙ sym (names_each (shown p.kinds p.boxes) (shown p.kinds p.imp.boxes) named k (omega (arith, there, count))).outs;
+        outputs = λ k there. complete.fit.outputs k (omega (arith, there, complete.fit.count)) ∙ sym (names_each (representatives p.kinds p.boxes) (representatives p.kinds p.imp.boxes) named k (omega (arith, there, count))).outs;
       }
 
   said_reported : (r : Rung) (check_result : CheckResult) → MayReport p o r check_result → ResultCanBeReported p check_result

@@ -7,7 +7,7 @@ use Rattle.std.proofs.lemmas.Slice.Zip.{AllZip-long}
 use Rattle.bb_bits.specs.Tables.{TableBits}
 use Rattle.bb_net.specs.Equivalence.{TablesMakeEquivalent}
 use Rattle.bb_net.specs.Completions.{AreCompletion}
-use Rattle.bb_net.specs.Kinds.{AreSharedCompletion, FitKinds, first_places, shown, spread}
+use Rattle.bb_net.specs.Kinds.{AreSharedCompletion, FitKinds, first_places, representatives, per_box}
 use Rattle.bb_net.specs.Netlists.{Netlist, Pins, box_at}
 use Rattle.bb_net.specs.Pairs.{NetPair, IsPair, BoxTexts, NamesPins}
 use Rattle.bb_net.specs.Values.{FitBoxes}
@@ -35,30 +35,30 @@ many_at ps qs many (b ∷ places) = let here = pins_at_isomorphic ps qs many b i
 -- these are the places of the first boxes, and their texts are shown
 pub record AreFirstTexts (p : NetPair) (boxes : List BoxTexts) (firsts : List ℕ) : Type 0 where
   pub there : All (λ b. b < length boxes) firsts
-  pub shows : map (texts_at boxes) firsts ≡ shown p.kinds p.boxes
+  pub shows : map (texts_at boxes) firsts ≡ representatives p.kinds p.boxes
 
 module _ (laws : KindLaws) where
-  pub named_shown : (p : NetPair) → IsPair p → AllZip NamesPins (shown p.kinds p.boxes) (shown p.kinds p.imp.boxes)
+  pub named_shown : (p : NetPair) → IsPair p → AllZip NamesPins (representatives p.kinds p.boxes) (representatives p.kinds p.imp.boxes)
   named_shown p kept =
       let kinds = kept.beside.kinds in
       let long : length p.imp.boxes ≡ length p.boxes = AllZip-long NamesPins p.boxes p.imp.boxes kept.beside.boxes_named in
-      let texts : shown p.kinds p.boxes ≡ map (texts_at p.boxes) (first_places p.kinds) = laws.texts p.kinds p.boxes (record { path = []; «module» = []; ins = []; outs = [] }) kinds.ordered (omega (arith, long, kinds.count)) in
-      let pins : shown p.kinds p.imp.boxes ≡ map (box_at p.imp.boxes) (first_places p.kinds) = laws.pins p.kinds p.imp.boxes (record { ins = []; outs = [] }) kinds.ordered (sym kinds.count) in
-      subst (λ ts. AllZip NamesPins ts (shown p.kinds p.imp.boxes)) (sym texts) (subst (AllZip NamesPins (map (texts_at p.boxes) (first_places p.kinds))) (sym pins)
+      let texts : representatives p.kinds p.boxes ≡ map (texts_at p.boxes) (first_places p.kinds) = laws.texts p.kinds p.boxes (record { path = []; «module» = []; ins = []; outs = [] }) kinds.ordered (omega (arith, long, kinds.count)) in
+      let pins : representatives p.kinds p.imp.boxes ≡ map (box_at p.imp.boxes) (first_places p.kinds) = laws.pins p.kinds p.imp.boxes (record { ins = []; outs = [] }) kinds.ordered (sym kinds.count) in
+      subst (λ ts. AllZip NamesPins ts (representatives p.kinds p.imp.boxes)) (sym texts) (subst (AllZip NamesPins (map (texts_at p.boxes) (first_places p.kinds))) (sym pins)
       (names_at p.boxes p.imp.boxes (length p.kinds) kept.beside.boxes_named (kinds.count ∙ long) (first_places p.kinds) (laws.there p.kinds kinds.ordered)))
 
-  pub many_shown : (kinds : List ℕ) (ps qs : List Pins) → FitKinds kinds ps → FitKinds kinds qs → AreAsMany ps qs → AreAsMany (shown kinds ps) (shown kinds qs)
+  pub many_shown : (kinds : List ℕ) (ps qs : List Pins) → FitKinds kinds ps → FitKinds kinds qs → AreAsMany ps qs → AreAsMany (representatives kinds ps) (representatives kinds qs)
   many_shown kinds ps qs one other many =
-      let first : shown kinds ps ≡ map (box_at ps) (first_places kinds) = laws.pins kinds ps (record { ins = []; outs = [] }) one.ordered (sym one.count) in
-      let second : shown kinds qs ≡ map (box_at qs) (first_places kinds) = laws.pins kinds qs (record { ins = []; outs = [] }) other.ordered (sym other.count) in
-      subst (λ xs. AreAsMany xs (shown kinds qs)) (sym first) (subst (AreAsMany (map (box_at ps) (first_places kinds))) (sym second) (many_at ps qs many (first_places kinds)))
+      let first : representatives kinds ps ≡ map (box_at ps) (first_places kinds) = laws.pins kinds ps (record { ins = []; outs = [] }) one.ordered (sym one.count) in
+      let second : representatives kinds qs ≡ map (box_at qs) (first_places kinds) = laws.pins kinds qs (record { ins = []; outs = [] }) other.ordered (sym other.count) in
+      subst (λ xs. AreAsMany xs (representatives kinds qs)) (sym first) (subst (AreAsMany (map (box_at ps) (first_places kinds))) (sym second) (many_at ps qs many (first_places kinds)))
 
   -- where all kinds differ, tables of boxes are tables of kinds
   pub apart_shared : (spec imp : Netlist) (kinds : List ℕ) (tables : List TableBits) → FitKinds kinds imp.boxes → AllPairs ◌≢◌ kinds → AreCompletion spec imp tables → AreSharedCompletion spec imp kinds tables
   apart_shared spec imp kinds tables fit apart complete =
       let places = laws.places kinds imp.boxes fit apart in
-      let boxes : shown kinds imp.boxes ≡ imp.boxes = ap (λ ks. shown ks imp.boxes) places ∙ laws.all imp.boxes in
-      let same : spread kinds tables ≡ tables = ap (λ ks. spread ks tables) places ∙ ap (λ n. spread (range_with_len 0 n) tables) (sym complete.fit.count) ∙ laws.own tables in
+      let boxes : representatives kinds imp.boxes ≡ imp.boxes = ap (λ ks. representatives ks imp.boxes) places ∙ laws.all imp.boxes in
+      let same : per_box kinds tables ≡ tables = ap (λ ks. per_box ks tables) places ∙ ap (λ n. per_box (range_with_len 0 n) tables) (sym complete.fit.count) ∙ laws.own tables in
       record {
         fit = subst (FitBoxes tables) (sym boxes) complete.fit;
         agree = subst (TablesMakeEquivalent spec imp) (sym same) complete.agree;

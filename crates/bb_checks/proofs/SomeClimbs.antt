@@ -14,7 +14,7 @@ use Rattle.bb_lemmas.proofs.Vectors.{vec_of}
 use Rattle.bb_net.specs.declared.cell.Cell.TheVariants as cell
 use Rattle.bb_net.specs.Completions.{table_bits}
 use Rattle.bb_net.specs.Conditions.{IsFirstHit, MayBeRightAmong}
-use Rattle.bb_net.specs.Kinds.{shown}
+use Rattle.bb_net.specs.Kinds.{representatives}
 use Rattle.bb_net.specs.Netlists.{Netlist, IsNetlist}
 use Rattle.bb_net.specs.Pairs.{NetPair, IsPair}
 use Rattle.bb_options.specs.declared.options.Options.{Options}
@@ -82,7 +82,7 @@ module _ (laws : LawsBelow) (p : NetPair) (o : Options) (pair : IsPair p) (bound
   ]
 
   expanded_or_not : Claims p o Expand
-  expanded_or_not = elim (cases_lt (2 ^ 24) (table_bits (shown p.kinds p.imp.boxes))) [
+  expanded_or_not = elim (cases_lt (2 ^ 24) (table_bits (representatives p.kinds p.imp.boxes))) [
     | inl wide ↦ (Wide, TooWide wide refl)
     | inr small ↦ elim (laws.expansions p.spec p.imp p.kinds o.clauses pair.imp pair.beside.kinds (omega (arith, bounds.clauses)) (provable small)) [
       | inl a ↦ (reported_expanded a.0, Decided small a.0 a.1 refl)

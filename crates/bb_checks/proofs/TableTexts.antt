@@ -9,7 +9,7 @@ use Rattle.std.proofs.lemmas.List.FromFn.{length-map-range_with_len, get_or-map-
 use Rattle.std.proofs.lemmas.Slice.Zip.{get_or-zip, length-zip}
 use Rattle.bb_bits.specs.Tables.{TableBits, HasAllBits, table_bit}
 use Rattle.bb_net.specs.Netlists.{Pins, box_at}
-use Rattle.bb_net.specs.Kinds.{shown}
+use Rattle.bb_net.specs.Kinds.{representatives}
 use Rattle.bb_net.specs.Pairs.{BoxTexts, NamesPins, box_key}
 use Rattle.bb_net.specs.Values.{table_at, FitBoxes}
 use Rattle.bb_checks.specs.Inside.KindLaws.{KindLaws}
@@ -184,7 +184,7 @@ alike boxes tables others fit fits b within = record {
 
 pub lines_fix_tables : KindLaws → LinesFixTables
 lines_fix_tables kinds shared p tables others kept fit fits same =
-    same_tables shared (shown p.kinds p.boxes) (shown p.kinds p.imp.boxes) tables others (named_shown kinds p kept) fit.count fits.count (alike (shown p.kinds p.imp.boxes) tables others fit fits) same
+    same_tables shared (representatives p.kinds p.boxes) (representatives p.kinds p.imp.boxes) tables others (named_shown kinds p kept) fit.count fits.count (alike (representatives p.kinds p.imp.boxes) tables others fit fits) same
 
 -- texts with ends of one length
 same_ends : (a b c d : List ℕ) → length b ≡ length d → a ++ b ≡ c ++ d → b ≡ d
@@ -207,9 +207,9 @@ long_lines shared (x ∷ texts) (q ∷ boxes) (t ∷ tables) (u ∷ others) name
 pub texts_fix_tables : KindLaws → TextsFixTables
 texts_fix_tables kinds shared p text tables others kept fit fits one other =
     let end = verdict_line verdicts.Repairable in
-    let texts = shown p.kinds p.boxes in
-    let all_isomorphic = alike (shown p.kinds p.imp.boxes) tables others fit fits in
-    let long = long_lines shared texts (shown p.kinds p.imp.boxes) tables others (named_shown kinds p kept) fit.count fits.count all_isomorphic in
+    let texts = representatives p.kinds p.boxes in
+    let all_isomorphic = alike (representatives p.kinds p.imp.boxes) tables others fit fits in
+    let long = long_lines shared texts (representatives p.kinds p.imp.boxes) tables others (named_shown kinds p kept) fit.count fits.count all_isomorphic in
     let same : (flat_map rung_line one.lines ++ table_lines shared texts tables) ++ end ≡ (flat_map rung_line other.lines ++ table_lines shared texts others) ++ end = sym one.whole ∙ other.whole in
     let lines : table_lines shared texts tables ≡ table_lines shared texts others =
     same_ends (flat_map rung_line one.lines) (table_lines shared texts tables) (flat_map rung_line other.lines) (table_lines shared texts others) long

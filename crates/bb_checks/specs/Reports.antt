@@ -5,7 +5,7 @@ use Rattle.std.specs.declared.alloc.Global.{Global}
 use Rattle.bb_bits.specs.Tables.{TableBits}
 use Rattle.bb_cnf.specs.Lines.{proof_lines}
 use Rattle.bb_net.specs.declared.pair.OutName.{OutName}
-use Rattle.bb_net.specs.Kinds.{shown}
+use Rattle.bb_net.specs.Kinds.{representatives}
 use Rattle.bb_net.specs.Pairs.{BoxTexts, NetPair}
 use Rattle.bb_checks.specs.declared.line.Evidence.{Evidence}
 use Rattle.bb_checks.specs.declared.line.Evidence.TheVariants.{Vector, NoChoices, Refutation}
@@ -63,7 +63,7 @@ evidence_text p o (Refutation proof) = if o.proof then proof_text proof else []
 abbrev pub details : NetPair → Options → CheckResult → List ℕ
 details p o (Error evidence) = evidence_text p o evidence
 details p o Nothing = []
-details p o (Repair tables) = table_lines o.shared (shown p.kinds p.boxes) tables.items
+details p o (Repair tables) = table_lines o.shared (representatives p.kinds p.boxes) tables.items
 details p o Nodes = []
 details p o Clauses = []
 details p o Wide = []

@@ -11,9 +11,9 @@ use Rattle.bb_options.specs.declared.options.Options.{Options}
 use Rattle.bb_options.specs.declared.rung.Rung.{Rung}
 use Rattle.bb_options.specs.declared.rung.Rung.TheVariants.{Ternary, Symbolic, Local, Output, Input, Expand}
 use Rattle.bb_options.specs.Rungs.{requested_rungs}
-use Rattle.bb_net.specs.Conditions.{IsKnownWrong, MayBeRight, MayBeRightAmong, IsFirstHit, MayBeRightEverywhere, IsAlwaysWrong, EachSometimesRight, HasAlwaysWrong, AllSometimesRight}
+use Rattle.bb_net.specs.Conditions.{IsKnownWrong, MayBeRight, MayBeRightAmong, IsFirstHit, MayBeRightEverywhere, IsAlwaysWrong, EachSometimesRight, AlwaysSomeWrongAt, AllRightTogether}
 use Rattle.bb_net.specs.Completions.{HaveSmallTables, table_bits}
-use Rattle.bb_net.specs.Kinds.{shown}
+use Rattle.bb_net.specs.Kinds.{representatives}
 use Rattle.bb_net.specs.Pairs.{NetPair, BoxTexts}
 use Rattle.bb_net.specs.Values.{table_at}
 use Rattle.bb_tern.specs.Patterns.{patterns}
@@ -65,8 +65,8 @@ pub record CanBeReported (p : NetPair) (found : Found) : Type 0 where
 
 -- tables can be reported: one for each sharing class of boxes of the pair, with as many outputs as its first box has
 pub record TablesCanBeReported (p : NetPair) (tables : List TableBits) : Type 0 where
-  pub count : length tables ≡ length (shown p.kinds p.boxes)
-  pub outputs : (k : ℕ) → k < length tables → (table_at tables k).outputs ≡ length (texts_at (shown p.kinds p.boxes) k).outs
+  pub count : length tables ≡ length (representatives p.kinds p.boxes)
+  pub outputs : (k : ℕ) → k < length tables → (table_at tables k).outputs ≡ length (texts_at (representatives p.kinds p.boxes) k).outs
 
 abbrev pub EvidenceCanBeReported : NetPair → Evidence → Type 0
 EvidenceCanBeReported p (Vector found) = CanBeReported p found
@@ -101,7 +101,7 @@ IsFirstOf p P N = FindsOutput p.imp P N
 
 -- the least vector at which all outputs are never right together
 abbrev pub IsLeastOf : NetPair → Found → Type 0
-IsLeastOf p = FindsVector p.imp (HasAlwaysWrong p.spec p.imp)
+IsLeastOf p = FindsVector p.imp (AlwaysSomeWrongAt p.spec p.imp)
 
 -- the possible results of the check by choices: with at most one box, and with nested boxes, it finds tables, unless
 -- they have too many bits
@@ -111,15 +111,15 @@ pub data MayChoose (p : NetPair) (o : Options) (check_result : CheckResult) : Ty
 
 -- the possible results of the expansion; where the clauses over all vectors are too many, it may decide nevertheless
 pub data MayExpand (p : NetPair) (o : Options) (check_result : CheckResult) : Type 0 where
-  TooWide : 2 ^ 24 < table_bits (shown p.kinds p.imp.boxes) → check_result ≡ Wide → MayExpand p o check_result
-  ClausesTooMany : HaveSmallTables (shown p.kinds p.imp.boxes) → NeedsMoreClauses p.spec p.imp p.kinds o.clauses → check_result ≡ Clauses → MayExpand p o check_result
-  Decided : HaveSmallTables (shown p.kinds p.imp.boxes) → (answer : Expanded) → IsExpanded p.spec p.imp p.kinds o.clauses answer → check_result ≡ reported_expanded answer → MayExpand p o check_result
+  TooWide : 2 ^ 24 < table_bits (representatives p.kinds p.imp.boxes) → check_result ≡ Wide → MayExpand p o check_result
+  ClausesTooMany : HaveSmallTables (representatives p.kinds p.imp.boxes) → NeedsMoreClauses p.spec p.imp p.kinds o.clauses → check_result ≡ Clauses → MayExpand p o check_result
+  Decided : HaveSmallTables (representatives p.kinds p.imp.boxes) → (answer : Expanded) → IsExpanded p.spec p.imp p.kinds o.clauses answer → check_result ≡ reported_expanded answer → MayExpand p o check_result
 
 abbrev pub MayReport : NetPair → Options → Rung → CheckResult → Type 0
 MayReport p o Ternary check_result = MayHit p o check_result
 MayReport p o Symbolic check_result = MayFind o (symbolic_functions p.spec p.imp) (IsFirstOf p (IsKnownWrong p.spec p.imp) (MayBeRight p.spec p.imp)) (MayBeRightEverywhere p.spec p.imp) check_result
 MayReport p o Local check_result = MayFind o (local_functions p.spec p.imp) (IsFirstOf p (IsAlwaysWrong p.spec p.imp) (IsSometimesRight p.spec p.imp)) (EachSometimesRight p.spec p.imp) check_result
-MayReport p o Output check_result = MayFind o (output_functions p.spec p.imp) (IsLeastOf p) (AllSometimesRight p.spec p.imp) check_result
+MayReport p o Output check_result = MayFind o (output_functions p.spec p.imp) (IsLeastOf p) (AllRightTogether p.spec p.imp) check_result
 MayReport p o Input check_result = MayChoose p o check_result
 MayReport p o Expand check_result = MayExpand p o check_result
 

@@ -77,7 +77,8 @@ fn output_reports(alloc: Global, pair: &Pair, options: &Options) -> Result<Check
 fn chosen(alloc: Global, pair: &Pair, options: &Options) -> Result<InputAnswer, RungFault>
     requires bounds { AreBounds options.now }
     ensures answer { IfOk result (IsInputAnswer pair.now.spec pair.now.imp pair.now.kinds) }
-    ensures nodes { IsErrOf result RungFault.Nodes → AreTooMany options.now (input_functions pair.now.spec pair.now.imp) }
+    ensures nodes { IsErrOf result RungFault.Nodes
+        → AreTooMany options.now (input_functions pair.now.spec pair.now.imp) }
     ensures within { AreTooMany options.now (input_functions pair.now.spec pair.now.imp) → OnOk result ⊥ }
 {
     singles_answer_the_same();
@@ -166,7 +167,8 @@ fn is_requested(options: &Options, rung: Rung) -> bool
 }
 
 fn push_requested(options: &Options, rung: Rung, list: &mut Vec<Rung>) -> Result<(), NoMemory>
-    ensures pushed { OnOk result (list.new.items ≡ list.old.items ++ (if is_requested options.now rung then rung ∷ [] else [])) }
+    ensures pushed { OnOk result (list.new.items
+        ≡ list.old.items ++ (if is_requested options.now rung then rung ∷ [] else [])) }
 {
     if is_requested(options, rung) {
         list.push(rung)?;

@@ -5,7 +5,11 @@
 //! cells.
 
 ghost use Rattle.bb_checks.specs.Inside.IsomorphismLaws.{PairLaws};
-ghost use Rattle.bb_checks.specs.Laws.IsomorphicPairs.{IsomorphicPairsAreLeftOpen, IsomorphicPairsStayOpen, IsomorphicPairsDependTheSame, IsomorphicPairsAreDecided, IsomorphicPairsAreReported, IsomorphicPairsHaveOneReport, IsomorphicPairsHaveOneBeginning, IsomorphicClimbsReportTheSame, IsomorphicPairsNeverClash};
+ghost use Rattle.bb_checks.specs.Laws.IsomorphicPairs.{IsomorphicPairsAreLeftOpen, IsomorphicPairsStayOpen};
+ghost use Rattle.bb_checks.specs.Laws.IsomorphicPairs.{IsomorphicPairsDependTheSame, IsomorphicPairsAreDecided};
+ghost use Rattle.bb_checks.specs.Laws.IsomorphicPairs.{IsomorphicPairsAreReported, IsomorphicPairsHaveOneReport};
+ghost use Rattle.bb_checks.specs.Laws.IsomorphicPairs.{IsomorphicPairsHaveOneBeginning, IsomorphicClimbsReportTheSame};
+ghost use Rattle.bb_checks.specs.Laws.IsomorphicPairs.{IsomorphicPairsNeverClash};
 
 use crate::kind_laws::kind_laws;
 use crate::laws::{errors_exclude_tables, repairs_make_equivalent};

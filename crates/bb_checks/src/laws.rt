@@ -4,9 +4,13 @@
 //! one condition for both, a search among vectors could decide no such pair. What decides is a third condition, so that
 //! completeness is a law of its own: a check that decides leaves nothing open.
 
-ghost use Rattle.bb_checks.specs.Laws.{ErrorsExcludeTables, RepairsMakeEquivalent, GivenTablesMakeEquivalent, LinesFixTables, TextsFixTables, ClimbsAreReported, ClimbsLeaveOpen, StayingOpenIsReported, StayingOpenIsLeftOpen, TablesAreGivenOnce, LeftOpenStaysOpen, DecidersDecide, ErrorsStay, ClimbsReportTheSame};
+ghost use Rattle.bb_checks.specs.Laws.{ErrorsExcludeTables, RepairsMakeEquivalent, GivenTablesMakeEquivalent};
+ghost use Rattle.bb_checks.specs.Laws.{LinesFixTables, TextsFixTables, ClimbsAreReported, ClimbsLeaveOpen};
+ghost use Rattle.bb_checks.specs.Laws.{StayingOpenIsReported, StayingOpenIsLeftOpen, TablesAreGivenOnce};
+ghost use Rattle.bb_checks.specs.Laws.{LeftOpenStaysOpen, DecidersDecide, ErrorsStay, ClimbsReportTheSame};
 ghost use Rattle.bb_checks.specs.Laws.SomeClimbs.{ClimbsExist};
-ghost use Rattle.bb_checks.specs.Laws.ShownVectors.{FoundVectorsAreMistakes, InputLinesFixVectors, ProofTextsFixVectors};
+ghost use Rattle.bb_checks.specs.Laws.ShownVectors.{FoundVectorsAreMistakes, InputLinesFixVectors};
+ghost use Rattle.bb_checks.specs.Laws.ShownVectors.{ProofTextsFixVectors};
 
 use crate::isomorphism_laws::isomorphic_climbs_report_the_same;
 use crate::kind_laws::kind_laws;

@@ -5,7 +5,9 @@
 
 ghost use Rattle.std.specs.Prelude.{◌≡◌, ◌++◌, ◌<◌, length, zip, option_map, Option, Some, All, IfOk, IfSome, OnOk};
 ghost use Rattle.std.specs.List.{flat_map};
-ghost use Rattle.bb_checks.specs.Reports.{result_name, output_line, reported_output, printed_input, input_line, evidence_text, details, rung_line, check_line_text, verdict_line, verdict_of, report_text};
+ghost use Rattle.bb_checks.specs.Reports.{result_name, output_line, reported_output, printed_input, input_line};
+ghost use Rattle.bb_checks.specs.Reports.{evidence_text, details, rung_line, check_line_text, verdict_line, verdict_of};
+ghost use Rattle.bb_checks.specs.Reports.{report_text};
 ghost use Rattle.bb_checks.specs.Rungs.{CanBeReported, EvidenceCanBeReported, ResultCanBeReported};
 
 use crate::bits::push_bit;
@@ -61,7 +63,9 @@ fn push_reported(text: &mut Vec<u8>, pair: &Pair, output: Option<u32>) -> Result
 
 fn push_found(text: &mut Vec<u8>, pair: &Pair, found: &Found) -> Result<(), NoMemory>
     requires reportable { CanBeReported pair.now found.now }
-    ensures text { OnOk result (text.new.items ≡ text.old.items ++ (reported_output pair.now.outs found.now.output ++ input_line pair.now.ins found.now.input.items)) }
+    ensures text { OnOk result (text.new.items
+        ≡ text.old.items
+        ++ (reported_output pair.now.outs found.now.output ++ input_line pair.now.ins found.now.input.items)) }
 {
     push_reported(text, pair, found.output)?;
     text.extend_from_slice(b"input")?;

@@ -5,7 +5,7 @@
 ghost use Rattle.std.specs.Prelude.{◌≡◌, ◌≤◌, ◌<◌, ◌++◌, ℕ, All, length, map, zip, OnOk};
 ghost use Rattle.std.specs.List.{flat_map};
 ghost use Rattle.bb_bits.specs.Tables.{IsTable};
-ghost use Rattle.bb_net.specs.Kinds.{shown};
+ghost use Rattle.bb_net.specs.Kinds.{representatives};
 ghost use Rattle.bb_net.specs.Values.{table_at};
 ghost use Rattle.bb_checks.specs.Rungs.{TablesCanBeReported, texts_at};
 ghost use Rattle.bb_checks.specs.TableLines.{printed_bit, pin_column, table_line, printed_pin, box_lines, table_lines};
@@ -35,7 +35,8 @@ fn push_pin(
     pin: u32,
 ) -> Result<(), NoMemory>
     requires pin { pin < table.now.outputs }
-    ensures text { OnOk result (text.new.items ≡ text.old.items ++ table_line key.now name.now (pin_column table.now pin)) }
+    ensures text { OnOk result (text.new.items
+        ≡ text.old.items ++ table_line key.now name.now (pin_column table.now pin)) }
 {
     text.extend_from_slice(b"table ")?;
     text.extend_from_slice(key.bytes())?;
@@ -73,8 +74,10 @@ fn push_boxes(
 ) -> Result<(), NoMemory>
     requires there { All (λ b. b < length boxes.now) places.now }
     requires count { length tables.now ≡ length places.now }
-    requires outputs { (k : ℕ) → k < length tables.now → (table_at tables.now k).outputs ≡ length (texts_at (map (texts_at boxes.now) places.now) k).outs }
-    ensures text { OnOk result (text.new.items ≡ text.old.items ++ table_lines shared (map (texts_at boxes.now) places.now) tables.now) }
+    requires outputs { (k : ℕ) → k < length tables.now
+        → (table_at tables.now k).outputs ≡ length (texts_at (map (texts_at boxes.now) places.now) k).outs }
+    ensures text { OnOk result (text.new.items
+        ≡ text.old.items ++ table_lines shared (map (texts_at boxes.now) places.now) tables.now) }
 {
     for (k, b) in places.iter().enumerate() {
         push_box(text, shared, &boxes[*b as usize], &tables[k])?;
@@ -90,7 +93,8 @@ pub(crate) fn push_tables(
     tables: &[Table],
 ) -> Result<(), NoMemory>
     requires reported { TablesCanBeReported pair.now tables.now }
-    ensures text { OnOk result (text.new.items ≡ text.old.items ++ table_lines shared (shown pair.now.kinds pair.now.boxes) tables.now) }
+    ensures text { OnOk result (text.new.items
+        ≡ text.old.items ++ table_lines shared (representatives pair.now.kinds pair.now.boxes) tables.now) }
 {
     kind_laws();
     let firsts = pair.first_boxes(*text.allocator())?;

@@ -71,7 +71,8 @@ fn any_repair(lines: &[Line]) -> bool
 }
 
 fn tables_of_line(line: &Line) -> Option<&[Table]>
-    ensures some { IfSome result (λ tables. (given : Vec TableBits Global) × (line.now.check_result ≡ Repair given) × (given.items ≡ tables.now)) }
+    ensures some { IfSome result (λ tables.
+        (given : Vec TableBits Global) × (line.now.check_result ≡ Repair given) × (given.items ≡ tables.now)) }
     ensures none { IfNone result (is_repair line.now ≡ false) }
 {
     match &line.check_result {

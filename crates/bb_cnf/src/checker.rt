@@ -1,7 +1,8 @@
 //! Follows the chains of a refutation, one resolution after another. The answer is exact in both directions: it accepts
 //! what is defined as a refutation and nothing else, so a rejection is never an artefact of the check.
 
-ghost use Rattle.std.specs.Prelude.{◌-◌, [], length, IsSomeAnd, IfSome, IfNone, OnSome, ◌≡◌, ◌↔◌, ◌++◌, false, true, map, slice_get, option_map, Some, None, IfOk, OnOk, IsTrue, List};
+ghost use Rattle.std.specs.Prelude.{◌-◌, [], length, IsSomeAnd, IfSome, IfNone, OnSome, ◌≡◌, ◌↔◌, ◌++◌, false, true};
+ghost use Rattle.std.specs.Prelude.{map, slice_get, option_map, Some, None, IfOk, OnOk, IsTrue, List};
 ghost use Rattle.smallvec.specs.SmallVec.{SmallVec as Items};
 ghost use Rattle.bb_cnf.specs.declared.clauses.Lit.{Lit};
 ghost use Rattle.bb_cnf.specs.Clauses.{literals_of, lists_of};
@@ -20,7 +21,8 @@ fn clause<'a>(
     made: &'a [SmallVec<Lit, 4>],
     number: u64,
 ) -> Option<&'a [Lit]>
-    ensures { option_map (λ lits. literals_of lits.now) result ≡ slice_get (sets_of given.now ++ sets_of made.now) number }
+    ensures { option_map (λ lits. literals_of lits.now) result
+        ≡ slice_get (sets_of given.now ++ sets_of made.now) number }
 {
     let place = number as usize;
     let found = if place < given.len() {
@@ -39,8 +41,10 @@ fn resolve_along(
     rest: &[(u64, u32)],
 ) -> Result<bool, NoMemory>
     requires { AreListed so_far.old }
-    ensures made { IfOk result (λ yes. yes ≡ true → chain (sets_of given.now ++ sets_of made.now) (held so_far.old) rest.now ≡ Some (held so_far.new)) }
-    ensures none { IfOk result (λ yes. yes ≡ false → chain (sets_of given.now ++ sets_of made.now) (held so_far.old) rest.now ≡ None) }
+    ensures made { IfOk result (λ yes. yes ≡ true
+        → chain (sets_of given.now ++ sets_of made.now) (held so_far.old) rest.now ≡ Some (held so_far.new)) }
+    ensures none { IfOk result (λ yes.
+        yes ≡ false → chain (sets_of given.now ++ sets_of made.now) (held so_far.old) rest.now ≡ None) }
     ensures listed { OnOk result (AreListed so_far.new) }
 {
     for (number, var) in rest {
@@ -84,7 +88,8 @@ fn make(
 ) -> Result<Option<SmallVec<Lit, 4>>, NoMemory>
     requires empty { (l : Lit) → held so_far.old l ≡ false }
     requires listed { AreListed so_far.old }
-    ensures some { IfOk result (λ next. IfSome next (λ clause. made_by (sets_of given.now ++ sets_of made.now) step.now ≡ Some (literals_of clause.items))) }
+    ensures some { IfOk result (λ next. IfSome next (λ clause.
+        made_by (sets_of given.now ++ sets_of made.now) step.now ≡ Some (literals_of clause.items))) }
     ensures none { IfOk result (λ next. IfNone next (made_by (sets_of given.now ++ sets_of made.now) step.now ≡ None)) }
     ensures empty { IfOk result (λ next. OnSome next ((l : Lit) → held so_far.new l ≡ false)) }
     ensures listed { IfOk result (λ next. OnSome next (AreListed so_far.new)) }

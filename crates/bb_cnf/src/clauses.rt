@@ -51,7 +51,8 @@ impl Cnf {
     /// The new clause has the next number. Numbers of earlier clauses stay, since steps name clauses by number.
     pub fn push(&mut self, clause: SmallVec<Lit, 4>) -> Result<(), NoMemory>
         requires { All (λ l. (1 ≤ l.var) × (l.var ≤ self.old.vars)) clause.items }
-        ensures ok { OnOk result (self.new ≡ record { vars = self.old.vars; clauses = self.old.clauses ++ clause.items ∷ [] }) }
+        ensures ok { OnOk result (self.new
+            ≡ record { vars = self.old.vars; clauses = self.old.clauses ++ clause.items ∷ [] }) }
         ensures err { OnErr result (self.new ≡ self.old) }
     {
         self.clauses.push(clause)?;

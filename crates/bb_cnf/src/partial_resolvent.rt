@@ -108,7 +108,8 @@ impl PartialResolvent {
 
     fn put_unless(&mut self, lit: Lit, but: Lit) -> Result<(), NoMemory>
         requires { AreListed self.old }
-        ensures held { OnOk result ((l : Lit) → held self.new l ≡ (held self.old l || (same_literal lit l && not (same_literal but l)))) }
+        ensures held { OnOk result ((l : Lit)
+            → held self.new l ≡ (held self.old l || (same_literal lit l && not (same_literal but l)))) }
         ensures listed { OnOk result (AreListed self.new) }
     {
         if lit == but {
@@ -119,7 +120,8 @@ impl PartialResolvent {
 
     fn put_others(&mut self, lits: &[Lit], but: Lit) -> Result<(), NoMemory>
         requires { AreListed self.old }
-        ensures held { OnOk result ((l : Lit) → held self.new l ≡ union (held self.old) (without_literal (literals_of lits.now) but) l) }
+        ensures held { OnOk result ((l : Lit)
+            → held self.new l ≡ union (held self.old) (without_literal (literals_of lits.now) but) l) }
         ensures listed { OnOk result (AreListed self.new) }
     {
         for lit in lits {
@@ -130,7 +132,8 @@ impl PartialResolvent {
 
     fn replace(&mut self, own: Lit, named: &[Lit], other: Lit) -> Result<(), NoMemory>
         requires { AreListed self.old }
-        ensures held { OnOk result ((l : Lit) → held self.new l ≡ resolvent (held self.old) (literals_of named.now) own other l) }
+        ensures held { OnOk result ((l : Lit)
+            → held self.new l ≡ resolvent (held self.old) (literals_of named.now) own other l) }
         ensures listed { OnOk result (AreListed self.new) }
     {
         self.take_out(own);
@@ -141,8 +144,10 @@ impl PartialResolvent {
     /// signs, the resolvent loses the positive literal and the clause the negated one.
     pub fn resolve(&mut self, named: &[Lit], var: u32) -> Result<bool, NoMemory>
         requires { AreListed self.old }
-        ensures resolved { IfOk result (λ yes. yes ≡ true → resolution (held self.old) (literals_of named.now) var ≡ Some (held self.new)) }
-        ensures none { IfOk result (λ yes. yes ≡ false → resolution (held self.old) (literals_of named.now) var ≡ None) }
+        ensures resolved { IfOk result (λ yes.
+            yes ≡ true → resolution (held self.old) (literals_of named.now) var ≡ Some (held self.new)) }
+        ensures none { IfOk result (λ yes.
+            yes ≡ false → resolution (held self.old) (literals_of named.now) var ≡ None) }
         ensures listed { OnOk result (AreListed self.new) }
     {
         let positive = Lit { var, neg: false };

@@ -3,7 +3,8 @@
 
 ghost use Rattle.std.specs.Prelude.{◌≡◌, ◌++◌, ◌+◌, ◌<◌, ◌≤◌, ◌^◌, decimal, flat_map, length, OnOk, OnErr};
 ghost use Rattle.bb_cnf.specs.Clauses.{lists_of};
-ghost use Rattle.bb_cnf.specs.Lines.{literal_text, clause_line, pair_text, step_line, clause_lines, step_lines, proof_lines};
+ghost use Rattle.bb_cnf.specs.Lines.{literal_text, clause_line, pair_text, step_line, clause_lines, step_lines};
+ghost use Rattle.bb_cnf.specs.Lines.{proof_lines};
 ghost use Rattle.bb_cnf.specs.Inside.Printed.{IsKept};
 
 use crate::{Cnf, Lit, NoMemory, Refutation, Step};
@@ -125,7 +126,8 @@ fn put_lines(
 /// The lines of the clauses, then those of the steps, in the order of their numbers. After an error the text is as
 /// before.
 pub fn print(cnf: &Cnf, refutation: &Refutation, into: &mut Vec<u8>) -> Result<(), NoMemory>
-    ensures ok { OnOk result (into.new.items ≡ into.old.items ++ proof_lines cnf.now.clauses refutation.now.steps.items) }
+    ensures ok { OnOk result (into.new.items
+        ≡ into.old.items ++ proof_lines cnf.now.clauses refutation.now.steps.items) }
     ensures err { OnErr result (into.new.items ≡ into.old.items) }
 {
     let before = into.len();

@@ -27,7 +27,8 @@ pub fn make_node(store: &mut Store, var: u32, lo: Ref, hi: Ref) -> Result<Ref, D
     requires hi { IsBelow store.old var hi.0 }
     ensures ok { IfOk result (λ r. Gives store.old store.new var lo.0 hi.0 r.0) }
     ensures adds { IfOk result (λ r. Adds store.old store.new (branch store.old var lo.0 hi.0) r.0) }
-    ensures full { IsErrOf result DdFault.Full → IsNew store.old var lo.0 hi.0 × (length store.old.nodes ≡ store.old.limit) }
+    ensures full { IsErrOf result DdFault.Full
+        → IsNew store.old var lo.0 hi.0 × (length store.old.nodes ≡ store.old.limit) }
     ensures too_many { IsErrOf result DdFault.Full → IsTooMany store.old (branch store.old var lo.0 hi.0) }
     ensures err { OnErr result (store.new ≡ store.old) }
     ensures kept { Keeps store.old store.new }
@@ -65,8 +66,10 @@ pub fn apply(store: &mut Store, cache: &mut LruCache<Key, Ref>, call: Call) -> R
     requires f { IsRef store.old call.f.0 }
     requires g { IsRef store.old call.g.0 }
     requires h { IsRef store.old call.h.0 }
-    ensures ok { IfOk result (λ r. Adds store.old store.new (result_table store.old (value_of call.operation) call.f.0 call.g.0 call.h.0) r.0) }
-    ensures full { IsErrOf result DdFault.Full → IsTooMany store.old (result_table store.old (value_of call.operation) call.f.0 call.g.0 call.h.0) }
+    ensures ok { IfOk result (λ r.
+        Adds store.old store.new (result_table store.old (value_of call.operation) call.f.0 call.g.0 call.h.0) r.0) }
+    ensures full { IsErrOf result DdFault.Full
+        → IsTooMany store.old (result_table store.old (value_of call.operation) call.f.0 call.g.0 call.h.0) }
     ensures leaves { Leaves store.old store.new cache.old cache.new }
 {
     truth::tables();
@@ -120,8 +123,10 @@ pub fn operate(
     requires f { IsRef store.old f.0 }
     requires g { IsRef store.old g.0 }
     requires h { IsRef store.old h.0 }
-    ensures ok { IfOk result (λ r. Adds store.old store.new (result_table store.old (value_of operation) f.0 g.0 h.0) r.0) }
-    ensures full { IsErrOf result DdFault.Full → IsTooMany store.old (result_table store.old (value_of operation) f.0 g.0 h.0) }
+    ensures ok { IfOk result (λ r.
+        Adds store.old store.new (result_table store.old (value_of operation) f.0 g.0 h.0) r.0) }
+    ensures full { IsErrOf result DdFault.Full
+        → IsTooMany store.old (result_table store.old (value_of operation) f.0 g.0 h.0) }
     ensures leaves { Leaves store.old store.new cache.old cache.new }
 {
     apply(store, cache, Call { operation, f, g, h })

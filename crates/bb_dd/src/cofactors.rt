@@ -42,9 +42,12 @@ pub fn first_cofactors(store: &Store, f: Ref, g: Ref, h: Ref) -> Cofactors
     requires g { IsRef store.now g.0 }
     requires h { IsRef store.now h.0 }
     ensures var { result.var ≡ min (min (top_of store.now f.0) (top_of store.now g.0)) (top_of store.now h.0) }
-    ensures f { (result.f.0.0 ≡ lo_seen result.var f.0 (view_of store.now f.0)) × (result.f.1.0 ≡ hi_seen result.var f.0 (view_of store.now f.0)) }
-    ensures g { (result.g.0.0 ≡ lo_seen result.var g.0 (view_of store.now g.0)) × (result.g.1.0 ≡ hi_seen result.var g.0 (view_of store.now g.0)) }
-    ensures h { (result.h.0.0 ≡ lo_seen result.var h.0 (view_of store.now h.0)) × (result.h.1.0 ≡ hi_seen result.var h.0 (view_of store.now h.0)) }
+    ensures f { (result.f.0.0 ≡ lo_seen result.var f.0 (view_of store.now f.0))
+        × (result.f.1.0 ≡ hi_seen result.var f.0 (view_of store.now f.0)) }
+    ensures g { (result.g.0.0 ≡ lo_seen result.var g.0 (view_of store.now g.0))
+        × (result.g.1.0 ≡ hi_seen result.var g.0 (view_of store.now g.0)) }
+    ensures h { (result.h.0.0 ≡ lo_seen result.var h.0 (view_of store.now h.0))
+        × (result.h.1.0 ≡ hi_seen result.var h.0 (view_of store.now h.0)) }
 {
     let vars = store.vars();
     let at_f = store.view(f);

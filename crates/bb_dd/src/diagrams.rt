@@ -1,7 +1,8 @@
 //! Store and cache together. A diagram's meaning is its truth table over all variables, so the contracts of operations
 //! are equations of tables, and canonicity makes equivalence a comparison of numbers.
 
-ghost use Rattle.std.specs.Prelude.{◌≡◌, ◌<◌, ◌≤◌, ℕ, [], ◌&&◌, ◌||◌, Some, length, IfOk, OnOk, OnErr, IsErrOf, IfSome, IfNone, Contains};
+ghost use Rattle.std.specs.Prelude.{◌≡◌, ◌<◌, ◌≤◌, ℕ, [], ◌&&◌, ◌||◌, Some, length, IfOk, OnOk, OnErr, IsErrOf, IfSome};
+ghost use Rattle.std.specs.Prelude.{IfNone, Contains};
 ghost use Rattle.std.specs.Map.{lookup};
 ghost use Rattle.lru.specs.LruCache.{lru_cache, promoted, put_entries};
 ghost use Rattle.bb_bits.specs.Truth.{variable, complement_of_table, joined_tables, chosen, quantified, truth_at};
@@ -49,7 +50,8 @@ impl Diagrams {
         requires limit { limit ≤ 50000000 }
         requires cache_least { 1 ≤ cache }
         requires cache_most { cache ≤ 1048576 }
-        ensures ok { IfOk result (λ d. d ≡ record { store = record { vars = vars; limit = limit; nodes = [] }; entries = []; capacity = cache }) }
+        ensures ok { IfOk result (λ d.
+            d ≡ record { store = record { vars = vars; limit = limit; nodes = [] }; entries = []; capacity = cache }) }
     {
         let store = Store::start(alloc, vars, limit)?;
         match NonZeroUsize::new(cache as usize) {
@@ -82,7 +84,8 @@ impl Diagrams {
     /// truth table are the same Ref.
     pub fn is_canonical(&self)
         ensures sound { IsSound self.now }
-        ensures refs { (r q : ℕ) → IsRef self.now.store r → IsRef self.now.store q → truth_of self.now.store r ≡ truth_of self.now.store q → r ≡ q }
+        ensures refs { (r q : ℕ) → IsRef self.now.store r → IsRef self.now.store q
+            → truth_of self.now.store r ≡ truth_of self.now.store q → r ≡ q }
     {
         self.store.is_canonical();
     }
@@ -108,8 +111,10 @@ impl Diagrams {
         requires hi { IsBelow self.old.store var hi.0 }
         ensures ok { IfOk result (λ r. Gives self.old.store self.new.store var lo.0 hi.0 r.0) }
         ensures adds { IfOk result (λ r. Adds self.old.store self.new.store (branch self.old.store var lo.0 hi.0) r.0) }
-        ensures full { IsErrOf result DdFault.Full → IsNew self.old.store var lo.0 hi.0 × (length self.old.store.nodes ≡ self.old.store.limit) }
-        ensures too_many { IsErrOf result DdFault.Full → IsTooMany self.old.store (branch self.old.store var lo.0 hi.0) }
+        ensures full { IsErrOf result DdFault.Full
+            → IsNew self.old.store var lo.0 hi.0 × (length self.old.store.nodes ≡ self.old.store.limit) }
+        ensures too_many { IsErrOf result DdFault.Full
+            → IsTooMany self.old.store (branch self.old.store var lo.0 hi.0) }
         ensures err { OnErr result (self.new.store ≡ self.old.store) }
         ensures entries { self.new.entries ≡ self.old.entries }
         ensures capacity { self.new.capacity ≡ self.old.capacity }
@@ -136,8 +141,10 @@ impl Diagrams {
     /// Has as many nodes as `f`: there are no complement edges.
     pub fn not(&mut self, f: Ref) -> Result<Ref, DdFault>
         requires { IsRef self.old.store f.0 }
-        ensures ok { IfOk result (λ r. Adds self.old.store self.new.store (complement_of_table (truth_of self.old.store f.0)) r.0) }
-        ensures full { IsErrOf result DdFault.Full → IsTooMany self.old.store (complement_of_table (truth_of self.old.store f.0)) }
+        ensures ok { IfOk result (λ r.
+            Adds self.old.store self.new.store (complement_of_table (truth_of self.old.store f.0)) r.0) }
+        ensures full { IsErrOf result DdFault.Full
+            → IsTooMany self.old.store (complement_of_table (truth_of self.old.store f.0)) }
         ensures kept { Keeps self.old.store self.new.store }
         ensures entries { KeepsEntries self.old.entries self.new.entries }
         ensures capacity { self.new.capacity ≡ self.old.capacity }
@@ -149,8 +156,11 @@ impl Diagrams {
     pub fn and(&mut self, f: Ref, g: Ref) -> Result<Ref, DdFault>
         requires f { IsRef self.old.store f.0 }
         requires g { IsRef self.old.store g.0 }
-        ensures ok { IfOk result (λ r. Adds self.old.store self.new.store (joined_tables ◌&&◌ (truth_of self.old.store f.0) (truth_of self.old.store g.0)) r.0) }
-        ensures full { IsErrOf result DdFault.Full → IsTooMany self.old.store (joined_tables ◌&&◌ (truth_of self.old.store f.0) (truth_of self.old.store g.0)) }
+        ensures ok { IfOk result (λ r. Adds self.old.store self.new.store
+            (joined_tables ◌&&◌ (truth_of self.old.store f.0) (truth_of self.old.store g.0)) r.0) }
+        ensures full { IsErrOf result DdFault.Full
+            → IsTooMany self.old.store (joined_tables ◌&&◌ (truth_of self.old.store f.0)
+            (truth_of self.old.store g.0)) }
         ensures kept { Keeps self.old.store self.new.store }
         ensures entries { KeepsEntries self.old.entries self.new.entries }
         ensures capacity { self.new.capacity ≡ self.old.capacity }
@@ -162,8 +172,11 @@ impl Diagrams {
     pub fn or(&mut self, f: Ref, g: Ref) -> Result<Ref, DdFault>
         requires f { IsRef self.old.store f.0 }
         requires g { IsRef self.old.store g.0 }
-        ensures ok { IfOk result (λ r. Adds self.old.store self.new.store (joined_tables ◌||◌ (truth_of self.old.store f.0) (truth_of self.old.store g.0)) r.0) }
-        ensures full { IsErrOf result DdFault.Full → IsTooMany self.old.store (joined_tables ◌||◌ (truth_of self.old.store f.0) (truth_of self.old.store g.0)) }
+        ensures ok { IfOk result (λ r. Adds self.old.store self.new.store
+            (joined_tables ◌||◌ (truth_of self.old.store f.0) (truth_of self.old.store g.0)) r.0) }
+        ensures full { IsErrOf result DdFault.Full
+            → IsTooMany self.old.store (joined_tables ◌||◌ (truth_of self.old.store f.0)
+            (truth_of self.old.store g.0)) }
         ensures kept { Keeps self.old.store self.new.store }
         ensures entries { KeepsEntries self.old.entries self.new.entries }
         ensures capacity { self.new.capacity ≡ self.old.capacity }
@@ -175,8 +188,11 @@ impl Diagrams {
     pub fn xor(&mut self, f: Ref, g: Ref) -> Result<Ref, DdFault>
         requires f { IsRef self.old.store f.0 }
         requires g { IsRef self.old.store g.0 }
-        ensures ok { IfOk result (λ r. Adds self.old.store self.new.store (joined_tables xor (truth_of self.old.store f.0) (truth_of self.old.store g.0)) r.0) }
-        ensures full { IsErrOf result DdFault.Full → IsTooMany self.old.store (joined_tables xor (truth_of self.old.store f.0) (truth_of self.old.store g.0)) }
+        ensures ok { IfOk result (λ r. Adds self.old.store self.new.store
+            (joined_tables xor (truth_of self.old.store f.0) (truth_of self.old.store g.0)) r.0) }
+        ensures full { IsErrOf result DdFault.Full
+            → IsTooMany self.old.store (joined_tables xor (truth_of self.old.store f.0)
+            (truth_of self.old.store g.0)) }
         ensures kept { Keeps self.old.store self.new.store }
         ensures entries { KeepsEntries self.old.entries self.new.entries }
         ensures capacity { self.new.capacity ≡ self.old.capacity }
@@ -189,8 +205,11 @@ impl Diagrams {
         requires c { IsRef self.old.store c.0 }
         requires f { IsRef self.old.store f.0 }
         requires g { IsRef self.old.store g.0 }
-        ensures ok { IfOk result (λ r. Adds self.old.store self.new.store (chosen (truth_of self.old.store c.0) (truth_of self.old.store f.0) (truth_of self.old.store g.0)) r.0) }
-        ensures full { IsErrOf result DdFault.Full → IsTooMany self.old.store (chosen (truth_of self.old.store c.0) (truth_of self.old.store f.0) (truth_of self.old.store g.0)) }
+        ensures ok { IfOk result (λ r. Adds self.old.store self.new.store
+            (chosen (truth_of self.old.store c.0) (truth_of self.old.store f.0) (truth_of self.old.store g.0)) r.0) }
+        ensures full { IsErrOf result DdFault.Full
+            → IsTooMany self.old.store (chosen (truth_of self.old.store c.0) (truth_of self.old.store f.0)
+            (truth_of self.old.store g.0)) }
         ensures kept { Keeps self.old.store self.new.store }
         ensures entries { KeepsEntries self.old.entries self.new.entries }
         ensures capacity { self.new.capacity ≡ self.old.capacity }
@@ -204,10 +223,12 @@ impl Diagrams {
         requires v { v < self.old.store.vars }
         ensures some { IfSome result (λ r. Contains self.old.entries (Key.Quantify all f v, r)) }
         ensures none { IfNone result ((r : Ref) → Contains self.old.entries (Key.Quantify all f v, r) → ⊥) }
-        ensures right { IfSome result (λ r. IsRef self.old.store r.0 × (truth_of self.old.store r.0 ≡ quantified (quantifier all) v (truth_of self.old.store f.0))) }
+        ensures right { IfSome result (λ r. IsRef self.old.store r.0
+            × (truth_of self.old.store r.0 ≡ quantified (quantifier all) v (truth_of self.old.store f.0))) }
         ensures found { result ≡ lookup (⟦<Key as PartialEq>⟧.eq (Key.Quantify all f v)) self.old.entries }
         ensures store { self.new.store ≡ self.old.store }
-        ensures entries { self.new.entries ≡ promoted (⟦<Key as PartialEq>⟧.eq (Key.Quantify all f v)) self.old.entries }
+        ensures entries { self.new.entries
+            ≡ promoted (⟦<Key as PartialEq>⟧.eq (Key.Quantify all f v)) self.old.entries }
         ensures capacity { self.new.capacity ≡ self.old.capacity }
     {
         same_keys();
@@ -220,8 +241,11 @@ impl Diagrams {
         requires v { v < self.old.store.vars }
         requires r { IsRef self.old.store r.0 }
         requires right { truth_of self.old.store r.0 ≡ quantified (quantifier all) v (truth_of self.old.store f.0) }
-        ensures ok { OnOk result (self.new.entries ≡ put_entries ⟦<Key as PartialEq>⟧.eq (lru_cache self.old.entries self.old.capacity) (Key.Quantify all f v) r) }
-        ensures recalled { OnOk result (lookup (⟦<Key as PartialEq>⟧.eq (Key.Quantify all f v)) self.new.entries ≡ Some r) }
+        ensures ok { OnOk result (self.new.entries
+            ≡ put_entries ⟦<Key as PartialEq>⟧.eq (lru_cache self.old.entries self.old.capacity)
+            (Key.Quantify all f v) r) }
+        ensures recalled { OnOk result (lookup (⟦<Key as PartialEq>⟧.eq (Key.Quantify all f v)) self.new.entries
+            ≡ Some r) }
         ensures store { self.new.store ≡ self.old.store }
         ensures capacity { self.new.capacity ≡ self.old.capacity }
         ensures err { OnErr result (self.new ≡ self.old) }

@@ -1,7 +1,8 @@
 //! Terminal cases: results that are a leaf or an operand, seen without looking below. They come before the cache,
 //! so such calls take no entries.
 
-ghost use Rattle.std.specs.Prelude.{◌≡◌, ◌<◌, ◌≤◌, ℕ, Bool, true, false, not, ◌&&◌, ◌||◌, if◌then◌else◌, IfSome, IfNone};
+ghost use Rattle.std.specs.Prelude.{◌≡◌, ◌<◌, ◌≤◌, ℕ, Bool, true, false, not, ◌&&◌, ◌||◌, if◌then◌else◌, IfSome};
+ghost use Rattle.std.specs.Prelude.{IfNone};
 ghost use Rattle.bb_bits.specs.Bits.{xor};
 ghost use Rattle.bb_dd.specs.Inside.Operations.{value_of};
 ghost use Rattle.bb_dd.specs.Inside.Terminals.{Settles, IsGiven};

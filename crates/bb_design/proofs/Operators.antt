@@ -13,7 +13,7 @@ use Rattle.bb_names.specs.Ranges.{distance, range_width, place_of}
 use Rattle.bb_names.specs.Widths.{Ranges, own_width, Operand, first_at, second_at, word_step, words_at}
 use Rattle.bb_expr.specs.Lists.{extended, copies, bitwise}
 use Rattle.bb_expr.specs.Terms.{Term, Const, Net, Not, And, Or, Xor, Mux, terms}
-use Rattle.bb_expr.specs.Cells.{MadeTerms, made, makes, net_terms, inverted, operated, chained, word_made, fold_made, any_from, any_bit, selected, arm_made, arms_made, part_bits, part_cells}
+use Rattle.bb_expr.specs.Cells.{MadeTerms, made, makes, net_terms, complement_terms, operated, chained, word_made, fold_made, any_from, any_bit, selected, arm_made, arms_made, part_bits, part_cells}
 use Rattle.bb_word.specs.Folds.{is_odd, fold_circuit}
 use Rattle.bb_word.specs.Words.{word_circuit}
 use Rattle.bb_lemmas.proofs.Each.{each_reverse}
@@ -94,10 +94,10 @@ abbrev pub Sub : List Term → List Term → Type 0
 Sub xs ys = (t : Term) → Contains xs t → Contains ys t
 
 -- complements of bits, which are cells
-each_inverted : (cells : List Term) (bits : List Term) → Each bits (OpsIn cells) → Sub (inverted bits) cells → Each (inverted bits) (OpsIn cells)
+each_inverted : (cells : List Term) (bits : List Term) → Each bits (OpsIn cells) → Sub (complement_terms bits) cells → Each (complement_terms bits) (OpsIn cells)
 each_inverted cells [] all sub = each_nil (OpsIn cells)
-each_inverted cells (b ∷ bits) all sub = each_cons (OpsIn cells) (Not b) (inverted bits) (sub (Not b) (contains_here (Not b) (inverted bits)), all b (contains_here b bits))
-    (each_inverted cells bits (λ t has. all t (contains_there b bits t has)) (λ t has. sub t (contains_there (Not b) (inverted bits) t has)))
+each_inverted cells (b ∷ bits) all sub = each_cons (OpsIn cells) (Not b) (complement_terms bits) (sub (Not b) (contains_here (Not b) (complement_terms bits)), all b (contains_here b bits))
+    (each_inverted cells bits (λ t has. all t (contains_there b bits t has)) (λ t has. sub t (contains_there (Not b) (complement_terms bits) t has)))
 
 -- operators on two lists of bits, which are cells
 each_bitwise : (gate : Term → Term → Term) (cells : List Term) → ((a b : Term) → Contains cells (gate a b) → OpsIn cells a → OpsIn cells b → OpsIn cells (gate a b))
@@ -113,8 +113,8 @@ each_operated ops.And cells xs ys a b sub = each_bitwise And cells (λ x y has p
 each_operated ops.Or cells xs ys a b sub = each_bitwise Or cells (λ x y has p q. (has, p, q)) xs ys a b sub
 each_operated ops.Xor cells xs ys a b sub = each_bitwise Xor cells (λ x y has p q. (has, p, q)) xs ys a b sub
 each_operated ops.Xnor cells xs ys a b sub = each_inverted cells (bitwise Xor xs ys)
-    (each_bitwise Xor cells (λ x y has p q. (has, p, q)) xs ys a b (λ t has. sub t (Contains-append_left (bitwise Xor xs ys) (inverted (bitwise Xor xs ys)) t has)))
-    (λ t has. sub t (Contains-append_right (bitwise Xor xs ys) (inverted (bitwise Xor xs ys)) t has))
+    (each_bitwise Xor cells (λ x y has p q. (has, p, q)) xs ys a b (λ t has. sub t (Contains-append_left (bitwise Xor xs ys) (complement_terms (bitwise Xor xs ys)) t has)))
+    (λ t has. sub t (Contains-append_right (bitwise Xor xs ys) (complement_terms (bitwise Xor xs ys)) t has))
 
 any_from_ops : (cells : List Term) (a : Term) (bits : List Term) → OpsIn cells a → Each bits (OpsIn cells) → Sub (any_from a bits).1 cells → OpsIn cells (any_from a bits).0
 any_from_ops cells a [] first all sub = first
@@ -136,8 +136,8 @@ each_selected cells c (t ∷ ts) (e ∷ es) first a b sub = each_cons (OpsIn cel
 abbrev pub IsClosed : MadeTerms → Type 0
 IsClosed m = Each m.bits (OpsIn m.cells)
 
-closed_inverted : (o : Bool) (x : MadeTerms) → IsClosed x → IsClosed (if o then record { bits = inverted x.bits; cells = x.cells ++ inverted x.bits } else x)
-closed_inverted true x all = each_inverted (x.cells ++ inverted x.bits) x.bits (λ t has. ops_left x.cells (inverted x.bits) t (all t has)) (λ t has. Contains-append_right x.cells (inverted x.bits) t has)
+closed_inverted : (o : Bool) (x : MadeTerms) → IsClosed x → IsClosed (if o then record { bits = complement_terms x.bits; cells = x.cells ++ complement_terms x.bits } else x)
+closed_inverted true x all = each_inverted (x.cells ++ complement_terms x.bits) x.bits (λ t has. ops_left x.cells (complement_terms x.bits) t (all t has)) (λ t has. Contains-append_right x.cells (complement_terms x.bits) t has)
 closed_inverted false x all = all
 
 closed_chained : (op : Op) (a b : MadeTerms) → IsClosed a → IsClosed b → IsClosed (chained a b (operated op a.bits b.bits))

@@ -17,7 +17,7 @@ use Rattle.bb_names.specs.Sites.{Use, Site, Number, Whole, Used, with_inside, pa
 use Rattle.bb_names.specs.Widths.{Ranges, own_width, Operand, first_at, second_at, word_step, words_at}
 use Rattle.bb_expr.specs.Lists.{extended, copies, bitwise}
 use Rattle.bb_expr.specs.Terms.{Term, Const, Net, Not, And, Or, Xor, Mux, terms}
-use Rattle.bb_expr.specs.Cells.{MadeTerms, made, makes, net_terms, inverted, operated, chained, word_made, fold_made, any_from, any_bit, selected, arm_made, arms_made, part_bits, part_cells}
+use Rattle.bb_expr.specs.Cells.{MadeTerms, made, makes, net_terms, complement_terms, operated, chained, word_made, fold_made, any_from, any_bit, selected, arm_made, arms_made, part_bits, part_cells}
 use Rattle.bb_design.specs.Hierarchy.{Scope}
 use Rattle.bb_design.specs.NetBits.{Bit, bits_from, scope_bits, assigned, written_bits}
 use Rattle.bb_design.specs.GateFunctions.{on_terms, joins, joined, inverts, gate_gives, joined_after, joining_cells, gate_cells}
@@ -105,7 +105,7 @@ module _ (s : Scope) where
   extended_named : (w : ℕ) (bits : List Term) → Each bits Names → Each (extended (Const false) w bits) Names
   extended_named w bits all = each_append Names (replicate (w - length bits) (Const false)) bits (each_replicate Names (w - length bits) (Const false) tt) all
 
-  inverted_named : (bits : List Term) → Each bits Names → Each (inverted bits) Names
+  inverted_named : (bits : List Term) → Each bits Names → Each (complement_terms bits) Names
   inverted_named bits all t has = let b = from_map Not bits t has in subst Names b.2 (all b.0 b.1)
 
   bitwise_named : (gate : Term → Term → Term) → ((a b : Term) → Names a → Names b → Names (gate a b)) → (xs ys : List Term) → Each xs Names → Each ys Names → Each (bitwise gate xs ys) Names
@@ -121,7 +121,7 @@ module _ (s : Scope) where
   operated_named ops.Xnor xs ys a b =
       let all = bitwise_named Xor (λ x y p q. (p, q)) xs ys a b in
       let not = inverted_named (bitwise Xor xs ys) all in
-      record { bits = not; cells = each_append Names (bitwise Xor xs ys) (inverted (bitwise Xor xs ys)) all not }
+      record { bits = not; cells = each_append Names (bitwise Xor xs ys) (complement_terms (bitwise Xor xs ys)) all not }
 
   any_from_named : (a : Term) (bits : List Term) → Names a → Each bits Names → Names (any_from a bits).0 × Each (any_from a bits).1 Names
   any_from_named a [] first all = (first, each_nil Names)
@@ -141,8 +141,8 @@ module _ (s : Scope) where
       (selected_named c ts es first (λ x has. a x (contains_there t ts x has)) (λ x has. b x (contains_there e es x has)))
 
   -- what is made
-  not_named : (o : Bool) (x : MadeTerms) → AreNamed x → AreNamed (if o then record { bits = inverted x.bits; cells = x.cells ++ inverted x.bits } else x)
-  not_named true x h = let not = inverted_named x.bits h.bits in record { bits = not; cells = each_append Names x.cells (inverted x.bits) h.cells not }
+  not_named : (o : Bool) (x : MadeTerms) → AreNamed x → AreNamed (if o then record { bits = complement_terms x.bits; cells = x.cells ++ complement_terms x.bits } else x)
+  not_named true x h = let not = inverted_named x.bits h.bits in record { bits = not; cells = each_append Names x.cells (complement_terms x.bits) h.cells not }
   not_named false x h = h
 
   chained_named : (op : Op) (a b : MadeTerms) → AreNamed a → AreNamed b → AreNamed (chained a b (operated op a.bits b.bits))

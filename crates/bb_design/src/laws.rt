@@ -4,9 +4,13 @@
 ghost use Rattle.bb_design.specs.Inside.Allowed.{SoundTextsAreAllowed};
 ghost use Rattle.bb_design.specs.Laws.BitLaws.{PinTextsGoByModules};
 ghost use Rattle.bb_design.specs.Laws.DesignLaws.{DesignLaws};
-ghost use Rattle.bb_design.specs.Laws.DrivenWorlds.{ConstructsHoldBitByBit, WorldsAgreeWhereRead, VectorsHaveWorlds, WorldsAreDriven, SoundConstructsAreLegal};
-ghost use Rattle.bb_design.specs.Laws.HierarchyLaws.{CalleesAreInstantiated, SoundTextsHaveModulesApart, SoundTextsHaveTargets, WalksAreByPlaces};
-ghost use Rattle.bb_design.specs.Laws.{NotSoundAndRefused, FirstRefusalsAreOne, TopsAreMeant, PathsAreCalledApart, WrittenBitsAreValue, SoundBitsAreThere, SoundOrRefused, ReadNeedsRead, PathsLeadToScopes, SoundTextsHaveNamesApart};
+ghost use Rattle.bb_design.specs.Laws.DrivenWorlds.{ConstructsHoldBitByBit, WorldsAgreeWhereRead, VectorsHaveWorlds};
+ghost use Rattle.bb_design.specs.Laws.DrivenWorlds.{WorldsAreDriven, SoundConstructsAreLegal};
+ghost use Rattle.bb_design.specs.Laws.HierarchyLaws.{CalleesAreInstantiated, SoundTextsHaveModulesApart};
+ghost use Rattle.bb_design.specs.Laws.HierarchyLaws.{SoundTextsHaveTargets, WalksAreByPlaces};
+ghost use Rattle.bb_design.specs.Laws.{NotSoundAndRefused, FirstRefusalsAreOne, TopsAreMeant, PathsAreCalledApart};
+ghost use Rattle.bb_design.specs.Laws.{WrittenBitsAreValue, SoundBitsAreThere, SoundOrRefused, ReadNeedsRead};
+ghost use Rattle.bb_design.specs.Laws.{PathsLeadToScopes, SoundTextsHaveNamesApart};
 
 use bb_bits::number_is_below;
 use bb_expr::laws::{made_has_value, net_names_differ, values_have_width};

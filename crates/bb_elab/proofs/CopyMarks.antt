@@ -8,7 +8,7 @@ use Rattle.bb_net.specs.declared.loose.LooseCell.{LooseCell}
 use Rattle.bb_net.specs.declared.loose.LooseCell.TheVariants.{Const, Input, Not, And, Or, Xor, Mux, BoxOut, Copy}
 use Rattle.bb_bits.specs.Closures.{Leads, One, More}
 use Rattle.bb_implements.specs.Inside.ReadPlaces.{read_by, copy_steps, read_places, FollowsAt, IsReadPlace, AreClosed}
-use Rattle.bb_net.specs.Loose.{LooseList, loose_at, operands, IsLoose}
+use Rattle.bb_net.specs.Loose.{LooseList, loose_at, operand_places, IsLoose}
 use Rattle.bb_net.specs.Netlists.{Pins, box_at}
 use Rattle.bb_lemmas.proofs.Members.{from_flat, contains_here, contains_cases, none_in_nil}
 use Rattle.bb_lemmas.proofs.Orders.{less_or_same}
@@ -176,7 +176,7 @@ followed_marked cells marks long closed there j k on (inr leads) = along j k on 
 
 -- in a list of cells that can be put in order, what is read is in the list
 
-read_operand : (boxes : List Pins) (c : LooseCell) (k : ℕ) → Contains (read_by c) k → Contains (operands boxes c) k
+read_operand : (boxes : List Pins) (c : LooseCell) (k : ℕ) → Contains (read_by c) k → Contains (operand_places boxes c) k
 read_operand boxes (Const b) k has = has
 read_operand boxes (Input i) k has = has
 read_operand boxes (Not a) k has = has
@@ -191,7 +191,7 @@ module _ (of_cells : CellLaws) (l : LooseList) (loose : IsLoose l) where
   copies_there : (j k : ℕ) → Contains (copy_steps l.cells) (j, k) → k < length l.cells
   copies_there j k has =
       let f = (of_cells.copies l.cells j k (Const false)).0 has in
-      All-contains (λ k. k < length l.cells) (operands l.boxes (loose_at l j)) k (loose.there j f.0) (subst (λ c. Contains (operands l.boxes c) k) (sym f.1) (contains_here k []))
+      All-contains (λ k. k < length l.cells) (operand_places l.boxes (loose_at l j)) k (loose.there j f.0) (subst (λ c. Contains (operand_places l.boxes c) k) (sym f.1) (contains_here k []))
 
   read_there : (clocks : List ℕ) → All (λ p. p < length l.cells) clocks → (j : ℕ) → Contains (read_places l clocks) j → j < length l.cells
   read_there clocks timed j has = by (Contains-append_cases (flat_map read_by l.cells) (flat_map (λ b. b.ins) l.boxes ++ (l.outs ++ clocks)) j has)
@@ -211,7 +211,7 @@ module _ (of_cells : CellLaws) (l : LooseList) (loose : IsLoose l) where
       by (inl h) =
           let c = from_flat read_by l.cells j h in
           let at : loose_at l c.1.0 ≡ c.0 = get_or_default l.cells c.1.0 (Const false) c.0 c.1.1 ∙ c.1.2 in
-          All-contains (λ p. p < length l.cells) (operands l.boxes (loose_at l c.1.0)) j (loose.there c.1.0 c.1.1) (subst (λ u. Contains (operands l.boxes u) j) (sym at) (read_operand l.boxes c.0 j c.2))
+          All-contains (λ p. p < length l.cells) (operand_places l.boxes (loose_at l c.1.0)) j (loose.there c.1.0 c.1.1) (subst (λ u. Contains (operand_places l.boxes u) j) (sym at) (read_operand l.boxes c.0 j c.2))
       by (inr h) = after (Contains-append_cases (flat_map (λ (b : Pins). b.ins) l.boxes) (l.outs ++ clocks) j h)
 
   pub all_marked : (clocks : List ℕ) → All (λ p. p < length l.cells) clocks → (marks : List Bool) → length marks ≡ length l.cells → AreClosed l.cells marks

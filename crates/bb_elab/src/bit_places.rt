@@ -37,8 +37,9 @@ fn last_below(placed: &[Placed], number: u32) -> usize
 pub(crate) fn scope_of_bit(placed: &[Placed], number: u32) -> usize
     requires design { (d : Design) × ArePlaced d placed.now × (number < length (net_order d)) }
     ensures there { result < length placed.now }
-    ensures bit { (d : Design) → ArePlaced d placed.now → (s : Scope) → IsScopeAt d result s → (p : Placed) → slice_get placed.now result ≡ Some p
-        → (b : Bit) → slice_get (net_order d) number ≡ Some b → (p.first ≤ number) × (slice_get (scope_bits s) (number - p.first) ≡ Some b) }
+    ensures bit { (d : Design) → ArePlaced d placed.now → (s : Scope) → IsScopeAt d result s → (p : Placed)
+        → slice_get placed.now result ≡ Some p → (b : Bit) → slice_get (net_order d) number ≡ Some b
+        → (p.first ≤ number) × (slice_get (scope_bits s) (number - p.first) ≡ Some b) }
 {
     last_below(placed, number)
 }
@@ -70,7 +71,8 @@ pub(crate) fn net_of_bit(nets: &[NetInfo], starts: &[u32], number: u32) -> usize
     requires starts { (k : ℕ) → k < length nets.now → slice_get starts.now k ≡ Some (net_start nets.now k) }
     requires there { number < bit_count nets.now }
     ensures there { result < length nets.now }
-    ensures bit { (net : NetInfo) → slice_get nets.now result ≡ Some net → (net_start nets.now result ≤ number) × (number < net_start nets.now result + range_width net.range) }
+    ensures bit { (net : NetInfo) → slice_get nets.now result ≡ Some net
+        → (net_start nets.now result ≤ number) × (number < net_start nets.now result + range_width net.range) }
 {
     last_start(starts, nets.len(), number)
 }

@@ -28,7 +28,8 @@ use std::alloc::Global;
 // In elaboration order.
 fn boxed_scopes(alloc: Global, placed: &[Placed]) -> Result<Vec<u32>, NoMemory>
     requires few { length placed.now < 2 ^ 32 }
-    ensures boxed { IfOk result (λ boxed. (d : Design) → ArePlaced d placed.now → AllZip (IsScopeAt d) boxed.items (boxes d)) }
+    ensures boxed { IfOk result (λ boxed.
+        (d : Design) → ArePlaced d placed.now → AllZip (IsScopeAt d) boxed.items (boxes d)) }
 {
     let mut boxed = Vec::new(alloc);
     for (scope, at) in placed.iter().enumerate() {
@@ -42,7 +43,8 @@ fn boxed_scopes(alloc: Global, placed: &[Placed]) -> Result<Vec<u32>, NoMemory>
 fn path_names(alloc: Global, placed: &[Placed], scopes: &[u32]) -> Result<Vec<Name>, NoMemory>
     requires design { (d : Design) × ArePlaced d placed.now }
     requires there { All (λ k. k < length placed.now) scopes.now }
-    ensures paths { IfOk result (λ paths. (d : Design) → ArePlaced d placed.now → AllZip (IsScopeAt d) scopes.now (boxes d) → paths.items ≡ box_paths d) }
+    ensures paths { IfOk result (λ paths. (d : Design) → ArePlaced d placed.now
+        → AllZip (IsScopeAt d) scopes.now (boxes d) → paths.items ≡ box_paths d) }
 {
     let mut paths = Vec::with_capacity(alloc, scopes.len())?;
     for scope in scopes {
@@ -58,9 +60,12 @@ pub(crate) fn boxes_apart(
     elaborated: &Elaborated,
 ) -> Result<Vec<u32>, ElabFault>
     requires design { (d : Design) × IsElaborated (map syntax checked.now) d elaborated.now }
-    ensures boxed { IfOk result (λ boxed. (d : Design) → IsElaborated (map syntax checked.now) d elaborated.now → AllZip (IsScopeAt d) boxed.items (boxes d)) }
-    ensures apart { IfOk result (λ boxed. (d : Design) → IsElaborated (map syntax checked.now) d elaborated.now → IsAbsentInDesign d BoxTexts) }
-    ensures fault { IfErr result (λ fault. (fault ≡ out_of_memory) ⊎ ((d : Design) → IsElaborated (map syntax checked.now) d elaborated.now → ReportsCause d BoxTexts fault)) }
+    ensures boxed { IfOk result (λ boxed. (d : Design) → IsElaborated (map syntax checked.now) d elaborated.now
+        → AllZip (IsScopeAt d) boxed.items (boxes d)) }
+    ensures apart { IfOk result (λ boxed.
+        (d : Design) → IsElaborated (map syntax checked.now) d elaborated.now → IsAbsentInDesign d BoxTexts) }
+    ensures fault { IfErr result (λ fault. (fault ≡ out_of_memory)
+        ⊎ ((d : Design) → IsElaborated (map syntax checked.now) d elaborated.now → ReportsCause d BoxTexts fault)) }
 {
     let boxed = boxed_scopes(alloc, &elaborated.placed)?;
     let paths = path_names(alloc, &elaborated.placed, &boxed)?;
@@ -79,7 +84,8 @@ fn box_name(
 ) -> Result<BoxName, NoMemory>
     requires design { (d : Design) × IsElaborated (map syntax checked.now) d elaborated.now }
     requires there { scope < length elaborated.now.placed.items }
-    ensures name { IfOk result (λ n. (d : Design) → IsElaborated (map syntax checked.now) d elaborated.now → (s : Scope) → IsScopeAt d scope s → n ≡ box_texts d s) }
+    ensures name { IfOk result (λ n. (d : Design) → IsElaborated (map syntax checked.now) d elaborated.now
+        → (s : Scope) → IsScopeAt d scope s → n ≡ box_texts d s) }
 {
     let at = &elaborated.placed[scope as usize];
     let template = template_of(&elaborated.templates, at);
@@ -104,7 +110,8 @@ pub(crate) fn box_names(
     requires design { (d : Design) × IsElaborated (map syntax checked.now) d elaborated.now }
     requires scopes { All (λ k. k < length elaborated.now.placed.items) boxed.now }
     requires there { All (λ b. b < length boxed.now) numbers.now }
-    ensures names { IfOk result (λ names. (d : Design) → IsElaborated (map syntax checked.now) d elaborated.now → AllZip (IsScopeAt d) boxed.now (boxes d)
+    ensures names { IfOk result (λ names. (d : Design) → IsElaborated (map syntax checked.now) d elaborated.now
+        → AllZip (IsScopeAt d) boxed.now (boxes d)
         → names.items ≡ map (λ b. box_texts d (box_number d b)) numbers.now) }
 {
     let mut names = Vec::with_capacity(alloc, numbers.len())?;

@@ -39,9 +39,10 @@ pub(crate) fn clock_input(
     requires fits { first + clock < 2 ^ 32 }
     requires ends { AreEnds list.now ends.old }
     ensures ends { AreEnds list.now ends.new }
-    ensures clock { (d : Design) (lowering : Lowering) (b : Bit) (n source : ℕ) → IsBounded d → AreDrivenOnce d → IsLowering d lowering → IsListOf d lowering list.now
-        → slice_get (net_order d) clock ≡ Some b → first ≡ 2 + length (cut_bits d) → limit ≡ length (top_inputs d) → IsCopySource n list.now (first + clock) source
-        → IsClockInput d b result }
+    ensures clock { (d : Design) (lowering : Lowering) (b : Bit) (n source : ℕ) → IsBounded d → AreDrivenOnce d
+        → IsLowering d lowering → IsListOf d lowering list.now → slice_get (net_order d) clock ≡ Some b
+        → first ≡ 2 + length (cut_bits d) → limit ≡ length (top_inputs d)
+        → IsCopySource n list.now (first + clock) source → IsClockInput d b result }
 {
     laws_of_cells();
     lists_are_loose();

@@ -12,7 +12,8 @@ use bb_net::{Loose, LooseCell};
 use std::alloc::Global;
 
 fn copied_from(cells: &[LooseCell], place: u32) -> Option<u32>
-    ensures some { IfSome result (λ of. (place < length cells.now) × (slice_index_or cells.now place (Const false) ≡ Copy of)) }
+    ensures some { IfSome result (λ of.
+        (place < length cells.now) × (slice_index_or cells.now place (Const false) ≡ Copy of)) }
     ensures none { IfNone result ((p : ℕ) → slice_index_or cells.now place (Const false) ≡ Copy p → ⊥) }
 {
     match cells.get(place as usize) {

@@ -3,11 +3,14 @@
 //! One pass over all constructs counts at the number of each bit that is driven there. Only none, one and more than one
 //! are distinguished, so a byte a bit is enough and no count overflows.
 
-ghost use Rattle.std.specs.Prelude.{◌≡◌, ◌+◌, ◌<◌, ◌++◌, ◌∷◌, [], ℕ, List, All, Some, length, slice_get, IfNone, IfOk, IfSome};
+ghost use Rattle.std.specs.Prelude.{◌≡◌, ◌+◌, ◌<◌, ◌++◌, ◌∷◌, [], ℕ, List, All, Some, length, slice_get, IfNone, IfOk};
+ghost use Rattle.std.specs.Prelude.{IfSome};
 ghost use Rattle.std.specs.List.{flat_map};
 ghost use Rattle.bb_blast.specs.declared.template.ModuleTemplate.{ModuleTemplate};
 ghost use Rattle.bb_blast.specs.declared.placed.Placed.{Placed};
-ghost use Rattle.bb_elab.specs.Inside.DrivenNumbers.{top_numbers, part_numbers, scope_numbers, driven_numbers, IsInside, MayCountInputs, MayBeCounted, IsTally, IsFirstAt, AreCounts};
+ghost use Rattle.bb_elab.specs.Inside.DrivenNumbers.{top_numbers, part_numbers, scope_numbers, driven_numbers};
+ghost use Rattle.bb_elab.specs.Inside.DrivenNumbers.{IsInside, MayCountInputs, MayBeCounted, IsTally, IsFirstAt};
+ghost use Rattle.bb_elab.specs.Inside.DrivenNumbers.{AreCounts};
 ghost use Rattle.bb_bits.specs.Inside.Places.{numbers_from};
 ghost use Rattle.bb_design.specs.Hierarchy.{Design};
 ghost use Rattle.bb_design.specs.Inside.Allowed.{IsBounded};
@@ -32,7 +35,8 @@ fn count(counts: &mut [u8], bit: usize)
 
 fn count_bits(counts: &mut [u8], first: u32, bits: &[u32])
     requires there { All (λ k. k < length counts.old) (numbers_from first bits.now) }
-    ensures tally { (numbers : List ℕ) → IsTally numbers counts.old → IsTally (numbers ++ numbers_from first bits.now) counts.new }
+    ensures tally { (numbers : List ℕ) → IsTally numbers counts.old
+        → IsTally (numbers ++ numbers_from first bits.now) counts.new }
 {
     for bit in bits {
         count(counts, first as usize + *bit as usize);
@@ -43,7 +47,8 @@ fn count_bits(counts: &mut [u8], first: u32, bits: &[u32])
 fn count_part(counts: &mut [u8], placed: &[Placed], scope: &Placed, part: &Part)
     requires inside { IsInside placed.now scope.now part.now }
     requires there { All (λ k. k < length counts.old) (part_numbers placed.now scope.now part.now) }
-    ensures tally { (numbers : List ℕ) → IsTally numbers counts.old → IsTally (numbers ++ part_numbers placed.now scope.now part.now) counts.new }
+    ensures tally { (numbers : List ℕ) → IsTally numbers counts.old
+        → IsTally (numbers ++ part_numbers placed.now scope.now part.now) counts.new }
 {
     match part {
         Part::Assignment { left, .. } => count_bits(counts, scope.first, left),
@@ -61,7 +66,8 @@ fn count_part(counts: &mut [u8], placed: &[Placed], scope: &Placed, part: &Part)
 fn count_parts(counts: &mut [u8], placed: &[Placed], scope: &Placed, parts: &[Part])
     requires inside { All (IsInside placed.now scope.now) parts.now }
     requires there { All (λ k. k < length counts.old) (flat_map (part_numbers placed.now scope.now) parts.now) }
-    ensures tally { (numbers : List ℕ) → IsTally numbers counts.old → IsTally (numbers ++ flat_map (part_numbers placed.now scope.now) parts.now) counts.new }
+    ensures tally { (numbers : List ℕ) → IsTally numbers counts.old
+        → IsTally (numbers ++ flat_map (part_numbers placed.now scope.now) parts.now) counts.new }
 {
     for part in parts {
         count_part(counts, placed, scope, part);
@@ -71,7 +77,8 @@ fn count_parts(counts: &mut [u8], placed: &[Placed], scope: &Placed, parts: &[Pa
 // What is inside a box is open, so its outputs count as driven.
 fn count_scope(counts: &mut [u8], placed: &[Placed], templates: &[ModuleTemplate], scope: &Placed)
     requires counted { MayBeCounted placed.now templates.now (length counts.old) scope.now }
-    ensures tally { (numbers : List ℕ) → IsTally numbers counts.old → IsTally (numbers ++ scope_numbers placed.now templates.now scope.now) counts.new }
+    ensures tally { (numbers : List ℕ) → IsTally numbers counts.old
+        → IsTally (numbers ++ scope_numbers placed.now templates.now scope.now) counts.new }
 {
     let template = &templates[scope.module];
     if scope.boxed {
@@ -83,7 +90,8 @@ fn count_scope(counts: &mut [u8], placed: &[Placed], templates: &[ModuleTemplate
 
 fn count_scopes(counts: &mut [u8], placed: &[Placed], templates: &[ModuleTemplate])
     requires counted { All (MayBeCounted placed.now templates.now (length counts.old)) placed.now }
-    ensures tally { (numbers : List ℕ) → IsTally numbers counts.old → IsTally (numbers ++ flat_map (scope_numbers placed.now templates.now) placed.now) counts.new }
+    ensures tally { (numbers : List ℕ) → IsTally numbers counts.old
+        → IsTally (numbers ++ flat_map (scope_numbers placed.now templates.now) placed.now) counts.new }
 {
     for scope in placed {
         count_scope(counts, placed, templates, scope);
@@ -92,8 +100,10 @@ fn count_scopes(counts: &mut [u8], placed: &[Placed], templates: &[ModuleTemplat
 
 // Inputs of the top are driven from outside.
 fn count_inputs(counts: &mut [u8], placed: &[Placed], templates: &[ModuleTemplate])
-    requires counted { (p : Placed) → slice_get placed.now 0 ≡ Some p → MayCountInputs templates.now (length counts.old) p }
-    ensures tally { (numbers : List ℕ) → IsTally numbers counts.old → IsTally (numbers ++ top_numbers placed.now templates.now) counts.new }
+    requires counted { (p : Placed) → slice_get placed.now 0 ≡ Some p
+        → MayCountInputs templates.now (length counts.old) p }
+    ensures tally { (numbers : List ℕ) → IsTally numbers counts.old
+        → IsTally (numbers ++ top_numbers placed.now templates.now) counts.new }
 {
     if let [top, ..] = placed {
         count_bits(counts, top.first, &templates[top.module].inputs);
@@ -101,7 +111,8 @@ fn count_inputs(counts: &mut [u8], placed: &[Placed], templates: &[ModuleTemplat
 }
 
 fn count_drivers(counts: &mut [u8], placed: &[Placed], templates: &[ModuleTemplate])
-    requires inputs { (p : Placed) → slice_get placed.now 0 ≡ Some p → MayCountInputs templates.now (length counts.old) p }
+    requires inputs { (p : Placed) → slice_get placed.now 0 ≡ Some p
+        → MayCountInputs templates.now (length counts.old) p }
     requires scopes { All (MayBeCounted placed.now templates.now (length counts.old)) placed.now }
     ensures tally { IsTally [] counts.old → IsTally (driven_numbers placed.now templates.now) counts.new }
 {
@@ -112,14 +123,16 @@ fn count_drivers(counts: &mut [u8], placed: &[Placed], templates: &[ModuleTempla
 // Scopes come in the order of their bits, so the last one gives the number of all.
 fn bits_through(scope: &Placed, templates: &[ModuleTemplate]) -> usize
     requires templated { scope.now.module < length templates.now }
-    ensures bits { (o : ModuleTemplate) → slice_get templates.now scope.now.module ≡ Some o → result ≡ scope.now.first + o.bits }
+    ensures bits { (o : ModuleTemplate) → slice_get templates.now scope.now.module ≡ Some o
+        → result ≡ scope.now.first + o.bits }
 {
     scope.first as usize + templates[scope.module].bits as usize
 }
 
 pub(crate) fn bit_count(placed: &[Placed], templates: &[ModuleTemplate]) -> usize
     requires design { (d : Design) × ArePlaced d placed.now × AreTemplated d placed.now templates.now }
-    ensures bits { (d : Design) → ArePlaced d placed.now → AreTemplated d placed.now templates.now → result ≡ length (net_order d) }
+    ensures bits { (d : Design) → ArePlaced d placed.now → AreTemplated d placed.now templates.now
+        → result ≡ length (net_order d) }
 {
     laws_of_designs();
     bits_through(&placed[placed.len() - 1], templates)
@@ -132,7 +145,8 @@ pub(crate) fn driver_counts(
     templates: &[ModuleTemplate],
 ) -> Result<Vec<u8>, NoMemory>
     requires design { (d : Design) × ArePlaced d placed.now × AreTemplated d placed.now templates.now × IsBounded d }
-    ensures counts { IfOk result (λ counts. (d : Design) → ArePlaced d placed.now → AreTemplated d placed.now templates.now → IsBounded d → AreCounts d counts.items) }
+    ensures counts { IfOk result (λ counts. (d : Design) → ArePlaced d placed.now
+        → AreTemplated d placed.now templates.now → IsBounded d → AreCounts d counts.items) }
 {
     laws_of_designs();
     values_have_width();

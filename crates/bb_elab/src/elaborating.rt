@@ -21,7 +21,8 @@ use std::alloc::Global;
 fn flatten(alloc: Global, checked: &Checked, top: usize) -> Result<Flat, ElabFault>
     requires top { top < length checked.now }
     ensures ok { IfOk result (λ flat. AtTop (map syntax checked.now) top (λ d. Implements d flat × IsSoundDesign d)) }
-    ensures fault { IfErr result (λ fault. (fault ≡ NoMemory) ⊎ AtTop (map syntax checked.now) top (λ d. IsRefusalOf d fault)) }
+    ensures fault { IfErr result (λ fault.
+        (fault ≡ NoMemory) ⊎ AtTop (map syntax checked.now) top (λ d. IsRefusalOf d fault)) }
 {
     let called = hierarchy(alloc, checked, top)?;
     let elaborated = grow(alloc, checked, &called, top)?;
@@ -37,11 +38,14 @@ pub fn elaborate(alloc: Global, checked: &Checked, top: Option<&[u8]>) -> Result
     // The result implements the design, or is the first cause.
     ensures ok { IfOk result (λ flat. ImplementsText (map syntax checked.now) (option_copied top.entry) flat) }
     ensures sound { IfOk result (λ flat. IsSoundText (map syntax checked.now) (option_copied top.entry)) }
-    ensures fault { IfErr result (λ fault. (fault ≡ NoMemory) ⊎ IsFirstDesignRefusal (map syntax checked.now) (option_copied top.entry) fault) }
+    ensures fault { IfErr result (λ fault.
+        (fault ≡ NoMemory) ⊎ IsFirstDesignRefusal (map syntax checked.now) (option_copied top.entry) fault) }
 
     // A netlist is answered where there is no cause, and else the first, unless memory runs out.
-    ensures only_sound { IsSoundText (map syntax checked.now) (option_copied top.entry) → IfErr result (λ fault. fault ≡ NoMemory) }
-    ensures only_fault { (first : ElabFault) → IsFirstDesignRefusal (map syntax checked.now) (option_copied top.entry) first
+    ensures only_sound { IsSoundText (map syntax checked.now) (option_copied top.entry)
+        → IfErr result (λ fault. fault ≡ NoMemory) }
+    ensures only_fault { (first : ElabFault)
+        → IsFirstDesignRefusal (map syntax checked.now) (option_copied top.entry) first
         → MatchResult result (λ flat. ⊥) (λ fault. (fault ≡ first) ⊎ (fault ≡ NoMemory)) }
 {
     laws_of_designs();

@@ -1,5 +1,5 @@
-//! Elaborates the hierarchy (`Elaborated`): scopes, templates of modules, drivers and registers by numbers; the design is
-//! refused where a bit is driven twice.
+//! Elaborates the hierarchy (`Elaborated`): scopes, templates of modules, drivers and registers by numbers; the design
+//! is refused where a bit is driven twice.
 
 ghost use Rattle.std.specs.Prelude.{◌≡◌, ◌⊎◌, ◌<◌, ℕ, map, length, Some, slice_get, IfOk, IfErr};
 ghost use Rattle.bb_names.specs.Inside.Checked.{syntax};
@@ -39,11 +39,14 @@ pub(crate) fn grow(
     called: &[Vec<usize>],
     top: usize,
 ) -> Result<Elaborated, ElabFault>
-    requires called { map (λ list. list.items) called.now ≡ map (callees (map syntax checked.now)) (map syntax checked.now) }
+    requires called { map (λ list. list.items) called.now
+        ≡ map (callees (map syntax checked.now)) (map syntax checked.now) }
     requires top { top < length checked.now }
     requires finite { AtTop (map syntax checked.now) top IsFinite }
-    ensures elaborated { IfOk result (λ g. AtTop (map syntax checked.now) top (λ d. AreElaborated d g.placed.items g.templates.items g.counts.items g.stored.items)) }
-    ensures fault { IfErr result (λ fault. (fault ≡ NoMemory) ⊎ AtTop (map syntax checked.now) top (λ d. IsRefusalOf d fault)) }
+    ensures elaborated { IfOk result (λ g. AtTop (map syntax checked.now) top (λ d.
+        AreElaborated d g.placed.items g.templates.items g.counts.items g.stored.items)) }
+    ensures fault { IfErr result (λ fault.
+        (fault ≡ NoMemory) ⊎ AtTop (map syntax checked.now) top (λ d. IsRefusalOf d fault)) }
 {
     laws_of_designs();
     let placed = place_scopes(alloc, checked, called, top)?;

@@ -30,11 +30,15 @@ pub(crate) fn finish(
     elaborated: &Elaborated,
     levelized: Levelized,
 ) -> Result<Flat, ElabFault>
-    requires design { (d : Design) × IsElaborated (map syntax checked.now) d elaborated.now × AreLevelized d levelized.list levelized.ordered.net levelized.ordered.boxes.items }
-    ensures occurs { IfOk result (λ flat. (d : Design) → IsElaborated (map syntax checked.now) d elaborated.now → AreLevelized d levelized.list levelized.ordered.net levelized.ordered.boxes.items
+    requires design { (d : Design) × IsElaborated (map syntax checked.now) d elaborated.now
+        × AreLevelized d levelized.list levelized.ordered.net levelized.ordered.boxes.items }
+    ensures occurs { IfOk result (λ flat. (d : Design) → IsElaborated (map syntax checked.now) d elaborated.now
+        → AreLevelized d levelized.list levelized.ordered.net levelized.ordered.boxes.items
         → Implements d flat × IsSoundDesign d) }
-    ensures fault { IfErr result (λ fault. (fault ≡ NoMemory) ⊎ ((d : Design) → IsElaborated (map syntax checked.now) d elaborated.now
-        → AreLevelized d levelized.list levelized.ordered.net levelized.ordered.boxes.items → IsRefusalOf d fault)) }
+    ensures fault { IfErr result (λ fault. (fault ≡ NoMemory)
+        ⊎ ((d : Design) → IsElaborated (map syntax checked.now) d elaborated.now
+        → AreLevelized d levelized.list levelized.ordered.net levelized.ordered.boxes.items
+        → IsRefusalOf d fault)) }
 {
     laws_of_designs();
     implementing_nets_are_flat();

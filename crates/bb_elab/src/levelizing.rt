@@ -41,8 +41,11 @@ fn drive_all(
     list: &Loose,
 ) -> Result<(), ElabFault>
     requires design { (d : Design) × IsElaborated (map syntax checked.now) d elaborated.now × IsListed d list.now }
-    ensures driven { OnOk result ((d : Design) → IsElaborated (map syntax checked.now) d elaborated.now → IsListed d list.now → AreDriven d) }
-    ensures fault { IfErr result (λ fault. (fault ≡ NoMemory) ⊎ ((d : Design) → IsElaborated (map syntax checked.now) d elaborated.now → IsListed d list.now → ReportsCause d NoDriver fault)) }
+    ensures driven { OnOk result ((d : Design) → IsElaborated (map syntax checked.now) d elaborated.now
+        → IsListed d list.now → AreDriven d) }
+    ensures fault { IfErr result (λ fault. (fault ≡ NoMemory)
+        ⊎ ((d : Design) → IsElaborated (map syntax checked.now) d elaborated.now → IsListed d list.now
+        → ReportsCause d NoDriver fault)) }
 {
     let counts = elaborated.counts.as_slice();
     let read = bits_read(alloc, checked, list, &elaborated.stored, counts.len())?;
@@ -71,8 +74,11 @@ fn put_in_order(
     requires design { (d : Design) × IsElaborated (map syntax checked.now) d elaborated.now × IsListed d list.now }
     ensures netlist { IfOk result (λ o. IsNetlist o.net) }
     ensures ordered { IfOk result (λ o. IsOrderOf list.now o.net o.boxes.items) }
-    ensures acyclic { IfOk result (λ o. (d : Design) → IsElaborated (map syntax checked.now) d elaborated.now → IsListed d list.now → IsAcyclic d) }
-    ensures fault { IfErr result (λ fault. (fault ≡ NoMemory) ⊎ ((d : Design) → IsElaborated (map syntax checked.now) d elaborated.now → IsListed d list.now → ReportsCause d Cycle fault)) }
+    ensures acyclic { IfOk result (λ o.
+        (d : Design) → IsElaborated (map syntax checked.now) d elaborated.now → IsListed d list.now → IsAcyclic d) }
+    ensures fault { IfErr result (λ fault. (fault ≡ NoMemory)
+        ⊎ ((d : Design) → IsElaborated (map syntax checked.now) d elaborated.now → IsListed d list.now
+        → ReportsCause d Cycle fault)) }
 {
     lists_are_loose();
     match order(list) {
@@ -105,8 +111,10 @@ pub(crate) fn arrange(
     elaborated: &Elaborated,
 ) -> Result<Levelized, ElabFault>
     requires design { (d : Design) × IsElaborated (map syntax checked.now) d elaborated.now }
-    ensures levelized { IfOk result (λ a. (d : Design) → IsElaborated (map syntax checked.now) d elaborated.now → AreLevelized d a.list a.ordered.net a.ordered.boxes.items) }
-    ensures fault { IfErr result (λ fault. (fault ≡ NoMemory) ⊎ ((d : Design) → IsElaborated (map syntax checked.now) d elaborated.now → IsRefusalOf d fault)) }
+    ensures levelized { IfOk result (λ a. (d : Design) → IsElaborated (map syntax checked.now) d elaborated.now
+        → AreLevelized d a.list a.ordered.net a.ordered.boxes.items) }
+    ensures fault { IfErr result (λ fault. (fault ≡ NoMemory)
+        ⊎ ((d : Design) → IsElaborated (map syntax checked.now) d elaborated.now → IsRefusalOf d fault)) }
 {
     laws_of_designs();
     let list = list_cells(

@@ -23,7 +23,8 @@ pub(crate) fn bit_names(
     elaborated: &Elaborated,
     numbers: &[u32],
 ) -> Result<Vec<Name>, NoMemory>
-    requires design { (d : Design) × IsElaborated (map syntax checked.now) d elaborated.now × All (λ n. n < length (net_order d)) numbers.now }
+    requires design { (d : Design) × IsElaborated (map syntax checked.now) d elaborated.now
+        × All (λ n. n < length (net_order d)) numbers.now }
     ensures names { IfOk result (λ names. (d : Design) → IsElaborated (map syntax checked.now) d elaborated.now
         → (bits : List Bit) → AreBitsAt d numbers.now bits → names.items ≡ map (bit_text d) bits) }
 {
@@ -47,7 +48,8 @@ pub(crate) fn pin_names(
     elaborated: &Elaborated,
     numbers: &[u32],
 ) -> Result<Vec<Name>, NoMemory>
-    requires design { (d : Design) × IsElaborated (map syntax checked.now) d elaborated.now × All (λ n. n < length (net_order d)) numbers.now }
+    requires design { (d : Design) × IsElaborated (map syntax checked.now) d elaborated.now
+        × All (λ n. n < length (net_order d)) numbers.now }
     ensures names { IfOk result (λ names. (d : Design) → IsElaborated (map syntax checked.now) d elaborated.now
         → (bits : List Bit) → AreBitsAt d numbers.now bits → names.items ≡ map (pin_text d) bits) }
 {
@@ -68,8 +70,10 @@ pub(crate) fn pin_names(
 /// Its bits are the first in net order.
 pub(crate) fn top_template(elaborated: &Elaborated) -> &ModuleTemplate
     requires design { (text : List PlainModule) × (d : Design) × IsElaborated text d elaborated.now }
-    ensures inputs { (text : List PlainModule) (d : Design) → IsElaborated text d elaborated.now → AreBitsAt d result.now.inputs.items (top_inputs d) }
-    ensures outputs { (text : List PlainModule) (d : Design) → IsElaborated text d elaborated.now → AreBitsAt d result.now.outputs.items (top_outputs d) }
+    ensures inputs { (text : List PlainModule) (d : Design) → IsElaborated text d elaborated.now
+        → AreBitsAt d result.now.inputs.items (top_inputs d) }
+    ensures outputs { (text : List PlainModule) (d : Design) → IsElaborated text d elaborated.now
+        → AreBitsAt d result.now.outputs.items (top_outputs d) }
 {
     template_of(&elaborated.templates, &elaborated.placed[0])
 }

@@ -31,8 +31,10 @@ fn port_names(
     elaborated: &Elaborated,
 ) -> Result<PortNames, NoMemory>
     requires design { (d : Design) × IsElaborated (map syntax checked.now) d elaborated.now }
-    ensures ins { IfOk result (λ ports. (d : Design) → IsElaborated (map syntax checked.now) d elaborated.now → ports.ins.items ≡ input_texts d) }
-    ensures outs { IfOk result (λ ports. (d : Design) → IsElaborated (map syntax checked.now) d elaborated.now → ports.outs.items ≡ output_texts d) }
+    ensures ins { IfOk result (λ ports.
+        (d : Design) → IsElaborated (map syntax checked.now) d elaborated.now → ports.ins.items ≡ input_texts d) }
+    ensures outs { IfOk result (λ ports.
+        (d : Design) → IsElaborated (map syntax checked.now) d elaborated.now → ports.outs.items ≡ output_texts d) }
 {
     let top = top_template(elaborated);
     Ok(PortNames {
@@ -48,10 +50,14 @@ pub(crate) fn ports_apart(
     elaborated: &Elaborated,
 ) -> Result<PortNames, ElabFault>
     requires design { (d : Design) × IsElaborated (map syntax checked.now) d elaborated.now }
-    ensures ins { IfOk result (λ ports. (d : Design) → IsElaborated (map syntax checked.now) d elaborated.now → ports.ins.items ≡ input_texts d) }
-    ensures outs { IfOk result (λ ports. (d : Design) → IsElaborated (map syntax checked.now) d elaborated.now → ports.outs.items ≡ output_texts d) }
-    ensures apart { IfOk result (λ ports. (d : Design) → IsElaborated (map syntax checked.now) d elaborated.now → IsAbsentInDesign d PortTexts) }
-    ensures fault { IfErr result (λ fault. (fault ≡ out_of_memory) ⊎ ((d : Design) → IsElaborated (map syntax checked.now) d elaborated.now → ReportsCause d PortTexts fault)) }
+    ensures ins { IfOk result (λ ports.
+        (d : Design) → IsElaborated (map syntax checked.now) d elaborated.now → ports.ins.items ≡ input_texts d) }
+    ensures outs { IfOk result (λ ports.
+        (d : Design) → IsElaborated (map syntax checked.now) d elaborated.now → ports.outs.items ≡ output_texts d) }
+    ensures apart { IfOk result (λ ports.
+        (d : Design) → IsElaborated (map syntax checked.now) d elaborated.now → IsAbsentInDesign d PortTexts) }
+    ensures fault { IfErr result (λ fault. (fault ≡ out_of_memory)
+        ⊎ ((d : Design) → IsElaborated (map syntax checked.now) d elaborated.now → ReportsCause d PortTexts fault)) }
 {
     let ports = port_names(alloc, checked, elaborated)?;
     if let Some(name) = first_repeat(alloc, &ports.ins)? {

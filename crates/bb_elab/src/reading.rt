@@ -4,7 +4,8 @@
 //! Buffers are followed from each such place up to one that is marked already, so each is followed once and all marks
 //! take linear time.
 
-ghost use Rattle.std.specs.Prelude.{◌≡◌, ◌⊎◌, ◌+◌, ◌<◌, ◌≤◌, ◌^◌, ◌++◌, Some, slice_get, true, false, ℕ, List, Bool, All, Contains, length, map, take, drop, slice_index_or, IfOk, OnOk};
+ghost use Rattle.std.specs.Prelude.{◌≡◌, ◌⊎◌, ◌+◌, ◌<◌, ◌≤◌, ◌^◌, ◌++◌, Some, slice_get, true, false, ℕ, List, Bool};
+ghost use Rattle.std.specs.Prelude.{All, Contains, length, map, take, drop, slice_index_or, IfOk, OnOk};
 ghost use Rattle.std.specs.List.{flat_map};
 ghost use Rattle.bb_net.specs.Loose.{IsLoose};
 ghost use Rattle.bb_design.specs.Hierarchy.{Design};
@@ -13,7 +14,8 @@ ghost use Rattle.bb_design.specs.NetBits.{Bit, net_order};
 ghost use Rattle.bb_blast.specs.Inside.Placements.{AreStored};
 ghost use Rattle.bb_implements.specs.Places.{Lowering, IsLowering, IsListOf};
 ghost use Rattle.bb_design.specs.Reading.{IsReadBit};
-ghost use Rattle.bb_implements.specs.Inside.ReadPlaces.{read_by, read_places, copy_steps, FollowsAt, IsReadPlace, AreClosed};
+ghost use Rattle.bb_implements.specs.Inside.ReadPlaces.{read_by, read_places, copy_steps, FollowsAt, IsReadPlace};
+ghost use Rattle.bb_implements.specs.Inside.ReadPlaces.{AreClosed};
 ghost use Rattle.bb_elab.specs.Inside.StoredNumbers.{AreTimed};
 ghost use Rattle.bb_design.specs.Refusals.{AreDrivenOnce};
 ghost use Rattle.bb_design.specs.Registers.{cut_bits};
@@ -46,7 +48,8 @@ fn follow(cells: &[LooseCell], marks: &mut [bool], start: usize)
     ensures closed { AreClosed cells.now marks.new }
     ensures kept { (k : ℕ) → slice_index_or marks.old k false ≡ true → slice_index_or marks.new k false ≡ true }
     ensures start { start < length cells.now → slice_index_or marks.new start false ≡ true }
-    ensures only { (k : ℕ) → slice_index_or marks.new k false ≡ true → (slice_index_or marks.old k false ≡ true) ⊎ FollowsAt cells.now start k }
+    ensures only { (k : ℕ) → slice_index_or marks.new k false ≡ true
+        → (slice_index_or marks.old k false ≡ true) ⊎ FollowsAt cells.now start k }
 {
     let mut place = start;
     while place < marks.len() && !marks[place] {
@@ -62,7 +65,8 @@ fn follow_all(cells: &[LooseCell], marks: &mut [bool], starts: &[u32])
     ensures closed { AreClosed cells.now marks.new }
     ensures started { (s : ℕ) → Contains starts.now s → s < length cells.now → slice_index_or marks.new s false ≡ true }
     ensures kept { (k : ℕ) → slice_index_or marks.old k false ≡ true → slice_index_or marks.new k false ≡ true }
-    ensures only { (k : ℕ) → slice_index_or marks.new k false ≡ true → (slice_index_or marks.old k false ≡ true) ⊎ ((s : ℕ) × Contains starts.now s × FollowsAt cells.now s k) }
+    ensures only { (k : ℕ) → slice_index_or marks.new k false ≡ true
+        → (slice_index_or marks.old k false ≡ true) ⊎ ((s : ℕ) × Contains starts.now s × FollowsAt cells.now s k) }
 {
     for start in starts {
         follow(cells, marks, *start as usize);
@@ -126,7 +130,8 @@ fn places_read(
     first: u32,
 ) -> Result<Vec<u32>, NoMemory>
     requires fits { All (λ x. first + x.clock < 2 ^ 32) stored.now }
-    ensures places { IfOk result (λ places. places.items ≡ read_places list.now (map (λ x. first + x.clock) stored.now)) }
+    ensures places { IfOk result (λ places.
+        places.items ≡ read_places list.now (map (λ x. first + x.clock) stored.now)) }
 {
     let mut places = Vec::new(alloc);
     add_reads(list.cells(), &mut places)?;
@@ -145,8 +150,10 @@ fn read_marks(
     requires fits { All (λ x. first + x.clock < 2 ^ 32) stored.now }
     ensures long { IfOk result (λ marks. length marks.items ≡ length list.now.cells) }
     ensures read { IsLoose list.now → All (λ x. first + x.clock < length list.now.cells) stored.now
-        → IfOk result (λ marks. (k : ℕ) → IsReadPlace list.now (map (λ x. first + x.clock) stored.now) k → slice_index_or marks.items k false ≡ true) }
-    ensures only { IfOk result (λ marks. (k : ℕ) → slice_index_or marks.items k false ≡ true → IsReadPlace list.now (map (λ x. first + x.clock) stored.now) k) }
+        → IfOk result (λ marks. (k : ℕ) → IsReadPlace list.now (map (λ x. first + x.clock) stored.now) k
+        → slice_index_or marks.items k false ≡ true) }
+    ensures only { IfOk result (λ marks. (k : ℕ) → slice_index_or marks.items k false ≡ true
+        → IsReadPlace list.now (map (λ x. first + x.clock) stored.now) k) }
 {
     laws_of_cells();
     let cells = list.cells();
@@ -178,12 +185,16 @@ pub(crate) fn read_bits(
     requires there { first + count ≤ length list.now.cells }
     ensures long { IfOk result (λ reads. length reads.items ≡ count) }
     // What is found to be read is read.
-    ensures only { IfOk result (λ reads. (d : Design) (lowering : Lowering) → IsBounded d → IsLowering d lowering → IsListOf d lowering list.now → AreStored d stored.now → first ≡ 2 + length (cut_bits d)
-        → (k : ℕ) (b : Bit) → slice_get (net_order d) k ≡ Some b → slice_index_or reads.items k false ≡ true → IsReadBit d b) }
+    ensures only { IfOk result (λ reads. (d : Design) (lowering : Lowering) → IsBounded d → IsLowering d lowering
+        → IsListOf d lowering list.now → AreStored d stored.now → first ≡ 2 + length (cut_bits d)
+        → (k : ℕ) (b : Bit) → slice_get (net_order d) k ≡ Some b → slice_index_or reads.items k false ≡ true
+        → IsReadBit d b) }
     // What is read is found to be read, where the clocks of all registers are among those of the stored bits.
     ensures read { IsLoose list.now → All (λ x. first + x.clock < length list.now.cells) stored.now
-        → IfOk result (λ reads. (d : Design) (lowering : Lowering) → IsBounded d → AreDrivenOnce d → IsLowering d lowering → IsListOf d lowering list.now → first ≡ 2 + length (cut_bits d) → AreTimed d (map (λ x. x.clock) stored.now)
-        → (k : ℕ) (b : Bit) → slice_get (net_order d) k ≡ Some b → k < count → IsReadBit d b → slice_index_or reads.items k false ≡ true) }
+        → IfOk result (λ reads. (d : Design) (lowering : Lowering) → IsBounded d → AreDrivenOnce d
+        → IsLowering d lowering → IsListOf d lowering list.now → first ≡ 2 + length (cut_bits d)
+        → AreTimed d (map (λ x. x.clock) stored.now) → (k : ℕ) (b : Bit) → slice_get (net_order d) k ≡ Some b
+        → k < count → IsReadBit d b → slice_index_or reads.items k false ≡ true) }
 {
     laws_of_designs();
     laws_of_cells();

@@ -28,7 +28,8 @@ pub(crate) fn bits_read(
     bits: usize,
 ) -> Result<Vec<bool>, NoMemory>
     requires design { (d : Design) × IsReadable (map syntax checked.now) d list.now stored.now bits }
-    ensures reads { IfOk result (λ read. (d : Design) → IsReadable (map syntax checked.now) d list.now stored.now bits → AreReads d read.items) }
+    ensures reads { IfOk result (λ read.
+        (d : Design) → IsReadable (map syntax checked.now) d list.now stored.now bits → AreReads d read.items) }
 {
     laws_of_designs();
     laws_of_cells();

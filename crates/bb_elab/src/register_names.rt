@@ -48,9 +48,13 @@ pub(crate) fn registers_apart(
     elaborated: &Elaborated,
 ) -> Result<Vec<Name>, ElabFault>
     requires design { (d : Design) × IsElaborated (map syntax checked.now) d elaborated.now }
-    ensures texts { IfOk result (λ texts. (d : Design) → IsElaborated (map syntax checked.now) d elaborated.now → texts.items ≡ register_texts d) }
-    ensures apart { IfOk result (λ texts. (d : Design) → IsElaborated (map syntax checked.now) d elaborated.now → IsAbsentInDesign d RegisterTexts) }
-    ensures fault { IfErr result (λ fault. (fault ≡ out_of_memory) ⊎ ((d : Design) → IsElaborated (map syntax checked.now) d elaborated.now → ReportsCause d RegisterTexts fault)) }
+    ensures texts { IfOk result (λ texts.
+        (d : Design) → IsElaborated (map syntax checked.now) d elaborated.now → texts.items ≡ register_texts d) }
+    ensures apart { IfOk result (λ texts.
+        (d : Design) → IsElaborated (map syntax checked.now) d elaborated.now → IsAbsentInDesign d RegisterTexts) }
+    ensures fault { IfErr result (λ fault. (fault ≡ out_of_memory)
+        ⊎ ((d : Design) → IsElaborated (map syntax checked.now) d elaborated.now
+        → ReportsCause d RegisterTexts fault)) }
 {
     let numbers = stored_numbers(alloc, &elaborated.stored)?;
     let texts = bit_names(alloc, checked, elaborated, &numbers)?;
@@ -72,8 +76,9 @@ fn register(
     requires fits { first + stored.now.clock < 2 ^ 32 }
     requires ends { AreEnds list.now ends.old }
     ensures ends { AreEnds list.now ends.new }
-    ensures register { (d : Design) (net : Netlist) (numbers : List ℕ) → IsBounded d → AreDrivenOnce d → AreLevelized d list.now net numbers
-        → first ≡ 2 + length (cut_bits d) → limit ≡ length (top_inputs d) → (r : RegisterBit) → IsStoredAt d stored.now r → text ≡ bit_text d r.bit → IsRegister d r result }
+    ensures register { (d : Design) (net : Netlist) (numbers : List ℕ) → IsBounded d → AreDrivenOnce d
+        → AreLevelized d list.now net numbers → first ≡ 2 + length (cut_bits d) → limit ≡ length (top_inputs d)
+        → (r : RegisterBit) → IsStoredAt d stored.now r → text ≡ bit_text d r.bit → IsRegister d r result }
 {
     laws_of_cells();
     Reg {
@@ -94,8 +99,10 @@ fn registers(
 ) -> Result<Vec<Reg>, NoMemory>
     requires long { length texts.items ≡ length stored.now }
     requires fits { All (λ x. first + x.clock < 2 ^ 32) stored.now }
-    ensures registers { IfOk result (λ regs. (d : Design) (net : Netlist) (numbers : List ℕ) → IsBounded d → AreDrivenOnce d → AreLevelized d list.now net numbers
-        → first ≡ 2 + length (cut_bits d) → limit ≡ length (top_inputs d) → AreStored d stored.now → texts.items ≡ register_texts d → AllZip (IsRegister d) (registers d) regs.items) }
+    ensures registers { IfOk result (λ regs. (d : Design) (net : Netlist) (numbers : List ℕ) → IsBounded d
+        → AreDrivenOnce d → AreLevelized d list.now net numbers → first ≡ 2 + length (cut_bits d)
+        → limit ≡ length (top_inputs d) → AreStored d stored.now → texts.items ≡ register_texts d
+        → AllZip (IsRegister d) (registers d) regs.items) }
 {
     let mut ends = no_ends(alloc, list)?;
     let mut regs = Vec::with_capacity(alloc, stored.len())?;
@@ -114,8 +121,11 @@ pub(crate) fn named_registers(
     list: &Loose,
     texts: Vec<Name>,
 ) -> Result<Vec<Reg>, NoMemory>
-    requires design { (d : Design) × (net : Netlist) × (numbers : List ℕ) × IsElaborated (map syntax checked.now) d elaborated.now × AreLevelized d list.now net numbers × (texts.items ≡ register_texts d) }
-    ensures registers { IfOk result (λ regs. (d : Design) (net : Netlist) (numbers : List ℕ) → IsElaborated (map syntax checked.now) d elaborated.now → AreLevelized d list.now net numbers
+    requires design { (d : Design) × (net : Netlist) × (numbers : List ℕ)
+        × IsElaborated (map syntax checked.now) d elaborated.now × AreLevelized d list.now net numbers
+        × (texts.items ≡ register_texts d) }
+    ensures registers { IfOk result (λ regs. (d : Design) (net : Netlist) (numbers : List ℕ)
+        → IsElaborated (map syntax checked.now) d elaborated.now → AreLevelized d list.now net numbers
         → texts.items ≡ register_texts d → AllZip (IsRegister d) (registers d) regs.items) }
 {
     laws_of_cells();

@@ -10,7 +10,8 @@ ghost use Rattle.bb_design.specs.Hierarchy.{Design};
 ghost use Rattle.bb_design.specs.Inside.Allowed.{IsBounded};
 ghost use Rattle.bb_design.specs.NetBits.{net_order};
 ghost use Rattle.bb_blast.specs.Inside.Placements.{ArePlaced, AreTemplated, AreStored};
-ghost use Rattle.bb_elab.specs.Inside.StoredNumbers.{stored_from, part_stored, scope_stored, IsStorable, MayBeNoted, AreNotes};
+ghost use Rattle.bb_elab.specs.Inside.StoredNumbers.{stored_from, part_stored, scope_stored, IsStorable, MayBeNoted};
+ghost use Rattle.bb_elab.specs.Inside.StoredNumbers.{AreNotes};
 
 use bb_bits::NoMemory;
 use bb_blast::{ModuleTemplate, Part, Placed, Stored};
@@ -33,7 +34,8 @@ fn note(notes: &mut [Option<Stored>], stored: Stored)
 fn note_bits(notes: &mut [Option<Stored>], first: u32, left: &[u32], clock: u32, falling: bool)
     requires few { length notes.old < 2 ^ 32 }
     requires there { All (IsStorable (length notes.old)) (stored_from first left.now clock falling) }
-    ensures noted { (all : List Stored) → AreNotes all notes.old → AreNotes (all ++ stored_from first left.now clock falling) notes.new }
+    ensures noted { (all : List Stored) → AreNotes all notes.old
+        → AreNotes (all ++ stored_from first left.now clock falling) notes.new }
 {
     for bit in left {
         note(
@@ -50,7 +52,8 @@ fn note_bits(notes: &mut [Option<Stored>], first: u32, left: &[u32], clock: u32,
 fn note_part(notes: &mut [Option<Stored>], scope: &Placed, part: &Part)
     requires few { length notes.old < 2 ^ 32 }
     requires there { All (IsStorable (length notes.old)) (part_stored scope.now part.now) }
-    ensures noted { (all : List Stored) → AreNotes all notes.old → AreNotes (all ++ part_stored scope.now part.now) notes.new }
+    ensures noted { (all : List Stored) → AreNotes all notes.old
+        → AreNotes (all ++ part_stored scope.now part.now) notes.new }
 {
     if let Part::Register {
         left,
@@ -66,7 +69,8 @@ fn note_part(notes: &mut [Option<Stored>], scope: &Placed, part: &Part)
 fn note_parts(notes: &mut [Option<Stored>], scope: &Placed, parts: &[Part])
     requires few { length notes.old < 2 ^ 32 }
     requires there { All (IsStorable (length notes.old)) (flat_map (part_stored scope.now) parts.now) }
-    ensures noted { (all : List Stored) → AreNotes all notes.old → AreNotes (all ++ flat_map (part_stored scope.now) parts.now) notes.new }
+    ensures noted { (all : List Stored) → AreNotes all notes.old
+        → AreNotes (all ++ flat_map (part_stored scope.now) parts.now) notes.new }
 {
     for part in parts {
         note_part(notes, scope, part);
@@ -76,7 +80,8 @@ fn note_parts(notes: &mut [Option<Stored>], scope: &Placed, parts: &[Part])
 fn note_scope(notes: &mut [Option<Stored>], templates: &[ModuleTemplate], scope: &Placed)
     requires few { length notes.old < 2 ^ 32 }
     requires there { MayBeNoted templates.now (length notes.old) scope.now }
-    ensures noted { (all : List Stored) → AreNotes all notes.old → AreNotes (all ++ scope_stored templates.now scope.now) notes.new }
+    ensures noted { (all : List Stored) → AreNotes all notes.old
+        → AreNotes (all ++ scope_stored templates.now scope.now) notes.new }
 {
     if !scope.boxed {
         note_parts(notes, scope, &templates[scope.module].parts);
@@ -86,7 +91,8 @@ fn note_scope(notes: &mut [Option<Stored>], templates: &[ModuleTemplate], scope:
 fn note_scopes(notes: &mut [Option<Stored>], placed: &[Placed], templates: &[ModuleTemplate])
     requires few { length notes.old < 2 ^ 32 }
     requires there { All (MayBeNoted templates.now (length notes.old)) placed.now }
-    ensures noted { (all : List Stored) → AreNotes all notes.old → AreNotes (all ++ flat_map (scope_stored templates.now) placed.now) notes.new }
+    ensures noted { (all : List Stored) → AreNotes all notes.old
+        → AreNotes (all ++ flat_map (scope_stored templates.now) placed.now) notes.new }
 {
     for scope in placed {
         note_scope(notes, templates, scope);
@@ -123,8 +129,11 @@ pub(crate) fn stored_bits(
     templates: &[ModuleTemplate],
     bits: usize,
 ) -> Result<Vec<Stored>, NoMemory>
-    requires design { (d : Design) × ArePlaced d placed.now × AreTemplated d placed.now templates.now × IsBounded d × (bits ≡ length (net_order d)) }
-    ensures stored { IfOk result (λ all. (d : Design) → ArePlaced d placed.now → AreTemplated d placed.now templates.now → IsBounded d → bits ≡ length (net_order d) → AreStored d all.items) }
+    requires design { (d : Design) × ArePlaced d placed.now × AreTemplated d placed.now templates.now × IsBounded d
+        × (bits ≡ length (net_order d)) }
+    ensures stored { IfOk result (λ all. (d : Design) → ArePlaced d placed.now
+        → AreTemplated d placed.now templates.now → IsBounded d → bits ≡ length (net_order d)
+        → AreStored d all.items) }
 {
     laws_of_designs();
     net_names_differ();

@@ -1,10 +1,11 @@
 //! The scopes of a design, numbered in elaboration order: each before those below it, and its bits after those of the
 //! scopes before it.
 //!
-//! Widths, instance names and whether it is a box are found once a module (`ModuleSummary`), so a scope costs no more than the
-//! instances that are in it.
+//! Widths, instance names and whether it is a box are found once a module (`ModuleSummary`), so a scope costs no more
+//! than the instances that are in it.
 
-ghost use Rattle.std.specs.Prelude.{◌≡◌, ◌+◌, ◌^◌, ◌<◌, ◌++◌, ◌∷◌, [], List, Some, length, map, slice_get, slice_set, IfOk, OnOk};
+ghost use Rattle.std.specs.Prelude.{◌≡◌, ◌+◌, ◌^◌, ◌<◌, ◌++◌, ◌∷◌, [], List, Some, length, map, slice_get, slice_set};
+ghost use Rattle.std.specs.Prelude.{IfOk, OnOk};
 ghost use Rattle.bb_ast.specs.Syntax.{PlainModule};
 ghost use Rattle.bb_names.specs.Inside.Checked.{syntax};
 ghost use Rattle.bb_blast.specs.declared.placed.Placed.{Placed};
@@ -59,7 +60,8 @@ fn add_scope(
     requires fit { placing.old.bits + summary.now.bits < 2 ^ 32 }
     ensures number { IfOk result (λ number. number ≡ length placing.old.scopes.items) }
     ensures bits { OnOk result (placing.new.bits ≡ placing.old.bits + summary.now.bits) }
-    ensures scopes { OnOk result ((p : Placed) × (placing.new.scopes.items ≡ placing.old.scopes.items ++ p ∷ []) × IsAdded summary.now placing.old.bits place instance p) }
+    ensures scopes { OnOk result ((p : Placed) × (placing.new.scopes.items ≡ placing.old.scopes.items ++ p ∷ [])
+        × IsAdded summary.now placing.old.bits place instance p) }
 {
     let number = placing.scopes.len() as u32;
     let scope = new_scope(alloc, summary, placing.bits, place, instance);
@@ -70,7 +72,8 @@ fn add_scope(
 
 fn set_children(placing: &mut Placing, number: usize, children: Vec<u32>)
     requires there { number < length placing.old.scopes.items }
-    ensures set { (p : Placed) → slice_get placing.old.scopes.items number ≡ Some p → placing.new.scopes.items ≡ slice_set placing.old.scopes.items number (with_children children p) }
+    ensures set { (p : Placed) → slice_get placing.old.scopes.items number ≡ Some p
+        → placing.new.scopes.items ≡ slice_set placing.old.scopes.items number (with_children children p) }
     ensures bits { placing.new.bits ≡ placing.old.bits }
 {
     placing.scopes[number].children = children;
@@ -86,8 +89,12 @@ fn place_scope(
     instance: Option<Instance>,
     levels: u8,
 ) -> Result<u32, NoMemory>
-    requires next { (d : Design) × (s : Scope) × (rest : List Scope) × IsNext d (map (λ list. list.items) called.now) module_summaries.now placing.old place instance levels s rest }
-    ensures placed { IfOk result (λ number. (d : Design) (s : Scope) (rest : List Scope) → IsNext d (map (λ list. list.items) called.now) module_summaries.now placing.old place instance levels s rest
+    requires next { (d : Design) × (s : Scope) × (rest : List Scope)
+        × IsNext d (map (λ list. list.items) called.now) module_summaries.now placing.old place instance levels s
+        rest }
+    ensures placed { IfOk result (λ number. (d : Design) (s : Scope) (rest : List Scope)
+        → IsNext d (map (λ list. list.items) called.now) module_summaries.now placing.old place instance levels s
+        rest
         → IsPlacedNext d placing.old placing.new number rest) }
 {
     laws_of_designs();
@@ -122,10 +129,13 @@ pub(crate) fn place_scopes(
     called: &[Vec<usize>],
     top: usize,
 ) -> Result<Vec<Placed>, NoMemory>
-    requires called { map (λ list. list.items) called.now ≡ map (callees (map syntax checked.now)) (map syntax checked.now) }
+    requires called { map (λ list. list.items) called.now
+        ≡ map (callees (map syntax checked.now)) (map syntax checked.now) }
     requires top { top < length checked.now }
-    requires bounded { (t : PlainModule) → slice_get (map syntax checked.now) top ≡ Some t → IsShallow (design_on (map syntax checked.now) t) × IsSmallDesign (design_on (map syntax checked.now) t) }
-    ensures placed { IfOk result (λ all. (t : PlainModule) → slice_get (map syntax checked.now) top ≡ Some t → ArePlaced (design_on (map syntax checked.now) t) all.items) }
+    requires bounded { (t : PlainModule) → slice_get (map syntax checked.now) top ≡ Some t
+        → IsShallow (design_on (map syntax checked.now) t) × IsSmallDesign (design_on (map syntax checked.now) t) }
+    ensures placed { IfOk result (λ all. (t : PlainModule) → slice_get (map syntax checked.now) top ≡ Some t
+        → ArePlaced (design_on (map syntax checked.now) t) all.items) }
 {
     let module_summaries = module_summaries(alloc, checked.modules())?;
     let mut placing = Placing {

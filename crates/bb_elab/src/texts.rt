@@ -27,7 +27,8 @@ use std::alloc::Global;
 fn add_prefix(placed: &[Placed], scope: usize, text: &mut Vec<u8>) -> Result<(), NoMemory>
     requires rooted { AreRooted placed.now }
     requires there { scope < length placed.now }
-    ensures { (path : Path) → IsPathAt placed.now scope path → OnOk result (text.new.items ≡ text.old.items ++ path_prefix path) }
+    ensures { (path : Path) → IsPathAt placed.now scope path
+        → OnOk result (text.new.items ≡ text.old.items ++ path_prefix path) }
 {
     laws_of_designs();
     let at = &placed[scope];
@@ -42,7 +43,8 @@ fn add_prefix(placed: &[Placed], scope: usize, text: &mut Vec<u8>) -> Result<(),
 fn add_path(placed: &[Placed], scope: usize, text: &mut Vec<u8>) -> Result<(), NoMemory>
     requires rooted { AreRooted placed.now }
     requires there { scope < length placed.now }
-    ensures path { (path : Path) → IsPathAt placed.now scope path → OnOk result (text.new.items ≡ text.old.items ++ path_text path) }
+    ensures path { (path : Path) → IsPathAt placed.now scope path
+        → OnOk result (text.new.items ≡ text.old.items ++ path_text path) }
 {
     laws_of_designs();
     let at = &placed[scope];
@@ -57,7 +59,8 @@ fn add_path(placed: &[Placed], scope: usize, text: &mut Vec<u8>) -> Result<(), N
 pub(crate) fn path_name(alloc: Global, placed: &[Placed], scope: u32) -> Result<Name, NoMemory>
     requires design { (d : Design) × ArePlaced d placed.now }
     requires there { scope < length placed.now }
-    ensures name { IfOk result (λ n. (d : Design) → ArePlaced d placed.now → (s : Scope) → IsScopeAt d scope s → n ≡ path_text s.path) }
+    ensures name { IfOk result (λ n.
+        (d : Design) → ArePlaced d placed.now → (s : Scope) → IsScopeAt d scope s → n ≡ path_text s.path) }
 {
     let mut text = Vec::new(alloc);
     add_path(placed, scope as usize, &mut text)?;
@@ -143,9 +146,11 @@ fn add_pin(
     number: u32,
     text: &mut Vec<u8>,
 ) -> Result<(), NoMemory>
-    requires design { (d : Design) × (d.text ≡ map syntax checked.now) × ArePlaced d placed.now × AreTemplated d placed.now templates.now × (number < length (net_order d)) }
-    ensures pin { (d : Design) → d.text ≡ map syntax checked.now → ArePlaced d placed.now → AreTemplated d placed.now templates.now
-        → (b : Bit) → slice_get (net_order d) number ≡ Some b → OnOk result (text.new.items ≡ text.old.items ++ pin_text d b) }
+    requires design { (d : Design) × (d.text ≡ map syntax checked.now) × ArePlaced d placed.now
+        × AreTemplated d placed.now templates.now × (number < length (net_order d)) }
+    ensures pin { (d : Design) → d.text ≡ map syntax checked.now → ArePlaced d placed.now
+        → AreTemplated d placed.now templates.now → (b : Bit) → slice_get (net_order d) number ≡ Some b
+        → OnOk result (text.new.items ≡ text.old.items ++ pin_text d b) }
 {
     laws_of_designs();
     laws_of_modules();
@@ -168,9 +173,11 @@ pub(crate) fn bit_name(
     templates: &[ModuleTemplate],
     number: u32,
 ) -> Result<Name, NoMemory>
-    requires design { (d : Design) × (d.text ≡ map syntax checked.now) × ArePlaced d placed.now × AreTemplated d placed.now templates.now × (number < length (net_order d)) }
-    ensures name { IfOk result (λ n. (d : Design) → d.text ≡ map syntax checked.now → ArePlaced d placed.now → AreTemplated d placed.now templates.now
-        → (b : Bit) → slice_get (net_order d) number ≡ Some b → n ≡ bit_text d b) }
+    requires design { (d : Design) × (d.text ≡ map syntax checked.now) × ArePlaced d placed.now
+        × AreTemplated d placed.now templates.now × (number < length (net_order d)) }
+    ensures name { IfOk result (λ n. (d : Design) → d.text ≡ map syntax checked.now → ArePlaced d placed.now
+        → AreTemplated d placed.now templates.now → (b : Bit) → slice_get (net_order d) number ≡ Some b
+        → n ≡ bit_text d b) }
 {
     let scope = scope_of_bit(placed, number);
     let mut text = Vec::new(alloc);
@@ -187,9 +194,11 @@ pub(crate) fn pin_name(
     templates: &[ModuleTemplate],
     number: u32,
 ) -> Result<Name, NoMemory>
-    requires design { (d : Design) × (d.text ≡ map syntax checked.now) × ArePlaced d placed.now × AreTemplated d placed.now templates.now × (number < length (net_order d)) }
-    ensures name { IfOk result (λ n. (d : Design) → d.text ≡ map syntax checked.now → ArePlaced d placed.now → AreTemplated d placed.now templates.now
-        → (b : Bit) → slice_get (net_order d) number ≡ Some b → n ≡ pin_text d b) }
+    requires design { (d : Design) × (d.text ≡ map syntax checked.now) × ArePlaced d placed.now
+        × AreTemplated d placed.now templates.now × (number < length (net_order d)) }
+    ensures name { IfOk result (λ n. (d : Design) → d.text ≡ map syntax checked.now → ArePlaced d placed.now
+        → AreTemplated d placed.now templates.now → (b : Bit) → slice_get (net_order d) number ≡ Some b
+        → n ≡ pin_text d b) }
 {
     let mut text = Vec::new(alloc);
     add_pin(alloc, checked, placed, templates, number, &mut text)?;

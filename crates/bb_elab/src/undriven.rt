@@ -11,8 +11,10 @@ use bb_design::laws::laws_of_designs;
 /// The first in net order, if there is one.
 pub(crate) fn first_undriven(counts: &[u8], read: &[bool]) -> Option<usize>
     requires same { length read.now ≡ length counts.now }
-    ensures some { IfSome result (λ k. (d : Design) → IsBounded d → AreCounts d counts.now → AreReads d read.now → IsFirstAt d (IsUndriven d) k) }
-    ensures none { IfNone result ((d : Design) → IsBounded d → AreCounts d counts.now → AreReads d read.now → AreDriven d) }
+    ensures some { IfSome result (λ k.
+        (d : Design) → IsBounded d → AreCounts d counts.now → AreReads d read.now → IsFirstAt d (IsUndriven d) k) }
+    ensures none { IfNone result ((d : Design) → IsBounded d → AreCounts d counts.now → AreReads d read.now
+        → AreDriven d) }
 {
     laws_of_designs();
     for k in 0..counts.len() {

@@ -18,9 +18,9 @@ use Rattle.bb_design.specs.Registers.{RegisterBit, registers}
 use Rattle.bb_design.specs.Worlds.{World, IsWorld, FitDesign, bit_in, bits_in}
 use Rattle.bb_implements.specs.Implements.{IsCopyOf}
 use Rattle.bb_net.specs.Flats.{FlatNet}
-use Rattle.bb_net.specs.Kinds.{shown}
+use Rattle.bb_net.specs.Kinds.{representatives}
 use Rattle.bb_match.specs.Refusals.{Box as SpecBox, Care, SpecInput, SpecOutput, ImpInput, ImpOutput, SpecRegister, ImpRegister, SpecClock, ImpClock, Clocks}
-use Rattle.bb_equiv.specs.Comparable.{AreSettled, FittingDesignsAreComparable, GoesBy}
+use Rattle.bb_equiv.specs.Comparable.{AreSettled, FittingDesignsAreComparable, IsClockedByInput}
 use Rattle.bb_equiv.specs.DesignEquivalence.{TablesSpellContents}
 use Rattle.bb_equiv.specs.DesignFit.{HasClock, IsClockedBy}
 use Rattle.bb_equiv.specs.Inside.LowerLaws.{LowerLaws}
@@ -64,7 +64,7 @@ module _ (of : DesignLaws) (d : Design) (good : IsAllowed d) (contents : Content
   follows_same b c (inl same) = ap (bit_in w) same
   follows_same b c (inr leads) = leads_same b c leads
 
-goes_by : DesignLaws → (d : Design) → IsAllowed d → (r : RegisterBit) (b : Bit) → IsClockedBy d r b → GoesBy d r b
+goes_by : DesignLaws → (d : Design) → IsAllowed d → (r : RegisterBit) (b : Bit) → IsClockedBy d r b → IsClockedByInput d r b
 goes_by of d good r b is = λ contents w fit world. ap (bits_in w) is.is ∙ ap (λ v. v ∷ []) (follows_same of d good contents w fit world is.clock b is.comes)
 
 -- a netlist that implements the design settles it
@@ -78,10 +78,10 @@ pub fitting_designs_are_comparable : DesignLaws → LowerLaws → FittingDesigns
 fitting_designs_are_comparable of laws have spell care shared spec imp good also fit =
     let (p, pair) = have care shared spec imp good also fit in
     let s = pair_seen laws spec imp p good also pair in
-    let filling = spell care shared spec imp p good also pair (map zero_of (shown p.kinds p.imp.boxes)) (zeros_fit (shown p.kinds p.imp.boxes)) in (
+    let filling = spell care shared spec imp p good also pair (map zero_of (representatives p.kinds p.imp.boxes)) (zeros_fit (representatives p.kinds p.imp.boxes)) in (
       record {
         complete = fit SpecBox;
-        cares = fit Care;
+        has_care = fit Care;
         same_inputs = (fit SpecInput, fit ImpInput);
         same_outputs = (fit SpecOutput, fit ImpOutput);
         same_registers = (fit SpecRegister, fit ImpRegister);

@@ -73,7 +73,7 @@ module _ (have_orders : ImplementingNetsHaveBoxOrders) (have_texts : Implementin
     texts_from (r ∷ rs) [] zipped = absurd zipped
     texts_from (r ∷ rs) (g ∷ gs) zipped = let head = zipped.0.text in let rest = texts_from rs gs zipped.1 in λ k. head k ∷ rest k
 
-    pub reg_texts : cut.register_texts f ≡ register_texts d
+    pub reg_texts : cut.state_texts f ≡ register_texts d
     reg_texts = texts_from (registers d) f.regs occurs.regs
 
     -- clocks

@@ -73,10 +73,10 @@ module _ (have_orders : ImplementingNetsHaveBoxOrders) (have_texts : Implementin
     t : Implements imp g
     t = nets.imp_implements
 
-    spec_regs : cut.register_texts f ≡ register_texts spec
+    spec_regs : cut.state_texts f ≡ register_texts spec
     spec_regs = reg_texts have_orders have_texts one_input spec f good s
 
-    imp_regs : cut.register_texts g ≡ register_texts imp
+    imp_regs : cut.state_texts g ≡ register_texts imp
     imp_regs = reg_texts have_orders have_texts one_input imp g also t
 
     isomorphic_to : net.HaveSameClocks f g → IsAbsentInDesigns care spec imp Clocks

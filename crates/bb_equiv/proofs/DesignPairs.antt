@@ -5,7 +5,7 @@ use Rattle.std.proofs.lemmas.List.Elements.{All-head, All-tail}
 use Rattle.std.proofs.lemmas.Option.{slice_get-get_or}
 use Rattle.std.proofs.lemmas.Slice.Zip.{AllZip-long}
 use Rattle.bb_bits.specs.Tables.{TableBits}
-use Rattle.bb_net.specs.Kinds.{AreNumberedInOrder, AreKinds, FitKinds, first_places, shown}
+use Rattle.bb_net.specs.Kinds.{AreNumberedInOrder, AreKinds, FitKinds, first_places, representatives}
 use Rattle.bb_net.specs.Netlists.{Pins}
 use Rattle.bb_net.specs.Pairs.{BoxTexts, NamesPins, box_key}
 use Rattle.bb_net.specs.Values.{FitBoxes}
@@ -40,7 +40,7 @@ tables_beside (x ∷ texts) (b ∷ boxes) (t ∷ tables) names fit =
 
 -- what belongs to the first boxes of all kinds
 abbrev Firsts : Type 0 → Type 0
-Firsts A = (kinds : List ℕ) (xs : List A) (none : A) → AreNumberedInOrder kinds → length xs ≡ length kinds → shown kinds xs ≡ map (λ b. get_or xs b none) (first_places kinds)
+Firsts A = (kinds : List ℕ) (xs : List A) (none : A) → AreNumberedInOrder kinds → length xs ≡ length kinds → representatives kinds xs ≡ map (λ b. get_or xs b none) (first_places kinds)
 
 chosen_beside : (texts : List BoxTexts) (boxes : List Pins) (none : BoxTexts) (no_pins : Pins) (places : List ℕ) → AllZip NamesPins texts boxes → All (λ b. b < length boxes) places
     → AllZip NamesPins (map (λ b. get_or texts b none) places) (map (λ b. get_or boxes b no_pins) places)
@@ -52,7 +52,7 @@ chosen_beside texts boxes none no_pins (b ∷ places) names there =
     )
 
 pub fitting_tables_are_of_boxes : Firsts BoxTexts → Firsts Pins → ((kinds : List ℕ) → AreNumberedInOrder kinds → All (λ b. b < length kinds) (first_places kinds)) → FittingTablesAreOfBoxes
-fitting_tables_are_of_boxes text_firsts pin_firsts there p tables kept fit = tables_beside (shown p.kinds p.boxes) (shown p.kinds p.imp.boxes) tables (subst (λ l. AllZip NamesPins l (shown p.kinds p.imp.boxes)) (sym texts_are) (subst (AllZip NamesPins texts_there) (sym pins_are) beside)) fit
+fitting_tables_are_of_boxes text_firsts pin_firsts there p tables kept fit = tables_beside (representatives p.kinds p.boxes) (representatives p.kinds p.imp.boxes) tables (subst (λ l. AllZip NamesPins l (representatives p.kinds p.imp.boxes)) (sym texts_are) (subst (AllZip NamesPins texts_there) (sym pins_are) beside)) fit
   where
     names : AllZip NamesPins p.boxes p.imp.boxes
     names = kept.beside.boxes_named
@@ -69,10 +69,10 @@ fitting_tables_are_of_boxes text_firsts pin_firsts there p tables kept fit = tab
     texts_there : List BoxTexts
     texts_there = map (λ b. get_or p.boxes b none) (first_places p.kinds)
 
-    texts_are : shown p.kinds p.boxes ≡ texts_there
+    texts_are : representatives p.kinds p.boxes ≡ texts_there
     texts_are = text_firsts p.kinds p.boxes none is.ordered (sym (AllZip-long NamesPins p.boxes p.imp.boxes names) ∙ sym is.count)
 
-    pins_are : shown p.kinds p.imp.boxes ≡ map (λ b. get_or p.imp.boxes b no_pins) (first_places p.kinds)
+    pins_are : representatives p.kinds p.imp.boxes ≡ map (λ b. get_or p.imp.boxes b no_pins) (first_places p.kinds)
     pins_are = pin_firsts p.kinds p.imp.boxes no_pins is.ordered (sym is.count)
 
     beside : AllZip NamesPins texts_there (map (λ b. get_or p.imp.boxes b no_pins) (first_places p.kinds))

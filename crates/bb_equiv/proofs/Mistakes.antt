@@ -7,10 +7,10 @@ use Rattle.std.proofs.lemmas.Option.{slice_get-get_or, slice_get_within}
 use Rattle.bb_bits.specs.Contents.{Contents}
 use Rattle.bb_bits.specs.Tables.{TableBits, HasAllBits, zero_table}
 use Rattle.bb_net.specs.Equivalence.{IsVector, IsOutput, IsWrong, SomeWrong}
-use Rattle.bb_net.specs.Conditions.{IsAlwaysWrong, HasAlwaysWrong}
+use Rattle.bb_net.specs.Conditions.{IsAlwaysWrong, AlwaysSomeWrongAt}
 use Rattle.bb_net.specs.CutPoints.{CutOutput, TopOutput, cut_inputs, cut_outputs}
 use Rattle.bb_net.specs.Flats.{FlatNet}
-use Rattle.bb_net.specs.Kinds.{spread}
+use Rattle.bb_net.specs.Kinds.{per_box}
 use Rattle.bb_net.specs.Netlists.{Pins, box_at}
 use Rattle.bb_net.specs.Pairs.{NetPair}
 use Rattle.bb_net.specs.Values.{flat_with, table_at, tabled_bit, value_of, FitBoxes}
@@ -95,7 +95,7 @@ module _ {care : Option (List ℕ)} {shared : Bool} {spec imp : Design} {p : Net
         let its = bit_out g tables x i.0 in
         let off : its ≢ own = λ e. wrong (out_is s x tables j i.0 i.1 (slice_get_within (cut_outputs g) i.0 o i.2) ∙ e ∙ sym (wanted_is s x j)) in
         record {
-          counts = s.view.part.counts j o at;
+          is_compared = s.view.part.counts j o at;
           bit = own;
           spec_has = output_there s.laws (spec_filled s contents) x w is_w has_w (s.view.part.old j) o (in_spec s j o at);
           imp_has = subst (λ b. Contains (outputs_in imp v) (o, b)) (other_bit its own off) (output_there s.laws (imp_filled s contents tables fit are) x v is_v has_v i.0 o i.2);
@@ -116,7 +116,7 @@ module _ {care : Option (List ℕ)} {shared : Bool} {spec imp : Design} {p : Net
         let below = wrong_below xs (tabled_bit tables) j there is in
         record {
           worlds = both_worlds contents fit;
-          requested = λ w is_w has_w. (requested_is s x contents w is_w has_w).1 below.0;
+          required = λ w is_w has_w. (requested_is s x contents w is_w has_w).1 below.0;
           differ = λ w v is_w has_w is_v has_v. report w v (worlds_differ contents tables fit are w v is_w has_w is_v has_v j o at below.1);
         }
 
@@ -139,7 +139,7 @@ module _ {care : Option (List ℕ)} {shared : Bool} {spec imp : Design} {p : Net
         let z = free_outputs s.laws.by_boxes p.imp s.pair.kept.imp xs (tabled_bit tables) in
         (j, o, there, at, subst (λ bits. IsWrong p.spec p.imp xs bits j) (sym z.2) (wrong z.0 z.1), λ w v differ. differ))
 
-    pub vector_mistake : HasAlwaysWrong p.spec p.imp xs → IsMistakeAt care spec imp x None
+    pub vector_mistake : AlwaysSomeWrongAt p.spec p.imp xs → IsMistakeAt care spec imp x None
     vector_mistake wrong = mistake None (λ tables.
         let z = free_outputs s.laws.by_boxes p.imp s.pair.kept.imp xs (tabled_bit tables) in
         let some = subst (SomeWrong p.spec p.imp xs) (sym z.2) (wrong z.0 z.1) in
@@ -174,7 +174,7 @@ pub wrong_vectors_are_mistakes : LowerLaws → WrongVectorsAreMistakes
 wrong_vectors_are_mistakes laws care shared spec imp p spec_allowed imp_allowed pair bits vector wrong =
     let s = pair_seen laws spec imp p spec_allowed imp_allowed pair in
     let x = vector_with s bits vector in
-    (x, has_inputs s bits vector, vector_mistake s x (subst (HasAlwaysWrong p.spec p.imp) (sym (has_bits s bits vector)) wrong))
+    (x, has_inputs s bits vector, vector_mistake s x (subst (AlwaysSomeWrongAt p.spec p.imp) (sym (has_bits s bits vector)) wrong))
 
 pub failing_vectors_are_mistakes : SharedLaws → FailingVectorsAreMistakes
 failing_vectors_are_mistakes rules care shared spec imp p spec_allowed imp_allowed pair vectors whole fail contents fill =
@@ -185,5 +185,5 @@ failing_vectors_are_mistakes rules care shared spec imp p spec_allowed imp_allow
     let x = vector_with s bits vector in (
       x,
       subst (Contains vectors) (sym (has_inputs s bits vector)) among,
-      failing_mistake s x contents (spread p.kinds tables) fill.fit are (subst (λ xs. SomeWrong p.spec p.imp xs (flat_with p.imp xs (spread p.kinds tables))) (sym (has_bits s bits vector)) wrong),
+      failing_mistake s x contents (per_box p.kinds tables) fill.fit are (subst (λ xs. SomeWrong p.spec p.imp xs (flat_with p.imp xs (per_box p.kinds tables))) (sym (has_bits s bits vector)) wrong),
     )

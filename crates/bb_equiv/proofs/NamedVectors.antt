@@ -19,7 +19,7 @@ use Rattle.bb_design.specs.Registers.{RegisterBit, registers}
 use Rattle.bb_implements.specs.Implements.{IsRegister, Implements}
 use Rattle.bb_design.specs.Texts.{bit_text}
 use Rattle.bb_design.specs.Worlds.{World, Vector, bit_in, next_bit, outputs_in}
-use Rattle.bb_net.specs.CutPoints.{CutInput, TopInput, State, CutOutput, TopOutput, NextState, register_texts, cut_inputs, cut_outputs}
+use Rattle.bb_net.specs.CutPoints.{CutInput, TopInput, State, CutOutput, TopOutput, NextState, state_texts, cut_inputs, cut_outputs}
 use Rattle.bb_lemmas.proofs.Apart.{pairs_tail}
 
 -- the place of a text in a list
@@ -47,10 +47,10 @@ module _ (f : FlatNet) (flat : IsFlat f) (xs : List Bool) (long : length xs ≡ 
   -- the vector that gives the bits of the list
   pub vector_of : Vector
   vector_of (TopInput t) = bit_of xs (place f.ins t)
-  vector_of (State t) = bit_of xs (length f.ins + place (register_texts f) t)
+  vector_of (State t) = bit_of xs (length f.ins + place (state_texts f) t)
 
-  counted : length (cut_inputs f) ≡ length f.ins + length (register_texts f)
-  counted = length-append (map TopInput f.ins) (map State (register_texts f)) ∙ ap₂ ◌+◌ (length-map f.ins TopInput) (length-map (register_texts f) State)
+  counted : length (cut_inputs f) ≡ length f.ins + length (state_texts f)
+  counted = length-append (map TopInput f.ins) (map State (state_texts f)) ∙ ap₂ ◌+◌ (length-map f.ins TopInput) (length-map (state_texts f) State)
 
   bit_is : (k : ℕ) (e : CutInput) → k < length (cut_inputs f) → vector_of (get_or (cut_inputs f) k e) ≡ bit_of xs k
   unfolding vector_of
@@ -59,16 +59,16 @@ module _ (f : FlatNet) (flat : IsFlat f) (xs : List Bool) (long : length xs ≡ 
       by : (k < length f.ins) ⊎ (length f.ins ≤ k) → vector_of (get_or (cut_inputs f) k e) ≡ bit_of xs k
       by (inl h) =
           let at = slice_get-get_or f.ins k [] h in
-          let is : get_or (cut_inputs f) k e ≡ TopInput (get_or f.ins k []) = get_or_append_left (map TopInput f.ins) (map State (register_texts f)) e k (omega (arith, h, length-map f.ins TopInput)) ∙ get_or-map TopInput f.ins k [] e h in
+          let is : get_or (cut_inputs f) k e ≡ TopInput (get_or f.ins k []) = get_or_append_left (map TopInput f.ins) (map State (state_texts f)) e k (omega (arith, h, length-map f.ins TopInput)) ∙ get_or-map TopInput f.ins k [] e h in
           ap vector_of is ∙ ap (bit_of xs) (place-at f.ins k (get_or f.ins k []) flat.apart.ins at)
       by (inr h) =
           let n = k - length f.ins in
           let sum : length f.ins + n ≡ k = omega (arith, h) in
-          let inside : n < length (register_texts f) = omega (arith, sum, fits, counted) in
-          let at = slice_get-get_or (register_texts f) n [] inside in
-          let is : get_or (cut_inputs f) k e ≡ State (get_or (register_texts f) n []) = ap (λ m. get_or (cut_inputs f) m e) (omega (arith, sum, length-map f.ins TopInput))
-          ∙ get_or-append-add (map TopInput f.ins) (map State (register_texts f)) n e ∙ get_or-map State (register_texts f) n [] e inside in
-          ap vector_of is ∙ ap (λ m. bit_of xs (length f.ins + m)) (place-at (register_texts f) n (get_or (register_texts f) n []) flat.apart.regs at) ∙ ap (bit_of xs) sum
+          let inside : n < length (state_texts f) = omega (arith, sum, fits, counted) in
+          let at = slice_get-get_or (state_texts f) n [] inside in
+          let is : get_or (cut_inputs f) k e ≡ State (get_or (state_texts f) n []) = ap (λ m. get_or (cut_inputs f) m e) (omega (arith, sum, length-map f.ins TopInput))
+          ∙ get_or-append-add (map TopInput f.ins) (map State (state_texts f)) n e ∙ get_or-map State (state_texts f) n [] e inside in
+          ap vector_of is ∙ ap (λ m. bit_of xs (length f.ins + m)) (place-at (state_texts f) n (get_or (state_texts f) n []) flat.apart.regs at) ∙ ap (bit_of xs) sum
 
   pub vector_is : map vector_of (cut_inputs f) ≡ xs
   vector_is = same_lists (map vector_of (cut_inputs f)) xs (length-map (cut_inputs f) vector_of ∙ sym long) (λ k d fits.
@@ -83,13 +83,13 @@ zip_texts d (x ∷ xs) [] all = absurd all
 zip_texts d (x ∷ xs) (y ∷ ys) all = ap₂ ◌∷◌ all.0.text (zip_texts d xs ys all.1)
 
 module _ (d : Design) (f : FlatNet) (occurs : Implements d f) where
-  pub registers_are : register_texts f ≡ map (λ r. bit_text d r.bit) (registers d)
+  pub registers_are : state_texts f ≡ map (λ r. bit_text d r.bit) (registers d)
   registers_are = zip_texts d (registers d) f.regs occurs.regs
 
   pub vector_bits_are : (x : Vector) → vector_bits d x ≡ map x (cut_inputs f)
-  vector_bits_are x = sym (map-append x (map TopInput f.ins) (map State (register_texts f))
+  vector_bits_are x = sym (map-append x (map TopInput f.ins) (map State (state_texts f))
       ∙ ap₂ ◌++◌ (map-map x TopInput f.ins ∙ ap (map (λ t. x (TopInput t))) occurs.ins ∙ map-map (λ t. x (TopInput t)) (bit_text d) (top_inputs d))
-      (map-map x State (register_texts f) ∙ ap (map (λ t. x (State t))) registers_are ∙ map-map (λ t. x (State t)) (λ (r : RegisterBit). bit_text d r.bit) (registers d)))
+      (map-map x State (state_texts f) ∙ ap (map (λ t. x (State t))) registers_are ∙ map-map (λ t. x (State t)) (λ (r : RegisterBit). bit_text d r.bit) (registers d)))
 
   pub outputs_are : (w : World) → map (λ o. o.0) (outputs_in d w) ≡ cut_outputs f
   outputs_are w = map-append (λ (o : CutOutput × Bool). o.0) (map (λ b. (TopOutput (bit_text d b), bit_in w b)) (top_outputs d)) (map (λ r. (NextState (bit_text d r.bit), next_bit w r)) (registers d))

@@ -74,7 +74,7 @@ shown_differ care spec imp contents x reported allowed with agree =
     let (w, is_w, has_w) = spec_world in
     let (v, is_v, has_v) = imp_world in
     let (o, differ) = reported_somewhere care spec imp w v reported (with.differ w v is_w has_w is_v has_v) in
-    let also = (agree x w v is_w has_w is_v has_v (with.requested w is_w has_w) o differ.bit differ.counts).0 differ.spec_has in
+    let also = (agree x w v is_w has_w is_v has_v (with.required w is_w has_w) o differ.bit differ.is_compared).0 differ.spec_has in
     turned differ.bit (one_bit imp allowed.sound v o differ.bit (not differ.bit) (place imp allowed.sound v o differ.bit also) (place imp allowed.sound v o (not differ.bit) differ.imp_has))
 
 pub mistakes_refute : MistakesRefute

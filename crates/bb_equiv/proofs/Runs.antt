@@ -16,9 +16,9 @@ use Rattle.bb_design.specs.Registers.{RegisterBit, registers}
 use Rattle.bb_design.specs.Texts.{bit_text}
 use Rattle.bb_design.specs.Worlds.{World, Vector, HasVector, IsWorld, FitDesign, bit_in, next_bit, outputs_in}
 use Rattle.bb_net.specs.CutPoints.{CutOutput, NextState, State, TopInput, TopOutput}
-use Rattle.bb_equiv.specs.Comparable.{AreComparable, AreSettled, GoesBy}
+use Rattle.bb_equiv.specs.Comparable.{AreComparable, AreSettled, IsClockedByInput}
 use Rattle.bb_equiv.specs.DesignEquivalence.{ContentsMakeEquivalent, HaveSameBits, IsRequired, IsCompared}
-use Rattle.bb_equiv.specs.Runs.{EquivalentDesignsRunTheSame, ComparableDesignsHaveRuns, Event, HaveSameStates, IsEvent, NoEvent, OneMore, Runs, Seen, ShowTheSame, States, Stores, seen_at}
+use Rattle.bb_equiv.specs.Runs.{EquivalentDesignsRunTheSame, ComparableDesignsHaveRuns, Event, HaveSameStates, IsEvent, NoEvent, OneMore, Runs, Observation, ShowTheSame, States, Stores, seen_at}
 use Rattle.bb_equiv.proofs.OneBit.{one_bit, place}
 
 some_one : (a b : Bool) → Some a ≡ Some b → a ≡ b
@@ -43,7 +43,7 @@ alone_at n (State m) = false
 
 -- a register has one clock
 module _ (d : Design) (contents : Contents) (fit : FitDesign d contents) (settled : AreSettled d contents) (r : RegisterBit) where
-  pub one_clock : (b c : Bit) → Contains (top_inputs d) b → Contains (top_inputs d) c → GoesBy d r b → GoesBy d r c → bit_text d c ≡ bit_text d b
+  pub one_clock : (b c : Bit) → Contains (top_inputs d) b → Contains (top_inputs d) c → IsClockedByInput d r b → IsClockedByInput d r c → bit_text d c ≡ bit_text d b
   one_clock b c in_b in_c goes also =
       let (w, is, has) = settled.some (alone_at (bit_text d b)) in
       let first : bit_in w b ≡ same_name (bit_text d b) (bit_text d b) = All-contains (λ (t : Bit). bit_in w t ≡ alone_at (bit_text d b) (TopInput (bit_text d t))) (top_inputs d) b has.inputs in_b in
@@ -139,15 +139,15 @@ module _ (care : Option (List ℕ)) (spec imp : Design) (contents : Contents) (c
   run_isomorphic allowed agree states others (event ∷ events) [] more same runs also requested = elim runs [ ]
   run_isomorphic allowed agree states others (event ∷ events) (step ∷ steps) [] same runs more requested = elim more [ ]
   run_isomorphic allowed agree states others (event ∷ events) (step ∷ steps) (also ∷ rest) same (OneMore w a runs) (OneMore v b more) requested =
-      let now = All-head (λ (one : Seen). IsRequired care one.outputs) step steps requested in
+      let now = All-head (λ (one : Observation). IsRequired care one.outputs) step steps requested in
       let after = same_states allowed agree states others same event w v step.after also.after a b now in (
         record { outputs = same_outputs allowed agree states others same event w v step.after also.after a b now; states = after },
-        run_isomorphic allowed agree step.after also.after events steps rest after runs more (All-tail (λ (one : Seen). IsRequired care one.outputs) step steps requested),
+        run_isomorphic allowed agree step.after also.after events steps rest after runs more (All-tail (λ (one : Observation). IsRequired care one.outputs) step steps requested),
       )
 
 -- where each register has a clock and there are worlds, there are runs
 module _ (d : Design) (contents : Contents) (allowed : IsAllowed d) (fit : FitDesign d contents) (settled : AreSettled d contents)
-    (clocked : (r : RegisterBit) → Contains (registers d) r → (b : Bit) × Contains (top_inputs d) b × GoesBy d r b) where
+    (clocked : (r : RegisterBit) → Contains (registers d) r → (b : Bit) × Contains (top_inputs d) b × IsClockedByInput d r b) where
   stores_here : (event : Event) (r : RegisterBit) → Contains (registers d) r → Stores d event r ⊎ (Stores d event r → ⊥)
   stores_here event r in_r =
       let (b, in_b, goes) = clocked r in_r in
@@ -202,7 +202,7 @@ module _ (d : Design) (contents : Contents) (allowed : IsAllowed d) (fit : FitDe
       keeps = λ r in_r kept. let (s, same) = found r in_r (register_of (bit_text d r.bit)) refl in same ∙ off r s kept;
     }
 
-  pub some_run : (states : States) (events : List Event) → (seen : List Seen) × Runs d contents states events seen
+  pub some_run : (states : States) (events : List Event) → (seen : List Observation) × Runs d contents states events seen
   some_run states [] = ([], NoEvent)
   some_run states (event ∷ events) =
       let (w, is, has) = settled.some (seen_at states event) in
@@ -218,14 +218,14 @@ comparable_designs_have_runs care spec imp contents spec_allowed imp_allowed can
     settled : AreSettled spec contents × AreSettled imp contents
     settled = can.settled contents fit
 
-    of_spec : (r : RegisterBit) → Contains (registers spec) r → (b : Bit) × Contains (top_inputs spec) b × GoesBy spec r b
+    of_spec : (r : RegisterBit) → Contains (registers spec) r → (b : Bit) × Contains (top_inputs spec) b × IsClockedByInput spec r b
     of_spec r in_r =
         let (q, in_q, named) = from_map (λ (q : RegisterBit). bit_text imp q.bit) (registers imp) (bit_text spec r.bit) (All-contains (Contains (register_texts imp)) (register_texts spec) (bit_text spec r.bit) can.same_registers.0
         (contains-map (λ (r : RegisterBit). bit_text spec r.bit) (registers spec) r in_r)) in
         let (falls, clocks) = can.clocks r q in_r in_q named in
         (clocks.0, clocks.2, clocks.5)
 
-    of_imp : (q : RegisterBit) → Contains (registers imp) q → (b : Bit) × Contains (top_inputs imp) b × GoesBy imp q b
+    of_imp : (q : RegisterBit) → Contains (registers imp) q → (b : Bit) × Contains (top_inputs imp) b × IsClockedByInput imp q b
     of_imp q in_q =
         let (r, in_r, named) = from_map (λ (r : RegisterBit). bit_text spec r.bit) (registers spec) (bit_text imp q.bit) (All-contains (Contains (register_texts spec)) (register_texts imp) (bit_text imp q.bit) can.same_registers.1
         (contains-map (λ (q : RegisterBit). bit_text imp q.bit) (registers imp) q in_q)) in

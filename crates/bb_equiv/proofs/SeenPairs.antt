@@ -9,7 +9,7 @@ use Rattle.std.proofs.lemmas.Option.{slice_get_within}
 use Rattle.bb_lemmas.proofs.Picked.{one_place}
 use Rattle.bb_lemmas.proofs.Places.{got-map, got_left}
 use Rattle.bb_net.specs.Equivalence.{IsOutput, IsRight}
-use Rattle.bb_net.specs.CutPoints.{CutOutput, TopOutput, NextState, cut_inputs, cut_outputs, register_texts}
+use Rattle.bb_net.specs.CutPoints.{CutOutput, TopOutput, NextState, cut_inputs, cut_outputs, state_texts}
 use Rattle.bb_net.specs.Flats.{FlatNet, IsFlat}
 use Rattle.bb_net.specs.Netlists.{Netlist}
 use Rattle.bb_net.specs.Pairs.{NetPair, IsPair}
@@ -24,11 +24,11 @@ use Rattle.bb_equiv.specs.Inside.LowerLaws.{LowerLaws}
 
 -- the cut outputs that are compared
 abbrev pub compared_outputs : Option (List ℕ) → FlatNet → List CutOutput
-compared_outputs care f = map TopOutput (compared care f.outs) ++ map NextState (register_texts f)
+compared_outputs care f = map TopOutput (compared care f.outs) ++ map NextState (state_texts f)
 
 -- they are those of a netlist without the care output
 pub less_outputs : ComparedAreTheOthers → (f : FlatNet) → IsFlat f → (care : List ℕ) (k : ℕ) → slice_get f.outs k ≡ Some care → cut_outputs (without_output k f) ≡ compared_outputs (Some care) f
-less_outputs others f flat_f care k occurs = ap (λ l. map TopOutput l ++ map NextState (register_texts f)) (sym (others care f k flat_f occurs))
+less_outputs others f flat_f care k occurs = ap (λ l. map TopOutput l ++ map NextState (state_texts f)) (sym (others care f k flat_f occurs))
 
 -- a flat netlist is another with these outputs alone
 pub record IsPartOf (care : Option (List ℕ)) (f h : FlatNet) : Type 0 where
@@ -107,11 +107,11 @@ module _ (laws : LowerLaws) (f : FlatNet) (flat_f : IsFlat f) (care : List ℕ) 
   within = slice_get_within f.outs k care occurs
 
   care_at : slice_get (cut_outputs f) k ≡ Some (TopOutput care)
-  care_at = got_left (map TopOutput f.outs) (map NextState (register_texts f)) k (TopOutput care) (got-map TopOutput f.outs k care occurs)
+  care_at = got_left (map TopOutput f.outs) (map NextState (state_texts f)) k (TopOutput care) (got-map TopOutput f.outs k care occurs)
 
   listed : cut_outputs h ≡ without k (cut_outputs f)
-  listed = ap (λ l. l ++ map NextState (register_texts f)) (without-map TopOutput k f.outs)
-      ∙ sym (remove-append_left (map TopOutput f.outs) (map NextState (register_texts f)) k (omega (arith, within, length-map f.outs TopOutput)))
+  listed = ap (λ l. l ++ map NextState (state_texts f)) (without-map TopOutput k f.outs)
+      ∙ sym (remove-append_left (map TopOutput f.outs) (map NextState (state_texts f)) k (omega (arith, within, length-map f.outs TopOutput)))
 
   texts : (j : ℕ) → slice_get (cut_outputs h) j ≡ slice_get (cut_outputs f) (old_place k j)
   texts j = ap (λ l. slice_get l j) listed ∙ got_without k (cut_outputs f) j

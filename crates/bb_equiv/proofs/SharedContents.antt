@@ -9,7 +9,7 @@ use Rattle.bb_bits.specs.Contents.{Contents}
 use Rattle.bb_bits.specs.Laws.RowLaws.{RowsFixTable}
 use Rattle.bb_bits.specs.Tables.{TableBits, rows_of}
 use Rattle.bb_net.specs.Flats.{FlatNet}
-use Rattle.bb_net.specs.Kinds.{FitKinds, NoSharedTablesMakeEquivalent, shown, spread}
+use Rattle.bb_net.specs.Kinds.{FitKinds, NoSharedTablesMakeEquivalent, representatives, per_box}
 use Rattle.bb_net.specs.Netlists.{Pins}
 use Rattle.bb_net.specs.Pairs.{NetPair, BoxTexts, NamesPins, box_key}
 use Rattle.bb_net.specs.Values.{table_at, FitBoxes}
@@ -31,11 +31,11 @@ pub record SharedLaws : Type 0 where
   pub laws : LowerLaws
   pub orders : ImplementingNetsHaveBoxOrders
   pub fixed : RowsFixTable
-  pub fit : (kinds : List ℕ) (all : List Pins) (tables : List TableBits) → FitKinds kinds all → FitBoxes tables (shown kinds all) → FitBoxes (spread kinds tables) all
-  pub shown_fit : (kinds : List ℕ) (all : List Pins) (tables : List TableBits) → FitKinds kinds all → FitBoxes tables all → FitBoxes (shown kinds tables) (shown kinds all)
+  pub fit : (kinds : List ℕ) (all : List Pins) (tables : List TableBits) → FitKinds kinds all → FitBoxes tables (representatives kinds all) → FitBoxes (per_box kinds tables) all
+  pub shown_fit : (kinds : List ℕ) (all : List Pins) (tables : List TableBits) → FitKinds kinds all → FitBoxes tables all → FitBoxes (representatives kinds tables) (representatives kinds all)
   pub back : (kinds : List ℕ) (all : List Pins) (tables : List TableBits) → FitKinds kinds all → FitBoxes tables all
-      → ((a b : ℕ) → a < length all → b < length all → slice_index kinds a ≡ slice_index kinds b → table_at tables a ≡ table_at tables b) → spread kinds (shown kinds tables) ≡ tables
-  pub at : (kinds : List ℕ) (tables : List TableBits) (b : ℕ) → b < length kinds → table_at (spread kinds tables) b ≡ table_at tables (slice_index kinds b)
+      → ((a b : ℕ) → a < length all → b < length all → slice_index kinds a ≡ slice_index kinds b → table_at tables a ≡ table_at tables b) → per_box kinds (representatives kinds tables) ≡ tables
+  pub at : (kinds : List ℕ) (tables : List TableBits) (b : ℕ) → b < length kinds → table_at (per_box kinds tables) b ≡ table_at tables (slice_index kinds b)
 
 abbrev pub no_texts : BoxTexts
 no_texts = record { path = []; «module» = []; ins = []; outs = [] }
@@ -120,15 +120,15 @@ module _ {care : Option (List ℕ)} {shared : Bool} (rules : SharedLaws) (spec i
       (sym (are.rows a (omega (arith, here, count))) ∙ contents_by_key shared imp contents s.0 t.0 (box a) (box b) fill.one s.1 t.1 s.2 t.2 ((key_of_kind a b here there).0 kind) ∙ are.rows b (omega (arith, there, count)))
 
   module _ (tables : List TableBits) where
-    pub spread_fit : FitBoxes tables (shown p.kinds p.imp.boxes) → FitBoxes (spread p.kinds tables) p.imp.boxes
+    pub spread_fit : FitBoxes tables (representatives p.kinds p.imp.boxes) → FitBoxes (per_box p.kinds tables) p.imp.boxes
     spread_fit fit = rules.fit p.kinds p.imp.boxes tables is fit
 
     -- a box has the rows of the table of its kind
-    pub rows_by_kind : (contents : Contents) → AreTablesOf g contents (spread p.kinds tables) → (b : ℕ) → b < length p.imp.boxes → contents (box b).path ≡ rows_of (table_at tables (slice_index p.kinds b))
+    pub rows_by_kind : (contents : Contents) → AreTablesOf g contents (per_box p.kinds tables) → (b : ℕ) → b < length p.imp.boxes → contents (box b).path ≡ rows_of (table_at tables (slice_index p.kinds b))
     rows_by_kind contents are b within = are.rows b (omega (arith, within, box_count boxes_of)) ∙ ap rows_of (rules.at p.kinds tables b (omega (arith, within, is.count)))
 
     -- contents whose tables are those of kinds may fill
-    pub filled : (contents : Contents) → FitDesign imp contents → AreTablesOf g contents (spread p.kinds tables) → MayFill shared imp contents
+    pub filled : (contents : Contents) → FitDesign imp contents → AreTablesOf g contents (per_box p.kinds tables) → MayFill shared imp contents
     filled contents fit are = record {
       fit = fit;
       one = λ e s t in_s in_t same.
@@ -140,27 +140,27 @@ module _ {care : Option (List ℕ)} {shared : Bool} (rules : SharedLaws) (spec i
     }
 
     -- and there are such contents
-    pub found : FitBoxes tables (shown p.kinds p.imp.boxes) → (contents : Contents) × MayFill shared imp contents × AreTablesOf g contents (spread p.kinds tables)
+    pub found : FitBoxes tables (representatives p.kinds p.imp.boxes) → (contents : Contents) × MayFill shared imp contents × AreTablesOf g contents (per_box p.kinds tables)
     found fit =
-        let c = laws.contents imp g (imp_allowed.sound BoxCause) pair.imp_implements (spread p.kinds tables) (from_pair boxes_of (spread p.kinds tables) (spread_fit fit)) in
+        let c = laws.contents imp g (imp_allowed.sound BoxCause) pair.imp_implements (per_box p.kinds tables) (from_pair boxes_of (per_box p.kinds tables) (spread_fit fit)) in
         (c.0, filled c.0 c.1 c.2, c.2)
 
   -- contents that may fill have tables, one for each kind
-  pub tables_of_kinds : (contents : Contents) → MayFill shared imp contents → (tables : List TableBits) × FitBoxes tables (shown p.kinds p.imp.boxes) × AreTablesOf g contents (spread p.kinds tables)
+  pub tables_of_kinds : (contents : Contents) → MayFill shared imp contents → (tables : List TableBits) × FitBoxes tables (representatives p.kinds p.imp.boxes) × AreTablesOf g contents (per_box p.kinds tables)
   tables_of_kinds contents fill =
       let t = laws.tables imp g pair.imp_implements contents fill.fit in
       let fit = to_pair boxes_of t.0 t.1.fit in
       let same = rules.back p.kinds p.imp.boxes t.0 is fit (one_table contents t.0 fill t.1) in
-      (shown p.kinds t.0, rules.shown_fit p.kinds p.imp.boxes t.0 is fit, subst (AreTablesOf g contents) (sym same) t.1)
+      (representatives p.kinds t.0, rules.shown_fit p.kinds p.imp.boxes t.0 is fit, subst (AreTablesOf g contents) (sym same) t.1)
 
   pub no_tables_no_contents : NoSharedTablesMakeEquivalent p.spec p.imp p.kinds ↔ NoContentsMakeEquivalent care shared spec imp
   no_tables_no_contents = (
     (λ none contents fill agree.
         let (tables, fit, are) = tables_of_kinds contents fill in
-        none tables fit (contents_to_tables pair_is_seen contents (spread p.kinds tables) fill.fit are agree)),
+        none tables fit (contents_to_tables pair_is_seen contents (per_box p.kinds tables) fill.fit are agree)),
     (λ none tables fit agree.
         let c = found tables fit in
-        none c.0 c.1 (tables_to_contents pair_is_seen c.0 (spread p.kinds tables) c.1.fit c.2 agree)),
+        none c.0 c.1 (tables_to_contents pair_is_seen c.0 (per_box p.kinds tables) c.1.fit c.2 agree)),
   )
 
 pub no_tables_exactly : SharedLaws → NoTablesNoContents

@@ -16,7 +16,7 @@ use Rattle.bb_net.specs.CutPoints.{CutOutput, NextState, State, TopInput, TopOut
 use Rattle.bb_equiv.specs.Comparable.{AreComparable}
 use Rattle.bb_equiv.specs.DesignEquivalence.{IsRequired, IsCompared}
 use Rattle.bb_equiv.specs.Mistakes.{DifferAt, DifferWith}
-use Rattle.bb_equiv.specs.Runs.{AreObservedTheSame, Event, EventsShowCounterexamples, IsEvent, NoEvent, OneMore, Runs, Seen, States, Stores, seen_at}
+use Rattle.bb_equiv.specs.Runs.{AreObservedTheSame, Event, EventsShowCounterexamples, IsEvent, NoEvent, OneMore, Runs, Observation, States, Stores, seen_at}
 use Rattle.bb_equiv.proofs.OneBit.{apart, called, one_bit, one_next, place, turned, valued}
 use Rattle.bb_equiv.proofs.Runs.{comparable_designs_have_runs, stores_too}
 
@@ -53,7 +53,7 @@ module _ (care : Option (List ℕ)) (spec imp : Design) (contents : Contents) (s
   top_apart : (w v : World) (differ : DifferAt care spec imp w v o) (n : List ℕ) → TopOutput n ≡ o
       → ((b : Bool) → IsCompared care (TopOutput n) → Contains (outputs_in spec w) (TopOutput n, b) → Contains (outputs_in imp v) (TopOutput n, b)) → ⊥
   top_apart w v differ n is same =
-      let counts = subst (IsCompared care) (sym is) differ.counts in
+      let counts = subst (IsCompared care) (sym is) differ.is_compared in
       let here = subst (λ p. Contains (outputs_in spec w) (p, differ.bit)) (sym is) differ.spec_has in
       let also = subst (λ p. Contains (outputs_in imp v) (p, differ.bit)) is (same differ.bit counts here) in
       turned differ.bit (one_bit imp allowed.sound v o differ.bit (not differ.bit) (place imp allowed.sound v o differ.bit also) (place imp allowed.sound v o (not differ.bit) differ.imp_has))
@@ -70,7 +70,7 @@ module _ (care : Option (List ℕ)) (spec imp : Design) (contents : Contents) (s
       let too = stores_too care spec imp contents can fit r q in_r in_q named event stores in
       turned differ.bit (sym bit_r ∙ sym (a.stores r in_r stores) ∙ sym same ∙ ap more (sym named) ∙ b.stores q in_q too ∙ bit_q)
 
-  observed : (w v : World) (a b : Seen) → a.outputs ≡ outputs_in spec w → b.outputs ≡ outputs_in imp v → IsEvent spec contents states event w a.after
+  observed : (w v : World) (a b : Observation) → a.outputs ≡ outputs_in spec w → b.outputs ≡ outputs_in imp v → IsEvent spec contents states event w a.after
       → IsEvent imp contents states event v b.after → AreObservedTheSame care spec a b → ⊥
   observed w v a b are also is be alike =
       let differ = with.differ w v is.world (has spec w is.vector) be.world (has imp v be.vector) in
@@ -86,18 +86,18 @@ module _ (care : Option (List ℕ)) (spec imp : Design) (contents : Contents) (s
         ]
       ]
 
-  alone : (P : Seen → Type 0) (a : Seen) → P a → All P (a ∷ [])
+  alone : (P : Observation → Type 0) (a : Observation) → P a → All P (a ∷ [])
   alone P a is = all_from P (a ∷ []) (λ y in_y. elim (contains_cases a [] y in_y) [
     | inl same ↦ subst P same is
     | inr none ↦ absurd (none_in_nil y none)
   ])
 
-  requested : (seen : List Seen) → Runs spec contents states (event ∷ []) seen → All (λ (one : Seen). IsRequired care one.outputs) seen
+  requested : (seen : List Observation) → Runs spec contents states (event ∷ []) seen → All (λ (one : Observation). IsRequired care one.outputs) seen
   requested [] runs = elim runs [ ]
   requested (a ∷ (c ∷ cs)) (OneMore w is rest) = elim rest [ ]
-  requested (a ∷ []) (OneMore w is NoEvent) = alone (λ (one : Seen). IsRequired care one.outputs) a (with.requested w is.world (has spec w is.vector))
+  requested (a ∷ []) (OneMore w is NoEvent) = alone (λ (one : Observation). IsRequired care one.outputs) a (with.required w is.world (has spec w is.vector))
 
-  apart_after : (seen more : List Seen) → Runs spec contents states (event ∷ []) seen → Runs imp contents states (event ∷ []) more → AllZip (AreObservedTheSame care spec) seen more → ⊥
+  apart_after : (seen more : List Observation) → Runs spec contents states (event ∷ []) seen → Runs imp contents states (event ∷ []) more → AllZip (AreObservedTheSame care spec) seen more → ⊥
   apart_after [] more runs others = elim runs [ ]
   apart_after (a ∷ ws) [] runs others = elim others [ ]
   apart_after (a ∷ (c ∷ cs)) (b ∷ bs) (OneMore w is rest) others = elim rest [ ]
@@ -112,6 +112,6 @@ events_show_counterexamples care spec imp contents spec_allowed allowed can fit 
       imp_runs = runs.1;
       states = states care spec imp contents spec_allowed allowed can fit x o with;
       event = event care spec imp contents spec_allowed allowed can fit x o with;
-      requested = requested care spec imp contents spec_allowed allowed can fit x o with;
+      required = requested care spec imp contents spec_allowed allowed can fit x o with;
       apart = apart_after care spec imp contents spec_allowed allowed can fit x o with;
     }

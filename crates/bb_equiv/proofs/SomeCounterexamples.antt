@@ -219,13 +219,13 @@ module _ (care : Option (List ℕ)) (spec imp : Design) (can : AreComparable car
   lost o b has off =
       let (c, there) = in_imp o b off.0 has in
       let other : c ≡ not b = other_bit c b (λ same. off.1 (subst (λ z. Contains (outputs_in imp v) (o, z)) same there)) in
-      (o, record { counts = off.0; bit = b; spec_has = has; imp_has = subst (λ z. Contains (outputs_in imp v) (o, z)) other there })
+      (o, record { is_compared = off.0; bit = b; spec_has = has; imp_has = subst (λ z. Contains (outputs_in imp v) (o, z)) other there })
 
   gained : (o : CutOutput) (b : Bool) → Contains (outputs_in imp v) (o, b) → Off (outputs_in spec w) (o, b) → Found
   gained o b has off =
       let (c, there) = in_spec o b has in
       let other : b ≡ not c = other_bit b c (λ same. off.1 (subst (λ z. Contains (outputs_in spec w) (o, z)) (sym same) there)) in
-      (o, record { counts = off.0; bit = c; spec_has = there; imp_has = subst (λ z. Contains (outputs_in imp v) (o, z)) other has })
+      (o, record { is_compared = off.0; bit = c; spec_has = there; imp_has = subst (λ z. Contains (outputs_in imp v) (o, z)) other has })
 
   pub same_or_differ : HaveSameBits care (outputs_in spec w) (outputs_in imp v) ⊎ Found
   same_or_differ = from (decide_some (Off (outputs_in imp v)) (decide_off (outputs_in imp v)) (outputs_in spec w)) (decide_some (Off (outputs_in spec w)) (decide_off (outputs_in spec w)) (outputs_in imp v))
@@ -262,9 +262,9 @@ module _ (care : Option (List ℕ)) (spec imp : Design) (contents : Contents) (c
         o,
         record {
           worlds = ((w, is_w, has_w), (v, is_v, has_v));
-          requested = λ u is_u has_u. subst (IsRequired care) (spec_one w u is_w has_w is_u has_u) requested;
+          required = λ u is_u has_u. subst (IsRequired care) (spec_one w u is_w has_w is_u has_u) requested;
           differ = λ u t is_u has_u is_t has_t. record {
-            counts = differ.counts;
+            is_compared = differ.is_compared;
             bit = differ.bit;
             spec_has = subst (λ os. Contains os (o, differ.bit)) (spec_one w u is_w has_w is_u has_u) differ.spec_has;
             imp_has = subst (λ ps. Contains ps (o, not differ.bit)) (imp_one v t is_v has_v is_t has_t) differ.imp_has;

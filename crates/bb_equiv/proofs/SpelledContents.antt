@@ -7,7 +7,7 @@ use Rattle.bb_bits.specs.Contents.{Contents}
 use Rattle.bb_bits.specs.Tables.{TableBits, rows_of}
 use Rattle.bb_lemmas.proofs.Zips.{zip_at, zip_by}
 use Rattle.bb_net.specs.Equivalence.{TablesMakeEquivalent}
-use Rattle.bb_net.specs.Kinds.{shown, spread}
+use Rattle.bb_net.specs.Kinds.{representatives, per_box}
 use Rattle.bb_net.specs.Pairs.{NetPair, BoxTexts, NamesPins}
 use Rattle.bb_net.specs.Values.{table_at, FitBoxes}
 use Rattle.bb_implements.specs.Laws.ContentTables.{AreTablesOf}
@@ -37,7 +37,7 @@ spelled_by boxes kinds tables contents count rows = zip_by (HasRows tables conte
     ap (λ (x : BoxTexts). contents x.path) (sym (get_or_from_slice_get boxes b box no_texts at_box)) ∙ rows b (slice_get_within boxes b box at_box)
     ∙ ap (λ k. rows_of (table_at tables k)) (get_or_from_slice_get kinds b kind 0 at_kind))
 
-module _ {care : Option (List ℕ)} {shared : Bool} (rules : SharedLaws) (spec imp : Design) (p : NetPair) (spec_allowed : IsAllowed spec) (imp_allowed : IsAllowed imp) (pair : IsPairFor care shared spec imp p) (tables : List TableBits) (fit : FitBoxes tables (shown p.kinds p.imp.boxes)) where
+module _ {care : Option (List ℕ)} {shared : Bool} (rules : SharedLaws) (spec imp : Design) (p : NetPair) (spec_allowed : IsAllowed spec) (imp_allowed : IsAllowed imp) (pair : IsPairFor care shared spec imp p) (tables : List TableBits) (fit : FitBoxes tables (representatives p.kinds p.imp.boxes)) where
   abbrev has : HasBoxesOf shared pair.imp_net p
   has = boxes_of rules spec imp p spec_allowed imp_allowed pair
 
@@ -47,9 +47,9 @@ module _ {care : Option (List ℕ)} {shared : Bool} (rules : SharedLaws) (spec i
   kinds_count : length p.kinds ≡ length p.imp.boxes
   kinds_count = pair.kept.beside.kinds.count
 
-  are_tables : (contents : Contents) → AreSpelled p.boxes p.kinds tables contents → AreTablesOf pair.imp_net contents (spread p.kinds tables)
+  are_tables : (contents : Contents) → AreSpelled p.boxes p.kinds tables contents → AreTablesOf pair.imp_net contents (per_box p.kinds tables)
   are_tables contents spelled = record {
-    fit = from_pair has (spread p.kinds tables) (spread_fit rules spec imp p spec_allowed imp_allowed pair tables fit);
+    fit = from_pair has (per_box p.kinds tables) (spread_fit rules spec imp p spec_allowed imp_allowed pair tables fit);
     rows = λ b within.
         let there : b < length p.imp.boxes = omega (arith, within, box_count has) in
         subst (λ (all : List BoxTexts). contents (get_or all b no_texts).path ≡ rows_of (table_at tables (slice_index p.kinds b))) has.names (rows_each p.boxes p.kinds tables contents spelled b (omega (arith, there, names_count)))
@@ -66,8 +66,8 @@ module _ {care : Option (List ℕ)} {shared : Bool} (rules : SharedLaws) (spec i
             (rows_by_kind rules spec imp p spec_allowed imp_allowed pair tables c.0 c.2 b (omega (arith, within, names_count)))),
       )
 
-  pub spelled_agree : TablesMakeEquivalent p.spec p.imp (spread p.kinds tables) → (contents : Contents) → FitDesign imp contents → AreSpelled p.boxes p.kinds tables contents → ContentsMakeEquivalent care spec imp contents
-  spelled_agree agree contents fits spelled = tables_to_contents (pair_is_seen rules spec imp p spec_allowed imp_allowed pair) contents (spread p.kinds tables) fits (are_tables contents spelled) agree
+  pub spelled_agree : TablesMakeEquivalent p.spec p.imp (per_box p.kinds tables) → (contents : Contents) → FitDesign imp contents → AreSpelled p.boxes p.kinds tables contents → ContentsMakeEquivalent care spec imp contents
+  spelled_agree agree contents fits spelled = tables_to_contents (pair_is_seen rules spec imp p spec_allowed imp_allowed pair) contents (per_box p.kinds tables) fits (are_tables contents spelled) agree
 
 pub spelled_contents_make_equivalent : SharedLaws → SpelledContentsMakeEquivalent
 spelled_contents_make_equivalent rules care shared spec imp p spec_allowed imp_allowed pair tables fit agree contents fits spelled = spelled_agree rules spec imp p spec_allowed imp_allowed pair tables fit agree contents fits spelled

@@ -8,7 +8,7 @@ use Rattle.bb_bits.specs.Tables.{TableBits}
 use Rattle.bb_net.specs.Values.{bit_of, flat_with}
 use Rattle.bb_net.specs.declared.flat.Reg.{Reg}
 use Rattle.bb_net.specs.Flats.{FlatNet, IsFlat}
-use Rattle.bb_net.specs.CutPoints.{TopInput, State, CutOutput, TopOutput, NextState, register_texts, cut_inputs, cut_outputs}
+use Rattle.bb_net.specs.CutPoints.{TopInput, State, CutOutput, TopOutput, NextState, state_texts, cut_inputs, cut_outputs}
 use Rattle.bb_implements.specs.Laws.ContentTables.{AreTablesOf}
 use Rattle.bb_implements.specs.Implements.{Implements}
 use Rattle.bb_design.specs.Hierarchy.{Design}
@@ -20,12 +20,12 @@ use Rattle.bb_equiv.proofs.NamedVectors.{vector_bits_are, outputs_are}
 -- a flat netlist has as many inputs and outputs as it has texts for them
 
 pub ins_count : (f : FlatNet) → IsFlat f → length (cut_inputs f) ≡ f.net.inputs
-ins_count f flat_net = length-append (map TopInput f.ins) (map State (register_texts f))
-    ∙ ap₂ ◌+◌ (length-map f.ins TopInput) (length-map (register_texts f) State ∙ length-map f.regs (λ (r : Reg). r.text)) ∙ sym flat_net.named.inputs
+ins_count f flat_net = length-append (map TopInput f.ins) (map State (state_texts f))
+    ∙ ap₂ ◌+◌ (length-map f.ins TopInput) (length-map (state_texts f) State ∙ length-map f.regs (λ (r : Reg). r.text)) ∙ sym flat_net.named.inputs
 
 pub outs_count : (f : FlatNet) → IsFlat f → length (cut_outputs f) ≡ length f.net.outs
-outs_count f flat_net = length-append (map TopOutput f.outs) (map NextState (register_texts f))
-    ∙ ap₂ ◌+◌ (length-map f.outs TopOutput) (length-map (register_texts f) NextState ∙ length-map f.regs (λ (r : Reg). r.text)) ∙ sym flat_net.named.outputs
+outs_count f flat_net = length-append (map TopOutput f.outs) (map NextState (state_texts f))
+    ∙ ap₂ ◌+◌ (length-map f.outs TopOutput) (length-map (state_texts f) NextState ∙ length-map f.regs (λ (r : Reg). r.text)) ∙ sym flat_net.named.outputs
 
 -- the bit of an output, counted from 0, at the inputs that a vector gives
 unfoldable pub bit_out : FlatNet → List TableBits → Vector → ℕ → Bool

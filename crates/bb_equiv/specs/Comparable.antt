@@ -33,15 +33,15 @@ pub record AreSettled (d : Design) (contents : Contents) : Type 0 where
       → output_values d w ≡ output_values d v
 
 -- in every world, whatever fits the boxes, the clock of the register bit has the bit of this input of the top
-abbrev pub GoesBy : Design → RegisterBit → Bit → Type 0
-GoesBy d r input = (contents : Contents) (w : World) → FitDesign d contents → IsWorld d contents w
+abbrev pub IsClockedByInput : Design → RegisterBit → Bit → Type 0
+IsClockedByInput d r input = (contents : Contents) (w : World) → FitDesign d contents → IsWorld d contents w
     → bits_in w (written_bits r.scope r.item.clock) ≡ bit_in w input ∷ []
 
 -- two register bits store at the same edge, and by inputs of one text
-abbrev pub StoreTheSame : Design → Design → RegisterBit → RegisterBit → Type 0
-StoreTheSame spec imp r q = (q.item.falling ≡ r.item.falling)
+abbrev pub AreClockedTheSame : Design → Design → RegisterBit → RegisterBit → Type 0
+AreClockedTheSame spec imp r q = (q.item.falling ≡ r.item.falling)
     × ((b c : Bit) × Contains (top_inputs spec) b × Contains (top_inputs imp) c × (bit_text imp c ≡ bit_text spec b)
-    × GoesBy spec r b × GoesBy imp q c)
+    × IsClockedByInput spec r b × IsClockedByInput imp q c)
 
 -- the texts of the one are those of the other, in any order
 abbrev pub AreSameTexts : List (List ℕ) → List (List ℕ) → Type 0
@@ -49,12 +49,12 @@ AreSameTexts texts others = AreAmong texts others × AreAmong others texts
 
 pub record AreComparable (care : Option (List ℕ)) (spec imp : Design) : Type 0 where
   pub complete : boxes spec ≡ []
-  pub cares : IfSome care (Contains (output_texts spec))
+  pub has_care : IfSome care (Contains (output_texts spec))
   pub same_inputs : AreSameTexts (input_texts spec) (input_texts imp)
   pub same_outputs : AreSameTexts (compared care (output_texts spec)) (output_texts imp)
   pub same_registers : AreSameTexts (register_texts spec) (register_texts imp)
   pub clocks : (r q : RegisterBit) → Contains (registers spec) r → Contains (registers imp) q
-      → bit_text imp q.bit ≡ bit_text spec r.bit → StoreTheSame spec imp r q
+      → bit_text imp q.bit ≡ bit_text spec r.bit → AreClockedTheSame spec imp r q
   pub settled : (contents : Contents) → FitDesign imp contents → AreSettled spec contents × AreSettled imp contents
 
 -- the law of it: two sound designs that fit can be compared, and some contents may fill the boxes

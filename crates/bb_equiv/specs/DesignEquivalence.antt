@@ -10,7 +10,7 @@ use Rattle.std.specs.List.{AllZip}
 use Rattle.bb_bits.specs.Contents.{Contents}
 use Rattle.bb_bits.specs.Tables.{TableBits, HasAllBits, rows_of}
 use Rattle.bb_net.specs.Equivalence.{TablesMakeEquivalent}
-use Rattle.bb_net.specs.Kinds.{AreKinds, NoSharedTablesMakeEquivalent, shown, spread}
+use Rattle.bb_net.specs.Kinds.{AreKinds, NoSharedTablesMakeEquivalent, representatives, per_box}
 use Rattle.bb_net.specs.Pairs.{NetPair, BoxTexts, IsPair, box_key}
 use Rattle.bb_net.specs.Values.{table_at, FitBoxes}
 use Rattle.bb_implements.specs.Laws.ContentTables.{AreTablesOf}
@@ -113,12 +113,12 @@ pub record IsTableOf (box : BoxTexts) (t : TableBits) : Type 0 where
 
 -- tables fit the first boxes of all classes of a pair
 abbrev pub FitKindsOf : NetPair → List TableBits → Type 0
-FitKindsOf p tables = FitBoxes tables (shown p.kinds p.imp.boxes)
+FitKindsOf p tables = FitBoxes tables (representatives p.kinds p.imp.boxes)
 
 -- they are then tables of these
 abbrev pub FittingTablesAreOfBoxes : Type 0
 FittingTablesAreOfBoxes = (p : NetPair) (tables : List TableBits) → IsPair p → FitKindsOf p tables
-    → AllZip IsTableOf (shown p.kinds p.boxes) tables
+    → AllZip IsTableOf (representatives p.kinds p.boxes) tables
 
 -- a pair of two sound designs has the boxes of the implementation, in the order of their dependence, each of the class
 -- of its key
@@ -136,14 +136,14 @@ TablesSpellContents = OfPairs (λ care shared spec imp p pair. (tables : List Ta
 -- and where tables make them equivalent, so do all contents that they spell
 abbrev pub SpelledContentsMakeEquivalent : Type 0
 SpelledContentsMakeEquivalent = OfPairs (λ care shared spec imp p pair. (tables : List TableBits) → FitKindsOf p tables
-    → TablesMakeEquivalent p.spec p.imp (spread p.kinds tables) → (contents : Contents) → FitDesign imp contents
+    → TablesMakeEquivalent p.spec p.imp (per_box p.kinds tables) → (contents : Contents) → FitDesign imp contents
     → AreSpelled p.boxes p.kinds tables contents → ContentsMakeEquivalent care spec imp contents)
 
 -- contents that the tables spell have them as tables, one for each box, in the netlist of the implementation
 abbrev pub SpelledContentsHaveTables : Type 0
 SpelledContentsHaveTables = OfPairs (λ care shared spec imp p pair. (tables : List TableBits) → FitKindsOf p tables
     → (contents : Contents) → AreSpelled p.boxes p.kinds tables contents
-    → AreTablesOf pair.imp_net contents (spread p.kinds tables))
+    → AreTablesOf pair.imp_net contents (per_box p.kinds tables))
 
 -- contents that fit may fill boxes that share nothing; shared contents are some of these, so that where no contents
 -- agree no shared ones do

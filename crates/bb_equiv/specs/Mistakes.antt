@@ -8,9 +8,9 @@ use Rattle.bb_bits.specs.Contents.{Contents}
 use Rattle.bb_bits.specs.Tables.{TableBits}
 use Rattle.bb_subst.specs.Distinguishing.{FailAt}
 use Rattle.bb_net.specs.Equivalence.{IsVector, IsOutput}
-use Rattle.bb_net.specs.Conditions.{IsAlwaysWrong, HasAlwaysWrong}
+use Rattle.bb_net.specs.Conditions.{IsAlwaysWrong, AlwaysSomeWrongAt}
 use Rattle.bb_net.specs.CutPoints.{CutInput, TopInput, State, CutOutput, TopOutput, NextState}
-use Rattle.bb_net.specs.Kinds.{spread}
+use Rattle.bb_net.specs.Kinds.{per_box}
 use Rattle.bb_net.specs.Pairs.{NetPair}
 use Rattle.bb_design.specs.Inside.Allowed.{IsAllowed}
 use Rattle.bb_design.specs.Hierarchy.{Design}
@@ -31,7 +31,7 @@ outputs_of care d = map TopOutput (compared care (output_texts d)) ++ map NextSt
 
 -- the output is compared, and in these worlds the implementation does not have the specification's bit there
 pub record DifferAt (care : Option (List ℕ)) (spec imp : Design) (w v : World) (o : CutOutput) : Type 0 where
-  pub counts : IsCompared care o
+  pub is_compared : IsCompared care o
   pub bit : Bool
   pub spec_has : Contains (outputs_in spec w) (o, bit)
   pub imp_has : Contains (outputs_in imp v) (o, not bit)
@@ -50,7 +50,7 @@ HasWorld d contents x = (w : World) × IsWorld d contents w × HasVector d x w
 pub record DifferWith (care : Option (List ℕ)) (spec imp : Design) (contents : Contents) (x : Vector)
     (reported : Option CutOutput) : Type 0 where
   pub worlds : HasWorld spec contents x × HasWorld imp contents x
-  pub requested : (w : World) → IsWorld spec contents w → HasVector spec x w → IsRequired care (outputs_in spec w)
+  pub required : (w : World) → IsWorld spec contents w → HasVector spec x w → IsRequired care (outputs_in spec w)
   pub differ : (w v : World) → IsWorld spec contents w → HasVector spec x w → IsWorld imp contents v → HasVector imp x v
       → DifferAtReported care spec imp w v reported
 
@@ -101,7 +101,7 @@ WrongOutputsAreMistakes = OfPairs (λ care shared spec imp p pair. (xs : List Bo
 -- and where some output is wrong, it shows one
 abbrev pub WrongVectorsAreMistakes : Type 0
 WrongVectorsAreMistakes = OfPairs (λ care shared spec imp p pair. (xs : List Bool)
-    → IsVector p.imp xs → HasAlwaysWrong p.spec p.imp xs
+    → IsVector p.imp xs → AlwaysSomeWrongAt p.spec p.imp xs
     → (x : Vector) × (map x (inputs_of spec) ≡ xs) × IsMistakeAt care spec imp x None)
 
 -- in such a pair inputs and outputs have the names of those of the specification that are compared, in their order
@@ -126,7 +126,7 @@ MistakesAmongRefute = (care : Option (List ℕ)) (shared : Bool) (spec imp : Des
 -- with all tables, one for each sharing class, some output is wrong at one of the vectors
 abbrev pub AllFailAmong : NetPair → List (List Bool) → Type 0
 AllFailAmong p vectors = (tables : List TableBits) → FitKindsOf p tables
-    → (xs : List Bool) × Contains vectors xs × FailAt p.spec p.imp (spread p.kinds tables) xs
+    → (xs : List Bool) × Contains vectors xs × FailAt p.spec p.imp (per_box p.kinds tables) xs
 
 -- such vectors show mistakes of the designs
 abbrev pub FailingVectorsAreMistakes : Type 0

@@ -20,7 +20,7 @@ use Rattle.bb_design.specs.Registers.{RegisterBit, registers}
 use Rattle.bb_design.specs.Texts.{bit_text}
 use Rattle.bb_design.specs.Worlds.{World, Vector, IsWorld, HasVector, FitDesign, next_bit, outputs_in}
 use Rattle.bb_net.specs.CutPoints.{TopInput, State, CutOutput, TopOutput}
-use Rattle.bb_equiv.specs.Comparable.{AreComparable, GoesBy}
+use Rattle.bb_equiv.specs.Comparable.{AreComparable, IsClockedByInput}
 use Rattle.bb_equiv.specs.DesignEquivalence.{ContentsMakeEquivalent, HaveSameBits, IsRequired, IsCompared}
 use Rattle.bb_equiv.specs.Mistakes.{HaveCounterexample}
 
@@ -40,7 +40,7 @@ seen_at states event (State n) = states n
 
 -- the clock of the register bit has the edge at which it stores
 abbrev pub Stores : Design → Event → RegisterBit → Type 0
-Stores d event r = (input : Bit) × Contains (top_inputs d) input × GoesBy d r input
+Stores d event r = (input : Bit) × Contains (top_inputs d) input × IsClockedByInput d r input
     × (event.edges (bit_text d input) ≡ Some r.item.falling)
 
 -- an event comes in this world of the design, and after it its registers have these states
@@ -53,14 +53,14 @@ pub record IsEvent (d : Design) (contents : Contents) (states : States) (event :
       → after (bit_text d r.bit) ≡ states (bit_text d r.bit)
 
 -- what is seen of an event: the outputs and next states as it comes, and the states after it
-pub record Seen : Type 0 where
+pub record Observation : Type 0 where
   pub outputs : List (CutOutput × Bool)
   pub after : States
 
 -- events, one after another, and what is seen of each
-pub data Runs (d : Design) (contents : Contents) : States → List Event → List Seen → Type 0 where
+pub data Runs (d : Design) (contents : Contents) : States → List Event → List Observation → Type 0 where
   NoEvent : {states : States} → Runs d contents states [] []
-  OneMore : {states after : States} {event : Event} {events : List Event} {seen : List Seen} → (w : World)
+  OneMore : {states after : States} {event : Event} {events : List Event} {seen : List Observation} → (w : World)
       → IsEvent d contents states event w after → Runs d contents after events seen
       → Runs d contents states (event ∷ events) (record { outputs = outputs_in d w; after = after } ∷ seen)
 
@@ -69,20 +69,20 @@ abbrev pub HaveSameStates : Design → States → States → Type 0
 HaveSameStates d states others = (n : List ℕ) → Contains (register_texts d) n → others n ≡ states n
 
 -- the same is seen, but for the care output
-pub record AreSeenTheSame (care : Option (List ℕ)) (spec : Design) (one other : Seen) : Type 0 where
+pub record AreSeenTheSame (care : Option (List ℕ)) (spec : Design) (one other : Observation) : Type 0 where
   pub outputs : HaveSameBits care one.outputs other.outputs
   pub states : HaveSameStates spec one.after other.after
 
 -- whatever events come, the design has a run
 pub record HaveRuns (d : Design) (contents : Contents) : Type 0 where
-  pub some : (states : States) (events : List Event) → (seen : List Seen) × Runs d contents states events seen
+  pub some : (states : States) (events : List Event) → (seen : List Observation) × Runs d contents states events seen
 
 -- from the same states the same is seen of the two designs at each event of any list, where equivalence is required at
 -- each event of the run of the specification: with a care output, for as long as this is 1
 abbrev pub ShowTheSame : Option (List ℕ) → Design → Design → Contents → Type 0
-ShowTheSame care spec imp contents = (states others : States) (events : List Event) (seen more : List Seen)
+ShowTheSame care spec imp contents = (states others : States) (events : List Event) (seen more : List Observation)
     → HaveSameStates spec states others → Runs spec contents states events seen → Runs imp contents others events more
-    → All (λ (one : Seen). IsRequired care one.outputs) seen → AllZip (AreSeenTheSame care spec) seen more
+    → All (λ (one : Observation). IsRequired care one.outputs) seen → AllZip (AreSeenTheSame care spec) seen more
 
 -- and both have runs
 pub record RunTheSame (care : Option (List ℕ)) (spec imp : Design) (contents : Contents) : Type 0 where
@@ -92,7 +92,7 @@ pub record RunTheSame (care : Option (List ℕ)) (spec imp : Design) (contents :
 
 -- who looks at the outputs of the top and at the registers finds the same, but for the care output: a next state that
 -- no register takes is not looked at
-pub record AreObservedTheSame (care : Option (List ℕ)) (spec : Design) (one other : Seen) : Type 0 where
+pub record AreObservedTheSame (care : Option (List ℕ)) (spec : Design) (one other : Observation) : Type 0 where
   pub outputs : (n : List ℕ) (b : Bool) → IsCompared care (TopOutput n)
       → Contains one.outputs (TopOutput n, b) ↔ Contains other.outputs (TopOutput n, b)
   pub states : HaveSameStates spec one.after other.after
@@ -104,9 +104,9 @@ pub record EventShows (care : Option (List ℕ)) (spec imp : Design) (contents :
   pub imp_runs : HaveRuns imp contents
   pub states : States
   pub event : Event
-  pub requested : (seen : List Seen) → Runs spec contents states (event ∷ []) seen
-      → All (λ (one : Seen). IsRequired care one.outputs) seen
-  pub apart : (seen more : List Seen) → Runs spec contents states (event ∷ []) seen
+  pub required : (seen : List Observation) → Runs spec contents states (event ∷ []) seen
+      → All (λ (one : Observation). IsRequired care one.outputs) seen
+  pub apart : (seen more : List Observation) → Runs spec contents states (event ∷ []) seen
       → Runs imp contents states (event ∷ []) more → AllZip (AreObservedTheSame care spec) seen more → ⊥
 
 -- laws that a reader expects

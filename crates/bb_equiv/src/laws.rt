@@ -4,7 +4,8 @@
 ghost use Rattle.bb_equiv.specs.Inside.LowerLaws.{LowerLaws};
 ghost use Rattle.bb_equiv.specs.Laws.IsomorphicPairs.{PairsForDesignsAreIsomorphic};
 ghost use Rattle.bb_equiv.specs.Comparable.{FittingDesignsAreComparable};
-ghost use Rattle.bb_equiv.specs.DesignEquivalence.{CareOutputsRequireLess, DesignsAreEquivalentToThemselves, SharingNarrows};
+ghost use Rattle.bb_equiv.specs.DesignEquivalence.{CareOutputsRequireLess, DesignsAreEquivalentToThemselves};
+ghost use Rattle.bb_equiv.specs.DesignEquivalence.{SharingNarrows};
 ghost use Rattle.bb_equiv.specs.DesignEquivalence.{FittingTablesAreOfBoxes, NoTablesNoContents, PairsHaveBoxOrders};
 ghost use Rattle.bb_equiv.specs.DesignEquivalence.{SpelledContentsMakeEquivalent, SpelledContentsHaveTables};
 ghost use Rattle.bb_equiv.specs.DesignEquivalence.{TablesMakeEquivalentAsContents, TablesSpellContents};

@@ -9,7 +9,7 @@ use Rattle.std.proofs.lemmas.List.Folds.{list_any-append}
 use Rattle.bb_lemmas.proofs.Bits.{or_right}
 use Rattle.bb_bits.specs.Numbers.{number_of, bits_of}
 use Rattle.bb_net.specs.declared.cell.Cell.TheVariants.{Const, Input, Not, And, Or, Xor, Mux, BoxOut}
-use Rattle.bb_net.specs.Kinds.{shown}
+use Rattle.bb_net.specs.Kinds.{representatives}
 use Rattle.bb_net.specs.Netlists.{box_at}
 use Rattle.bb_net.specs.Values.{bit_of}
 use Rattle.bb_cnf.specs.declared.clauses.Lit.{Lit}
@@ -106,4 +106,4 @@ cell_law numbering kinds boxes x var y (And a b) v = by_bits v (cell_clauses kin
 cell_law numbering kinds boxes x var y (Or a b) v = by_bits v (cell_clauses kinds boxes x var y (Or a b)) (v y) (v (var a) || v (var b)) (or_bits (v y) (v (var a)) (v (var b)))
 cell_law numbering kinds boxes x var y (Xor a b) v = by_bits v (cell_clauses kinds boxes x var y (Xor a b)) (v y) _ (xor_bits (v y) (v (var a)) (v (var b)))
 cell_law numbering kinds boxes x var y (Mux c t e) v = by_bits v (cell_clauses kinds boxes x var y (Mux c t e)) (v y) _ (mux_bits (v y) (v (var c)) (v (var t)) (v (var e)))
-cell_law numbering kinds boxes x var y (BoxOut b p) v = rows_say numbering v var (box_at boxes b).ins y (λ row. table_variable (shown kinds boxes) (slice_index kinds b) row p)
+cell_law numbering kinds boxes x var y (BoxOut b p) v = rows_say numbering v var (box_at boxes b).ins y (λ row. table_variable (representatives kinds boxes) (slice_index kinds b) row p)

@@ -8,7 +8,7 @@ use Rattle.std.proofs.lemmas.List.Sums.{sum_by_more}
 use Rattle.bb_bits.specs.Numbers.{bits_of}
 use Rattle.bb_net.specs.declared.cell.Cell.{Cell}
 use Rattle.bb_net.specs.declared.cell.Cell.TheVariants.{Const, Input, Not, And, Or, Xor, Mux, BoxOut}
-use Rattle.bb_net.specs.Kinds.{shown}
+use Rattle.bb_net.specs.Kinds.{representatives}
 use Rattle.bb_net.specs.Netlists.{Netlist, Pins, cell_at, box_at}
 use Rattle.bb_net.specs.Equivalence.{wanted_bit}
 use Rattle.bb_expand.specs.ClauseCounts.{cell_clause_count, clauses_per_vector}
@@ -29,7 +29,7 @@ length-cell kinds boxes x var y (Or a b) = refl
 length-cell kinds boxes x var y (Xor a b) = refl
 length-cell kinds boxes x var y (Mux c t e) = refl
 length-cell kinds boxes x var y (BoxOut b p) =
-    let e = length-numbered (λ row. row_clauses var (box_at boxes b).ins y (bits_of (length (box_at boxes b).ins) row) (table_variable (shown kinds boxes) (slice_index kinds b) row p)) 2 (2 ^ length (box_at boxes b).ins) (λ k. refl) in
+    let e = length-numbered (λ row. row_clauses var (box_at boxes b).ins y (bits_of (length (box_at boxes b).ins) row) (table_variable (representatives kinds boxes) (slice_index kinds b) row p)) 2 (2 ^ length (box_at boxes b).ins) (λ k. refl) in
     omega (arith, e)
 
 module _ (imp : Netlist) (kinds : List ℕ) (v : ℕ) (x : List Bool) where

@@ -8,7 +8,7 @@ use Rattle.bb_cnf.specs.Clauses.{Formula}
 use Rattle.bb_cnf.specs.Truth.{IsModel, HaveNoModel, assignment_of}
 use Rattle.bb_subst.specs.Distinguishing.{AreEquivalentAt}
 use Rattle.bb_net.specs.Equivalence.{TablesMakeEquivalent, IsVector}
-use Rattle.bb_net.specs.Kinds.{FitKinds, shown, spread}
+use Rattle.bb_net.specs.Kinds.{FitKinds, representatives, per_box}
 use Rattle.bb_net.specs.Netlists.{Netlist, IsNetlist}
 use Rattle.bb_net.specs.Values.{FitBoxes}
 use Rattle.bb_expand.specs.declared.samples.SampleSet.{SampleSet}
@@ -22,10 +22,10 @@ use Rattle.bb_expand.proofs.ToModel.{bits, bits_model}
 
 module _ (numbering : Numbering) (unique : ValueIsUnique) (sharing : Sharing) (spec imp : Netlist) (kinds : List ℕ) (kept : IsNetlist imp) (fits : FitKinds kinds imp.boxes) (vectors : List (List Bool)) (cnf : Formula) (model : List Bool)
     (is : cnf ≡ expansion spec imp kinds vectors) (holds : IsModel model cnf) where
-  pub tables_fit : FitBoxes (tables_in (shown kinds imp.boxes) model) (shown kinds imp.boxes)
+  pub tables_fit : FitBoxes (tables_in (representatives kinds imp.boxes) model) (representatives kinds imp.boxes)
   tables_fit = model_fits numbering unique sharing spec imp kinds kept fits vectors model (subst (IsModel model) is holds)
 
-  pub tables_agree : All (AreEquivalentAt spec imp (spread kinds (tables_in (shown kinds imp.boxes) model))) vectors
+  pub tables_agree : All (AreEquivalentAt spec imp (per_box kinds (tables_in (representatives kinds imp.boxes) model))) vectors
   tables_agree = model_right numbering unique sharing spec imp kinds kept fits vectors model (subst (IsModel model) is holds)
 
 -- tables that agree at all vectors do so at each
@@ -41,7 +41,7 @@ refuted_is_error numbering exists sharing sound spec imp kinds kept fits budget 
   within = is.within;
   refuted = refuted;
   none = λ tables fit agree.
-      let right = agree_at_all spec imp (spread kinds tables) (sample_vectors samples) is.each.each agree in
+      let right = agree_at_all spec imp (per_box kinds tables) (sample_vectors samples) is.each.each agree in
       let model = bits_model numbering exists sharing spec imp kinds kept fits (sample_vectors samples) tables fit right in
       sound (expansion spec imp kinds (sample_vectors samples)).clauses steps (subst (λ (f : Formula). IsRefutation f.clauses steps) is.expands refuted)
       (assignment_of (bits numbering exists sharing spec imp kinds kept fits (sample_vectors samples) tables fit right)) model.1;

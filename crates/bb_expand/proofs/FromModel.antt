@@ -9,7 +9,7 @@ use Rattle.bb_bits.specs.Numbers.{number_of}
 use Rattle.bb_bits.specs.Tables.{TableBits, table_bit}
 use Rattle.bb_net.specs.declared.cell.Cell.TheVariants.{BoxOut}
 use Rattle.bb_net.specs.Equivalence.{AllRight, wanted_bit}
-use Rattle.bb_net.specs.Kinds.{FitKinds, shown, spread}
+use Rattle.bb_net.specs.Kinds.{FitKinds, representatives, per_box}
 use Rattle.bb_net.specs.Netlists.{Netlist, IsNetlist, cell_at, box_at}
 use Rattle.bb_net.specs.Values.{bit_of, IsValue, tabled_bit, flat_with, FitBoxes}
 use Rattle.bb_cnf.specs.Truth.{IsTrueClause, Satisfies, assignment_of, IsModel}
@@ -35,14 +35,14 @@ module _ (numbering : Numbering) (unique : ValueIsUnique) (sharing : Sharing) (s
   assigns = assignment_of bits
 
   abbrev tables : List TableBits
-  tables = tables_in (shown kinds imp.boxes) bits
+  tables = tables_in (representatives kinds imp.boxes) bits
 
   -- the tables of all boxes
   abbrev all : List TableBits
-  all = spread kinds tables
+  all = per_box kinds tables
 
-  pub model_fits : FitBoxes tables (shown kinds imp.boxes)
-  model_fits = read_fit (shown kinds imp.boxes) bits (omega (arith, model.0))
+  pub model_fits : FitBoxes tables (representatives kinds imp.boxes)
+  model_fits = read_fit (representatives kinds imp.boxes) bits (omega (arith, model.0))
 
   module _ (v : ℕ) (there : v < length vectors) where
     abbrev x : List Bool
@@ -72,7 +72,7 @@ module _ (numbering : Numbering) (unique : ValueIsUnique) (sharing : Sharing) (s
         let there : b < length imp.boxes = cell_has_box imp kept place b p h is in
         let row : ℕ = number_of (map (bit_of cell_bits) (box_at imp.boxes b).ins) in
         sym (ap (λ t. table_bit t row p) (sharing.at kinds tables b (omega (arith, there, fits.count)))
-        ∙ read_bit (shown kinds imp.boxes) bits (slice_index kinds b) row p (kind_shown sharing kinds imp.boxes fits b there)
+        ∙ read_bit (representatives kinds imp.boxes) bits (slice_index kinds b) row p (kind_shown sharing kinds imp.boxes fits b there)
         (row_shown sharing kinds imp.boxes fits b row there (row_below numbering (bit_of cell_bits) (box_at imp.boxes b).ins)) (pin_shown sharing kinds imp.boxes fits b p has))
 
     is_value : IsValue imp x (tabled_bit all) cell_bits

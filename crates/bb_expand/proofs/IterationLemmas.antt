@@ -8,7 +8,7 @@ use Rattle.bb_subst.specs.Distinguishing.{AreEquivalentAt, AreDistinguishing}
 use Rattle.bb_subst.specs.Laws.DistinguishingLaws.{DistinguishingVectorsAreDistinct, VectorsAreFew}
 use Rattle.bb_net.specs.Equivalence.{IsVector}
 use Rattle.bb_net.specs.Completions.{table_bits}
-use Rattle.bb_net.specs.Kinds.{shown, spread}
+use Rattle.bb_net.specs.Kinds.{representatives, per_box}
 use Rattle.bb_net.specs.Netlists.{Netlist}
 use Rattle.bb_net.specs.Values.{FitBoxes}
 use Rattle.bb_expand.specs.ClauseCounts.{clause_total}
@@ -42,19 +42,19 @@ no_samples spec imp kinds budget samples none no_distinguishing is =
 -- tables that are too large to fill the boxes are not looked through
 pub large_tables : (spec imp : Netlist) (kinds : List ℕ) (budget : ℕ) → budget < clause_total imp → 2 ^ 20 < table_bits imp.boxes → NeedsMoreClauses spec imp kinds budget
 large_tables spec imp kinds budget many large =
-    let boxes = shown kinds imp.boxes in
+    let boxes = representatives kinds imp.boxes in
     let zeros : List Bool = replicate (table_bits boxes) false in
     let fit = read_fit boxes zeros (omega (arith, length-replicate (table_bits boxes) false)) in
-    record { many = many; samples = []; distinguishing = distinguishing_none spec imp kinds; cause = inr (tables_in boxes zeros, fit, All-nil (AreEquivalentAt spec imp (spread kinds (tables_in boxes zeros))), inl large) }
+    record { many = many; samples = []; distinguishing = distinguishing_none spec imp kinds; cause = inr (tables_in boxes zeros, fit, All-nil (AreEquivalentAt spec imp (per_box kinds (tables_in boxes zeros))), inl large) }
 
 -- nor are those whose filled netlist has too large diagrams
-pub large_fill : (spec imp : Netlist) (kinds : List ℕ) (budget : ℕ) (samples : SampleSet) (tables : List TableBits) → IsSampleSet spec imp kinds budget samples → FitBoxes tables (shown kinds imp.boxes) → All (AreEquivalentAt spec imp (spread kinds tables)) (sample_vectors samples)
-    → budget < clause_total imp → FillTooLarge spec imp (spread kinds tables) → NeedsMoreClauses spec imp kinds budget
+pub large_fill : (spec imp : Netlist) (kinds : List ℕ) (budget : ℕ) (samples : SampleSet) (tables : List TableBits) → IsSampleSet spec imp kinds budget samples → FitBoxes tables (representatives kinds imp.boxes) → All (AreEquivalentAt spec imp (per_box kinds tables)) (sample_vectors samples)
+    → budget < clause_total imp → FillTooLarge spec imp (per_box kinds tables) → NeedsMoreClauses spec imp kinds budget
 large_fill spec imp kinds budget samples tables is fit agree many large = record {
   many = many;
   samples = distinguishing_vectors samples;
   distinguishing = is.distinguishing;
-  cause = inr (tables, fit, all_among (AreEquivalentAt spec imp (spread kinds tables)) (distinguishing_vectors samples) (sample_vectors samples) agree is.among, inr large);
+  cause = inr (tables, fit, all_among (AreEquivalentAt spec imp (per_box kinds tables)) (distinguishing_vectors samples) (sample_vectors samples) agree is.among, inr large);
 }
 
 -- a turn after which more vectors are distinguishing brings the search nearer to its end

@@ -7,7 +7,7 @@ use Rattle.bb_cdcl.specs.Inside.Outcomes.{formula}
 use Rattle.bb_cnf.specs.declared.clauses.Lit.{Lit}
 use Rattle.bb_cnf.specs.Clauses.{Formula, HasVariablesWithin}
 use Rattle.bb_net.specs.Completions.{table_bits}
-use Rattle.bb_net.specs.Kinds.{FitKinds, shown}
+use Rattle.bb_net.specs.Kinds.{FitKinds, representatives}
 use Rattle.bb_net.specs.Netlists.{Netlist, IsNetlist}
 use Rattle.bb_expand.specs.ClauseCounts.{clauses_per_vector}
 use Rattle.bb_expand.specs.Expansions.{vector_clauses, expansion}
@@ -55,7 +55,7 @@ module _ (spec imp : Netlist) (kinds : List ℕ) (vectors : List (List Bool)) (x
 
 -- where the clauses of one vector more are few, so are the variables
 pub room_for_cells : ClausesAreCounted → (spec imp : Netlist) (kinds : List ℕ) (vectors : List (List Bool)) (cnf : Formula) (most : ℕ) → cnf ≡ expansion spec imp kinds vectors
-    → length cnf.clauses + clauses_per_vector imp ≤ most → cnf.vars + length imp.cells ≤ table_bits (shown kinds imp.boxes) + most
+    → length cnf.clauses + clauses_per_vector imp ≤ most → cnf.vars + length imp.cells ≤ table_bits (representatives kinds imp.boxes) + most
 room_for_cells counted spec imp kinds vectors cnf most is few =
     let cells = cells_count imp.boxes imp.cells in
     let bound : (length vectors + 1) * length imp.cells ≤ (length vectors + 1) * clauses_per_vector imp = mul-le (length vectors + 1) (length imp.cells) (length vectors + 1) (clauses_per_vector imp) (omega arith) (omega (arith, cells)) in

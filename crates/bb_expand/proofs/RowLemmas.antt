@@ -10,7 +10,7 @@ use Rattle.bb_cnf.specs.declared.clauses.Lit.{Lit}
 use Rattle.bb_net.specs.declared.cell.Cell.{Cell}
 use Rattle.bb_net.specs.declared.cell.Cell.TheVariants.{BoxOut}
 use Rattle.bb_net.specs.Completions.{table_bits}
-use Rattle.bb_net.specs.Kinds.{shown}
+use Rattle.bb_net.specs.Kinds.{representatives}
 use Rattle.bb_net.specs.Netlists.{Netlist, Pins, box_at, cell_at}
 use Rattle.bb_net.specs.Values.{bit_of, flat}
 use Rattle.bb_expand.specs.Expansions.{having, differing, row_clauses, cell_clauses, vector_clauses}
@@ -44,23 +44,23 @@ pub box_read : (boxes : List Pins) (b : ℕ) (pins : Pins) → b < length boxes 
 box_read boxes b pins there is = get_or_read boxes b pins there is (record { ins = []; outs = [] })
 
 -- the bits of the table of a box's kind are few where those of all kinds are
-pub pin_small : (shown : List Pins) (kind start most : ℕ) (pins : Pins) → kind < length shown → length (box_at shown kind).ins ≡ length pins.ins → length (box_at shown kind).outs ≡ length pins.outs
-    → start ≡ table_bits (take kind shown) → table_bits shown ≤ most → start + length pins.outs * 2 ^ length pins.ins ≤ most
-pin_small shown kind start most pins there ins outs at small =
-    let p = bits_fit shown kind (record { ins = []; outs = [] }) there in
+pub pin_small : (representatives : List Pins) (kind start most : ℕ) (pins : Pins) → kind < length representatives → length (box_at representatives kind).ins ≡ length pins.ins → length (box_at representatives kind).outs ≡ length pins.outs
+    → start ≡ table_bits (take kind representatives) → table_bits representatives ≤ most → start + length pins.outs * 2 ^ length pins.ins ≤ most
+pin_small representatives kind start most pins there ins outs at small =
+    let p = bits_fit representatives kind (record { ins = []; outs = [] }) there in
     let q = ap₂ (λ m n. m * 2 ^ n) outs ins in
     omega (arith, p, q, at, small)
 
 -- the clauses of an output pin are those of its cell
 pub pin_clauses : (kinds : List ℕ) (boxes : List Pins) (x : List Bool) (var : ℕ → ℕ) (y : ℕ) (cell : Cell) (b p start : ℕ) (pins : Pins) → cell ≡ BoxOut b p → pins ≡ box_at boxes b
-    → start ≡ table_bits (take (slice_index kinds b) (shown kinds boxes)) → length (box_at (shown kinds boxes) (slice_index kinds b)).outs ≡ length (box_at boxes b).outs
+    → start ≡ table_bits (take (slice_index kinds b) (representatives kinds boxes)) → length (box_at (representatives kinds boxes) (slice_index kinds b)).outs ≡ length (box_at boxes b).outs
     → flat_map (λ row. row_clauses var pins.ins y (bits_of (length pins.ins) row) (start + row * length pins.outs + p + 1)) (range_with_len 0 (2 ^ length pins.ins)) ≡ cell_clauses kinds boxes x var y cell
 pin_clauses kinds boxes x var y cell b p start pins is same at outs =
     rw (is, same, at)
-    (ap (λ n. flat_map (λ row. row_clauses var (box_at boxes b).ins y (bits_of (length (box_at boxes b).ins) row) (table_bits (take (slice_index kinds b) (shown kinds boxes)) + row * n + p + 1)) (range_with_len 0 (2 ^ length (box_at boxes b).ins))) (sym outs))
+    (ap (λ n. flat_map (λ row. row_clauses var (box_at boxes b).ins y (bits_of (length (box_at boxes b).ins) row) (table_bits (take (slice_index kinds b) (representatives kinds boxes)) + row * n + p + 1)) (range_with_len 0 (2 ^ length (box_at boxes b).ins))) (sym outs))
 
 -- the clauses of a vector are those of the cells and of the outputs
-pub vector_pushed : (spec imp : Netlist) (kinds : List ℕ) (v base : ℕ) (x bits : List Bool) (outs wanted : List ℕ) (old mid new : List (List Lit)) → base ≡ table_bits (shown kinds imp.boxes) + v * length imp.cells → outs ≡ imp.outs → wanted ≡ spec.outs → bits ≡ flat spec x []
+pub vector_pushed : (spec imp : Netlist) (kinds : List ℕ) (v base : ℕ) (x bits : List Bool) (outs wanted : List ℕ) (old mid new : List (List Lit)) → base ≡ table_bits (representatives kinds imp.boxes) + v * length imp.cells → outs ≡ imp.outs → wanted ≡ spec.outs → bits ≡ flat spec x []
     → mid ≡ old ++ flat_map (λ place. cell_clauses kinds imp.boxes x (λ k. base + k + 1) (base + place + 1) (cell_at imp.cells place)) (range_with_len 0 (length imp.cells))
     → new ≡ mid ++ map (λ j. having (base + get_or outs j 0 + 1) (bit_of bits (get_or wanted j 0)) ∷ []) (range_with_len 0 (length outs))
     → new ≡ old ++ vector_clauses spec imp kinds v x

@@ -9,7 +9,7 @@ use Rattle.bb_bits.specs.Tables.{TableBits}
 use Rattle.bb_subst.specs.Distinguishing.{AreEquivalentAt, FailAt, AreDistinguishing}
 use Rattle.bb_subst.specs.Laws.DistinguishingLaws.{DistinguishingVectorsAreDistinct, VectorsAreFew}
 use Rattle.bb_net.specs.Equivalence.{IsVector}
-use Rattle.bb_net.specs.Kinds.{shown, spread}
+use Rattle.bb_net.specs.Kinds.{representatives, per_box}
 use Rattle.bb_net.specs.Netlists.{Netlist}
 use Rattle.bb_net.specs.Values.{FitBoxes}
 use Rattle.bb_expand.specs.ClauseCounts.{clauses_per_vector, clause_total}
@@ -65,26 +65,26 @@ snoc_split {A} (z ∷ xs) x (b ∷ before) after y e =
       | inr within ↦ inr (within.0, ap₂ (λ w ws. w ∷ ws) h within.1)
     ]
 
-module _ (spec imp : Netlist) (kinds : List ℕ) (tables : List TableBits) (fit : FitBoxes tables (shown kinds imp.boxes)) (vectors : List (List Bool)) (agree : All (AreEquivalentAt spec imp (spread kinds tables)) vectors) where
+module _ (spec imp : Netlist) (kinds : List ℕ) (tables : List TableBits) (fit : FitBoxes tables (representatives kinds imp.boxes)) (vectors : List (List Bool)) (agree : All (AreEquivalentAt spec imp (per_box kinds tables)) vectors) where
   -- a vector at which they fail is distinguishing after those at which they agree
-  pub distinguishing_push : AreDistinguishing spec imp kinds vectors → (x : List Bool) → FailsAt spec imp (spread kinds tables) x → AreDistinguishing spec imp kinds (vectors ++ x ∷ [])
+  pub distinguishing_push : AreDistinguishing spec imp kinds vectors → (x : List Bool) → FailsAt spec imp (per_box kinds tables) x → AreDistinguishing spec imp kinds (vectors ++ x ∷ [])
   distinguishing_push distinguishing x fails = record {
     whole = All-append (IsVector imp) vectors (x ∷ []) distinguishing.whole (All-cons (IsVector imp) x [] fails.0 (All-nil (IsVector imp)));
     each = λ before after y is. elim (snoc_split vectors x before after y is) [
-      | inl last ↦ (tables, fit, subst (All (AreEquivalentAt spec imp (spread kinds tables))) (sym last.0) agree, subst (FailAt spec imp (spread kinds tables)) (sym last.1) fails.1)
+      | inl last ↦ (tables, fit, subst (All (AreEquivalentAt spec imp (per_box kinds tables))) (sym last.0) agree, subst (FailAt spec imp (per_box kinds tables)) (sym last.1) fails.1)
       | inr within ↦ distinguishing.each before within.0 y within.1
     ];
   }
 
   -- no vector at which they fail is among them
-  differ : (found : List (List Bool)) → All (FailsAt spec imp (spread kinds tables)) found → (i j : ℕ) (d : List Bool) → i < length vectors → j < length found → get_or vectors i d ≢ get_or found j d
+  differ : (found : List (List Bool)) → All (FailsAt spec imp (per_box kinds tables)) found → (i j : ℕ) (d : List Bool) → i < length vectors → j < length found → get_or vectors i d ≢ get_or found j d
   differ found fail i j d here there same =
-      let wrong = All-get_or (FailsAt spec imp (spread kinds tables)) found j d there fail in
-      let right = subst (AreEquivalentAt spec imp (spread kinds tables)) same (All-get_or (AreEquivalentAt spec imp (spread kinds tables)) vectors i d here agree) in
+      let wrong = All-get_or (FailsAt spec imp (per_box kinds tables)) found j d there fail in
+      let right = subst (AreEquivalentAt spec imp (per_box kinds tables)) same (All-get_or (AreEquivalentAt spec imp (per_box kinds tables)) vectors i d here agree) in
       wrong.1.2 (right wrong.1.0 wrong.1.1)
 
   -- so vectors at which they fail may be held beside these
-  pub failures_after : (found : List (List Bool)) → AreDistinctWith (IsVector imp) vectors → AreDistinctWith (FailsAt spec imp (spread kinds tables)) found → AreDistinctWith (IsVector imp) (vectors ++ found)
+  pub failures_after : (found : List (List Bool)) → AreDistinctWith (IsVector imp) vectors → AreDistinctWith (FailsAt spec imp (per_box kinds tables)) found → AreDistinctWith (IsVector imp) (vectors ++ found)
   failures_after found samples are = record {
     each = All-append (IsVector imp) vectors found samples.each (λ k d h. (are.each k d h).0);
     distinct = pairs_append vectors found samples.distinct are.distinct (differ found are.each);
@@ -146,8 +146,8 @@ take-first : {A B : Type 0} (f : A → B) (xs : List A) (d : A) (n : ℕ) → 0 
 take-first f [] d n some = absurd (omega (arith, some))
 take-first f (x ∷ xs) d n some = refl
 
-module _ (spec imp : Netlist) (kinds : List ℕ) (tables : List TableBits) (fit : FitBoxes tables (shown kinds imp.boxes)) (samples : List (List Bool)) (agree : All (AreEquivalentAt spec imp (spread kinds tables)) samples) (each : AreDistinctWith (IsVector imp) samples)
-    (failures : List (Vec Bool Global)) (some : 0 < length failures) (are : AreDistinctWith (FailsAt spec imp (spread kinds tables)) (map vec_items failures)) (d : Vec Bool Global) where
+module _ (spec imp : Netlist) (kinds : List ℕ) (tables : List TableBits) (fit : FitBoxes tables (representatives kinds imp.boxes)) (samples : List (List Bool)) (agree : All (AreEquivalentAt spec imp (per_box kinds tables)) samples) (each : AreDistinctWith (IsVector imp) samples)
+    (failures : List (Vec Bool Global)) (some : 0 < length failures) (are : AreDistinctWith (FailsAt spec imp (per_box kinds tables)) (map vec_items failures)) (d : Vec Bool Global) where
   abbrev first : List Bool
   first = vec_items (get_or failures 0 d)
 
@@ -162,15 +162,15 @@ module _ (spec imp : Netlist) (kinds : List ℕ) (tables : List TableBits) (fit 
       let rest = map vec_items (take n (drop 1 failures)) in
       subst (AreDistinctWith (IsVector imp)) (ap (λ l. samples ++ l) (take-first vec_items failures d n some) ∙ sym (append_assoc samples (first ∷ []) rest)) (some_taken (IsVector imp) vec_items samples failures (suc n) all)
 
-  pub first_fails : FailsAt spec imp (spread kinds tables) first
-  first_fails = subst (FailsAt spec imp (spread kinds tables)) (get_or-map vec_items failures 0 d (vec_items d) some) (are.each 0 (vec_items d) (omega (arith, some, length-map failures vec_items)))
+  pub first_fails : FailsAt spec imp (per_box kinds tables) first
+  first_fails = subst (FailsAt spec imp (per_box kinds tables)) (get_or-map vec_items failures 0 d (vec_items d) some) (are.each 0 (vec_items d) (omega (arith, some, length-map failures vec_items)))
 
 -- where there is no room beside the distinguishing vectors for the first of those at which they fail, more clauses are needed
-pub first_has_no_room : VectorsAreFew → DistinguishingVectorsAreDistinct → ClausesAreCounted → (spec imp : Netlist) (kinds : List ℕ) (budget : ℕ) (tables : List TableBits) → FitBoxes tables (shown kinds imp.boxes) → (samples : SampleSet) → IsSampleSet spec imp kinds budget samples
-    → All (AreEquivalentAt spec imp (spread kinds tables)) (sample_vectors samples) → (failures : List (Vec Bool Global)) → 0 < length failures → AreDistinctWith (FailsAt spec imp (spread kinds tables)) (map vec_items failures)
+pub first_has_no_room : VectorsAreFew → DistinguishingVectorsAreDistinct → ClausesAreCounted → (spec imp : Netlist) (kinds : List ℕ) (budget : ℕ) (tables : List TableBits) → FitBoxes tables (representatives kinds imp.boxes) → (samples : SampleSet) → IsSampleSet spec imp kinds budget samples
+    → All (AreEquivalentAt spec imp (per_box kinds tables)) (sample_vectors samples) → (failures : List (Vec Bool Global)) → 0 < length failures → AreDistinctWith (FailsAt spec imp (per_box kinds tables)) (map vec_items failures)
     → budget < length (expansion spec imp kinds (distinguishing_vectors samples)).clauses + clauses_per_vector imp → NeedsMoreClauses spec imp kinds budget
 first_has_no_room few apart counted spec imp kinds budget tables fit samples is agree [] some are none = absurd (omega (arith, some))
 first_has_no_room few apart counted spec imp kinds budget tables fit samples is agree (v ∷ failures) some are none =
-    let distinguishing_agree = all_among (AreEquivalentAt spec imp (spread kinds tables)) (distinguishing_vectors samples) (sample_vectors samples) agree is.among in
+    let distinguishing_agree = all_among (AreEquivalentAt spec imp (per_box kinds tables)) (distinguishing_vectors samples) (sample_vectors samples) agree is.among in
     let distinguishing = distinguishing_push spec imp kinds tables fit (distinguishing_vectors samples) distinguishing_agree is.distinguishing (vec_items v) (are.each 0 [] (omega arith)) in
     no_room few apart counted spec imp kinds budget (distinguishing_vectors samples) (vec_items v) distinguishing none

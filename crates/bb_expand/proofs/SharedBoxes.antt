@@ -8,7 +8,7 @@ use Rattle.std.proofs.lemmas.List.Elements.{All-contains, All-get_or}
 use Rattle.std.proofs.lemmas.List.FromFn.{length-map-range_with_len, get_or-map-range_with_len}
 use Rattle.bb_lemmas.proofs.Apart.{at_most_as_many}
 use Rattle.bb_net.specs.Completions.{table_bits}
-use Rattle.bb_net.specs.Kinds.{FitKinds, shown}
+use Rattle.bb_net.specs.Kinds.{FitKinds, representatives}
 use Rattle.bb_net.specs.Netlists.{Pins, box_at}
 use Rattle.bb_expand.specs.Inside.LawsBelow.{Sharing}
 use Rattle.bb_expand.proofs.BoxesThere.{box_there}
@@ -17,19 +17,19 @@ use Rattle.bb_expand.proofs.RowLemmas.{bits_fit, bits_more, box_read}
 
 module _ (sharing : Sharing) (kinds : List ℕ) (boxes : List Pins) (fits : FitKinds kinds boxes) where
   -- the kind of a box is shown, with as many pins
-  pub kind_shown : (b : ℕ) → b < length boxes → slice_index kinds b < length (shown kinds boxes)
+  pub kind_shown : (b : ℕ) → b < length boxes → slice_index kinds b < length (representatives kinds boxes)
   kind_shown b there = (sharing.count kinds boxes (slice_index kinds b) fits.ordered (sym fits.count)).1 (b, omega (arith, there, fits.count), get_or_default kinds b (slice_index kinds b) 0 (omega (arith, there, fits.count)))
 
-  pub pin_shown : (b p : ℕ) → p < length (box_at boxes b).outs → p < length (box_at (shown kinds boxes) (slice_index kinds b)).outs
+  pub pin_shown : (b p : ℕ) → p < length (box_at boxes b).outs → p < length (box_at (representatives kinds boxes) (slice_index kinds b)).outs
   pin_shown b p has = omega (arith, has, sharing.outputs kinds boxes b fits (box_there boxes b p has))
 
-  pub row_shown : (b row : ℕ) → b < length boxes → row < 2 ^ length (box_at boxes b).ins → row < 2 ^ length (box_at (shown kinds boxes) (slice_index kinds b)).ins
+  pub row_shown : (b row : ℕ) → b < length boxes → row < 2 ^ length (box_at boxes b).ins → row < 2 ^ length (box_at (representatives kinds boxes) (slice_index kinds b)).ins
   row_shown b row there below = subst (λ n. row < 2 ^ n) (sym (sharing.inputs kinds boxes b fits there)) below
 
   -- no more boxes are shown than there are
-  pub few_shown : length (shown kinds boxes) ≤ length boxes
+  pub few_shown : length (representatives kinds boxes) ≤ length boxes
   few_shown =
-      let n = length (shown kinds boxes) in
+      let n = length (representatives kinds boxes) in
       let numbers : List ℕ = map (λ k. k) (range_with_len 0 n) in
       let long : length numbers ≡ n = length-map-range_with_len (λ k. k) 0 n in
       let is : (k d : ℕ) → k < length numbers → get_or numbers k d ≡ k = λ k d h. get_or-map-range_with_len (λ (k : ℕ). k) 0 n k k d (omega (arith, h, long)) (omega arith) in

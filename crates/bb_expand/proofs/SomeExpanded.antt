@@ -21,7 +21,7 @@ use Rattle.bb_lemmas.proofs.Vectors.{vec_of}
 use Rattle.bb_net.specs.declared.cell.Cell.{Cell}
 use Rattle.bb_net.specs.declared.cell.Cell.TheVariants.{Const, Input}
 use Rattle.bb_net.specs.Equivalence.{IsVector, TablesMakeEquivalent}
-use Rattle.bb_net.specs.Kinds.{FitKinds, shown, spread}
+use Rattle.bb_net.specs.Kinds.{FitKinds, representatives, per_box}
 use Rattle.bb_net.specs.Netlists.{Netlist, IsNetlist, first_cells}
 use Rattle.bb_net.specs.Values.{FitBoxes}
 use Rattle.bb_expand.specs.declared.expanded.Expanded.{Expanded}
@@ -46,7 +46,7 @@ expansions_are_refuted exist models decide within spec imp kinds kept fits none 
 -- tables that are right at all vectors of a refuted expansion would give a model
 pub refutations_show_vectors : SoundnessLaws → ModelsAreTables → RefutationsShowVectors
 refutations_show_vectors sound suit spec imp kinds budget vectors cnf steps kept fits error tables fit =
-    let all = spread kinds tables in
+    let all = per_box kinds tables in
     elim (all_or_one (AreEquivalentAt spec imp all) (FailAt spec imp all) (agree_or_fail spec imp all) vectors) [
       | inl agree ↦
           let (model, holds) = (suit spec imp kinds kept fits vectors).1 (tables, fit, agree) in
@@ -148,7 +148,7 @@ module _ (laws : LawsOfAnswers) (spec imp : Netlist) (kinds : List ℕ) (budget 
       All-map_of : {P Q : List Bool → Type 0} (xs : List (List Bool)) → All P xs → ((x : List Bool) → P x → Q x) → All Q xs
       All-map_of xs all f k d h = f _ (all k d h)
 
-  found : (tables : List TableBits) → FitBoxes tables (shown kinds imp.boxes) → TablesMakeEquivalent spec imp (spread kinds tables) → Answer
+  found : (tables : List TableBits) → FitBoxes tables (representatives kinds imp.boxes) → TablesMakeEquivalent spec imp (per_box kinds tables) → Answer
   found tables fit agree =
       let few : length tables < 2 ^ 63 = (let count = fit.count in omega (arith, count, few_shown laws.sharing kinds imp.boxes fits, kept.boxes_fit)) in
       inl (answers.Repair (vec_of tables few), record { fit = fit; agree = agree })
@@ -159,7 +159,7 @@ module _ (laws : LawsOfAnswers) (spec imp : Netlist) (kinds : List ℕ) (budget 
 
   -- one vector more is held, or the clauses are too many
   hold : (n : ℕ) → Next n → (samples : List (List Bool)) → AreDistinguishing spec imp kinds samples → 2 ^ imp.inputs < length samples + suc n
-      → (x : List Bool) (tables : List TableBits) → IsVector imp x → FitBoxes tables (shown kinds imp.boxes) → All (AreEquivalentAt spec imp (spread kinds tables)) samples → FailAt spec imp (spread kinds tables) x → Answer
+      → (x : List Bool) (tables : List TableBits) → IsVector imp x → FitBoxes tables (representatives kinds imp.boxes) → All (AreEquivalentAt spec imp (per_box kinds tables)) samples → FailAt spec imp (per_box kinds tables) x → Answer
   hold n next samples distinguishing left x tables is fit agree fail = by_budget (cases_lt budget (clauses_over (samples ++ x ∷ [])))
     where
       afterwards : AreDistinguishing spec imp kinds (samples ++ x ∷ [])
@@ -171,10 +171,10 @@ module _ (laws : LawsOfAnswers) (spec imp : Netlist) (kinds : List ℕ) (budget 
 
   -- tables that are right at all samples agree everywhere, or are wrong at a further one
   try : (n : ℕ) → Next n → (samples : List (List Bool)) → AreDistinguishing spec imp kinds samples → 2 ^ imp.inputs < length samples + suc n → SomeTablesSuit spec imp kinds samples → Answer
-  try n next samples distinguishing left some = from (all_or_one (AreEquivalentAt spec imp (spread kinds some.0)) (FailAt spec imp (spread kinds some.0)) (agree_or_fail spec imp (spread kinds some.0)) (all_vectors imp.inputs))
+  try n next samples distinguishing left some = from (all_or_one (AreEquivalentAt spec imp (per_box kinds some.0)) (FailAt spec imp (per_box kinds some.0)) (agree_or_fail spec imp (per_box kinds some.0)) (all_vectors imp.inputs))
     where
-      from : All (AreEquivalentAt spec imp (spread kinds some.0)) (all_vectors imp.inputs) ⊎ ((x : List Bool) × Contains (all_vectors imp.inputs) x × FailAt spec imp (spread kinds some.0) x) → Answer
-      from (inl right) = found some.0 some.1 (agree_from_all laws.numbering spec imp (spread kinds some.0) right)
+      from : All (AreEquivalentAt spec imp (per_box kinds some.0)) (all_vectors imp.inputs) ⊎ ((x : List Bool) × Contains (all_vectors imp.inputs) x × FailAt spec imp (per_box kinds some.0) x) → Answer
+      from (inl right) = found some.0 some.1 (agree_from_all laws.numbering spec imp (per_box kinds some.0) right)
       from (inr one) =
           let number = from_map (bits_of imp.inputs) (range_with_len 0 (2 ^ imp.inputs)) one.0 one.1 in
           hold n next samples distinguishing left one.0 some.0 (sym (ap length number.2) ∙ laws.numbering.width imp.inputs number.0) some.1 some.2 one.2

@@ -12,7 +12,7 @@ use Rattle.bb_bits.specs.Tables.{TableBits, table_bit}
 use Rattle.bb_net.specs.declared.cell.Cell.TheVariants.{BoxOut}
 use Rattle.bb_net.specs.Equivalence.{AllRight, wanted_bit}
 use Rattle.bb_net.specs.Completions.{table_bits}
-use Rattle.bb_net.specs.Kinds.{FitKinds, shown, spread}
+use Rattle.bb_net.specs.Kinds.{FitKinds, representatives, per_box}
 use Rattle.bb_net.specs.Netlists.{Netlist, Pins, IsNetlist, cell_at, box_at}
 use Rattle.bb_net.specs.Values.{bit_of, tabled_bit, flat_with, FitBoxes, table_at, bit_at}
 use Rattle.bb_cnf.specs.Truth.{IsTrueClause, Satisfies, assignment_of, IsModel}
@@ -30,13 +30,13 @@ use Rattle.bb_expand.proofs.TableBits.{assigned, length-rows}
 use Rattle.bb_expand.proofs.Tested.{unit_reports}
 
 module _ (numbering : Numbering) (exists : ValueExists) (sharing : Sharing) (spec imp : Netlist) (kinds : List ℕ) (kept : IsNetlist imp) (fits : FitKinds kinds imp.boxes) (vectors : List (List Bool))
-    (tables : List TableBits) (fit : FitBoxes tables (shown kinds imp.boxes)) (right : All (λ y. AllRight spec imp y (flat_with imp y (spread kinds tables))) vectors) where
+    (tables : List TableBits) (fit : FitBoxes tables (representatives kinds imp.boxes)) (right : All (λ y. AllRight spec imp y (flat_with imp y (per_box kinds tables))) vectors) where
   -- the boxes that are shown, and the tables of all
   abbrev boxes : List Pins
-  boxes = shown kinds imp.boxes
+  boxes = representatives kinds imp.boxes
 
   abbrev all : List TableBits
-  all = spread kinds tables
+  all = per_box kinds tables
 
   abbrev rows : List Bool
   rows = flat_map (λ (t : TableBits). t.rows) tables

@@ -7,7 +7,7 @@ use Rattle.bb_bits.specs.Numbers.{bits_of}
 use Rattle.bb_net.specs.declared.cell.Cell.{Cell}
 use Rattle.bb_net.specs.declared.cell.Cell.TheVariants.{Const, Input, Not, And, Or, Xor, Mux, BoxOut}
 use Rattle.bb_net.specs.Completions.{table_bits}
-use Rattle.bb_net.specs.Kinds.{FitKinds, shown}
+use Rattle.bb_net.specs.Kinds.{FitKinds, representatives}
 use Rattle.bb_net.specs.Netlists.{Netlist, Pins, IsNetlist, ReadsBefore, cell_at, box_at}
 use Rattle.bb_net.specs.Equivalence.{wanted_bit}
 use Rattle.bb_cnf.specs.declared.clauses.Lit.{Lit}
@@ -62,7 +62,7 @@ module _ (vars : ℕ) (var : ℕ → ℕ) where
       (All-cons (IsIn vars) (differing var pins row ++ positive y ∷ negated t ∷ []) [] (row_clause_in (differing var pins row) (positive y) (negated t) prefix hy ht) (All-nil (IsIn vars)))
 
   pub cell_in : (inputs place y : ℕ) (kinds : List ℕ) (boxes : List Pins) (x : List Bool) (cell : Cell) → ReadsBefore inputs boxes place cell → ((k : ℕ) → k < place → Ranges vars (var k)) → Ranges vars y
-      → ((b p row : ℕ) → cell ≡ BoxOut b p → row < 2 ^ length (box_at boxes b).ins → Ranges vars (table_variable (shown kinds boxes) (slice_index kinds b) row p)) → HasVariablesWithin vars (cell_clauses kinds boxes x var y cell)
+      → ((b p row : ℕ) → cell ≡ BoxOut b p → row < 2 ^ length (box_at boxes b).ins → Ranges vars (table_variable (representatives kinds boxes) (slice_index kinds b) row p)) → HasVariablesWithin vars (cell_clauses kinds boxes x var y cell)
   cell_in inputs place y kinds boxes x (Const b) reads h hy ht = clauses_in vars (cell_clauses kinds boxes x var y (Const b)) ((hy, tt), tt)
   cell_in inputs place y kinds boxes x (Input i) reads h hy ht = clauses_in vars (cell_clauses kinds boxes x var y (Input i)) ((hy, tt), tt)
   cell_in inputs place y kinds boxes x (Not a) reads h hy ht = let ha = h a reads in clauses_in vars (cell_clauses kinds boxes x var y (Not a)) ((hy, (ha, tt)), ((hy, (ha, tt)), tt))
@@ -78,8 +78,8 @@ module _ (vars : ℕ) (var : ℕ → ℕ) where
       let j = h e reads.2 in
       clauses_in vars (cell_clauses kinds boxes x var y (Mux c t e)) ((hc, (i, (hy, tt))), ((hc, (i, (hy, tt))), ((hc, (j, (hy, tt))), ((hc, (j, (hy, tt))), tt))))
   cell_in inputs place y kinds boxes x (BoxOut b p) reads h hy ht =
-      pieces_hold (IsIn vars) (λ row. row_clauses var (box_at boxes b).ins y (bits_of (length (box_at boxes b).ins) row) (table_variable (shown kinds boxes) (slice_index kinds b) row p)) (2 ^ length (box_at boxes b).ins)
-      (λ row below. row_in (box_at boxes b).ins y (table_variable (shown kinds boxes) (slice_index kinds b) row p) (bits_of (length (box_at boxes b).ins) row) (λ k d there. h _ (reads k d there)) hy (ht b p row refl below))
+      pieces_hold (IsIn vars) (λ row. row_clauses var (box_at boxes b).ins y (bits_of (length (box_at boxes b).ins) row) (table_variable (representatives kinds boxes) (slice_index kinds b) row p)) (2 ^ length (box_at boxes b).ins)
+      (λ row below. row_in (box_at boxes b).ins y (table_variable (representatives kinds boxes) (slice_index kinds b) row p) (bits_of (length (box_at boxes b).ins) row) (λ k d there. h _ (reads k d there)) hy (ht b p row refl below))
 
 -- a table's variable is one of the first
 table_in_range : (boxes : List Pins) (b p row vars : ℕ) → p < length (box_at boxes b).outs → row < 2 ^ length (box_at boxes b).ins → table_bits boxes ≤ vars → Ranges vars (table_variable boxes b row p)
@@ -90,7 +90,7 @@ table_in_range boxes b p row vars there below enough =
 
 module _ (sharing : Sharing) (spec imp : Netlist) (kinds : List ℕ) (kept : IsNetlist imp) (fits : FitKinds kinds imp.boxes) (vectors : List (List Bool)) where
   abbrev vars : ℕ
-  vars = table_bits (shown kinds imp.boxes) + length vectors * length imp.cells
+  vars = table_bits (representatives kinds imp.boxes) + length vectors * length imp.cells
 
   var_in : (v k : ℕ) → v < length vectors → k < length imp.cells → Ranges vars (cell_variable imp kinds v k)
   var_in v k there h =
@@ -104,7 +104,7 @@ module _ (sharing : Sharing) (spec imp : Netlist) (kinds : List ℕ) (kept : IsN
       (λ k below. var_in v k there (omega (arith, below, h))) (var_in v q there h)
       (λ b p row is below.
       let has = (kept.listed q b p h is).0 in
-      table_in_range (shown kinds imp.boxes) (slice_index kinds b) p row vars (pin_shown sharing kinds imp.boxes fits b p has) (row_shown sharing kinds imp.boxes fits b row (box_there imp.boxes b p has) below) (omega arith))))
+      table_in_range (representatives kinds imp.boxes) (slice_index kinds b) p row vars (pin_shown sharing kinds imp.boxes fits b p has) (row_shown sharing kinds imp.boxes fits b row (box_there imp.boxes b p has) below) (omega arith))))
       (all_hold (IsIn vars) (λ j. having (cell_variable imp kinds v (get_or imp.outs j 0)) (wanted_bit spec x j) ∷ []) (length imp.outs)
       (λ j h. lits_in vars (having (cell_variable imp kinds v (get_or imp.outs j 0)) (wanted_bit spec x j) ∷ []) (var_in v (get_or imp.outs j 0) there (All-get_or (λ k. k < length imp.cells) imp.outs j 0 h kept.outs_there), tt)))
 

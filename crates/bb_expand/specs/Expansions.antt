@@ -10,7 +10,7 @@ use Rattle.bb_net.specs.declared.cell.Cell.{Cell}
 use Rattle.bb_net.specs.declared.cell.Cell.TheVariants.{Const, Input, Not, And, Or, Xor, Mux, BoxOut}
 use Rattle.bb_net.specs.Equivalence.{wanted_bit}
 use Rattle.bb_net.specs.Completions.{table_bits}
-use Rattle.bb_net.specs.Kinds.{shown}
+use Rattle.bb_net.specs.Kinds.{representatives}
 use Rattle.bb_net.specs.Netlists.{Netlist, Pins, cell_at, box_at}
 use Rattle.bb_net.specs.Values.{bit_of}
 use Rattle.bb_cnf.specs.declared.clauses.Lit.{Lit}
@@ -22,7 +22,7 @@ table_variable boxes kind row pin = table_bits (take kind boxes) + row * length 
 
 -- the variable of the cell at a place, at the vector with a number
 abbrev pub cell_variable : Netlist → List ℕ → ℕ → ℕ → ℕ
-cell_variable imp kinds v place = table_bits (shown kinds imp.boxes) + v * length imp.cells + place + 1
+cell_variable imp kinds v place = table_bits (representatives kinds imp.boxes) + v * length imp.cells + place + 1
 
 -- the literal that is true where the variable has the bit
 abbrev pub having : ℕ → Bool → Lit
@@ -48,7 +48,7 @@ cell_clauses kinds boxes x var y (Xor a b) = (negated y ∷ positive (var a) ∷
 cell_clauses kinds boxes x var y (Mux c t e) = (negated (var c) ∷ negated (var t) ∷ positive y ∷ []) ∷ (negated (var c) ∷ positive (var t) ∷ negated y ∷ [])
     ∷ (positive (var c) ∷ negated (var e) ∷ positive y ∷ []) ∷ (positive (var c) ∷ positive (var e) ∷ negated y ∷ []) ∷ []
 cell_clauses kinds boxes x var y (BoxOut b p) =
-    flat_map (λ row. row_clauses var (box_at boxes b).ins y (bits_of (length (box_at boxes b).ins) row) (table_variable (shown kinds boxes) (slice_index kinds b) row p)) (range_with_len 0 (2 ^ length (box_at boxes b).ins))
+    flat_map (λ row. row_clauses var (box_at boxes b).ins y (bits_of (length (box_at boxes b).ins) row) (table_variable (representatives kinds boxes) (slice_index kinds b) row p)) (range_with_len 0 (2 ^ length (box_at boxes b).ins))
 
 -- the clauses of all cells at the vector x with the number v
 abbrev pub cells_clauses : Netlist → List ℕ → ℕ → List Bool → List (List Lit)
@@ -65,7 +65,7 @@ vector_clauses spec imp kinds v x = cells_clauses imp kinds v x ++ output_clause
 -- the expansion over a list of vectors
 abbrev pub expansion : Netlist → Netlist → List ℕ → List (List Bool) → Formula
 expansion spec imp kinds vectors = record {
-  vars = table_bits (shown kinds imp.boxes) + length vectors * length imp.cells;
+  vars = table_bits (representatives kinds imp.boxes) + length vectors * length imp.cells;
   clauses = flat_map (λ v. vector_clauses spec imp kinds v (slice_index_or vectors v [])) (range_with_len 0 (length vectors));
 }
 

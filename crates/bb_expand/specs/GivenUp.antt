@@ -8,7 +8,7 @@ use Rattle.bb_bits.specs.TruthSets.{HasMoreThan}
 use Rattle.bb_subst.specs.Filled.{IsFilled}
 use Rattle.bb_subst.specs.Distinguishing.{AreEquivalentAt, AreDistinguishing}
 use Rattle.bb_net.specs.Completions.{table_bits}
-use Rattle.bb_net.specs.Kinds.{shown, spread}
+use Rattle.bb_net.specs.Kinds.{representatives, per_box}
 use Rattle.bb_net.specs.Netlists.{Netlist, IsNetlist}
 use Rattle.bb_net.specs.Values.{FitBoxes}
 use Rattle.bb_sym.specs.Functions.{output_functions}
@@ -22,8 +22,8 @@ FillTooLarge spec imp tables = (filled : Netlist) × (at : ℕ → ℕ) × IsNet
 -- some tables, one for each sharing class, agree at all of these vectors, and fill the boxes so, or have more than 2^20
 -- bits where each box counts: a table is filled in once for each box of its class
 abbrev pub SuitsLargeTables : Netlist → Netlist → List ℕ → List (List Bool) → Type 0
-SuitsLargeTables spec imp kinds vectors = (tables : List TableBits) × FitBoxes tables (shown kinds imp.boxes) × All (AreEquivalentAt spec imp (spread kinds tables)) vectors
-    × ((2 ^ 20 < table_bits imp.boxes) ⊎ FillTooLarge spec imp (spread kinds tables))
+SuitsLargeTables spec imp kinds vectors = (tables : List TableBits) × FitBoxes tables (representatives kinds imp.boxes) × All (AreEquivalentAt spec imp (per_box kinds tables)) vectors
+    × ((2 ^ 20 < table_bits imp.boxes) ⊎ FillTooLarge spec imp (per_box kinds tables))
 
 pub record NeedsMoreClauses (spec imp : Netlist) (kinds : List ℕ) (budget : ℕ) : Type 0 where
   pub many : budget < clause_total imp

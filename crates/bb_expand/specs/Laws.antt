@@ -5,7 +5,7 @@ use Rattle.bb_bits.specs.Numbers.{number_of}
 use Rattle.bb_bits.specs.Tables.{TableBits}
 use Rattle.bb_net.specs.declared.cell.Cell.{Cell}
 use Rattle.bb_net.specs.Equivalence.{AllRight}
-use Rattle.bb_net.specs.Kinds.{FitKinds, shown, spread, NoSharedTablesMakeEquivalent, SomeSharedTablesMakeEquivalent}
+use Rattle.bb_net.specs.Kinds.{FitKinds, representatives, per_box, NoSharedTablesMakeEquivalent, SomeSharedTablesMakeEquivalent}
 use Rattle.bb_net.specs.Netlists.{Netlist, Pins, IsNetlist}
 use Rattle.bb_net.specs.Values.{gate, flat_with, FitBoxes}
 use Rattle.bb_cnf.specs.Chains.{IsRefutation}
@@ -22,7 +22,7 @@ use Rattle.bb_expand.specs.Expansions.{table_variable, cell_clauses, expansion, 
 
 -- what the boxes give by the bits of the table variables of their sharing classes
 abbrev pub assigned_bit : List ℕ → List Pins → (ℕ → Bool) → ℕ → ℕ → List Bool → Bool
-assigned_bit kinds boxes v b p ins = v (table_variable (shown kinds boxes) (slice_index kinds b) (number_of ins) p)
+assigned_bit kinds boxes v b p ins = v (table_variable (representatives kinds boxes) (slice_index kinds b) (number_of ins) p)
 
 -- a cell's clauses are true exactly where its variable has the gate's bit of the variables that it reads
 abbrev pub CellClausesSayGate : Type 0
@@ -31,7 +31,7 @@ CellClausesSayGate = (kinds : List ℕ) (boxes : List Pins) (x : List Bool) (var
 
 -- some tables, one for each sharing class, give every output the wanted bit at each of these vectors
 abbrev pub SomeTablesSuit : Netlist → Netlist → List ℕ → List (List Bool) → Type 0
-SomeTablesSuit spec imp kinds vectors = (tables : List TableBits) × FitBoxes tables (shown kinds imp.boxes) × All (λ x. AllRight spec imp x (flat_with imp x (spread kinds tables))) vectors
+SomeTablesSuit spec imp kinds vectors = (tables : List TableBits) × FitBoxes tables (representatives kinds imp.boxes) × All (λ x. AllRight spec imp x (flat_with imp x (per_box kinds tables))) vectors
 
 -- an expansion has a model exactly where some tables suit its vectors
 abbrev pub ModelsAreTables : Type 0
@@ -65,8 +65,8 @@ ExpansionsAreRefuted = (spec imp : Netlist) (kinds : List ℕ) → IsNetlist imp
 abbrev pub RefutationsShowVectors : Type 0
 RefutationsShowVectors = (spec imp : Netlist) (kinds : List ℕ) (budget : ℕ) (vectors : List (List Bool)) (cnf : Formula) (steps : List Step)
     → IsNetlist imp → FitKinds kinds imp.boxes → IsError spec imp kinds budget vectors cnf steps
-    → (tables : List TableBits) → FitBoxes tables (shown kinds imp.boxes)
-    → (x : List Bool) × Contains vectors x × FailAt spec imp (spread kinds tables) x
+    → (tables : List TableBits) → FitBoxes tables (representatives kinds imp.boxes)
+    → (x : List Bool) × Contains vectors x × FailAt spec imp (per_box kinds tables) x
 
 -- an expansion over required samples, within the budget and without a model, has a refutation whose steps a list in
 -- memory may hold: one of many variables may have no shorter one than a list may be long

@@ -5,7 +5,7 @@ ghost use Rattle.std.specs.Prelude.{◌≡◌, ◌+◌, ◌^◌, ◌<◌, ◌++�
 ghost use Rattle.std.specs.List.{flat_map, range_with_len};
 ghost use Rattle.bb_cnf.specs.Clauses.{lists_of};
 ghost use Rattle.bb_net.specs.Completions.{table_bits, HaveSmallTables};
-ghost use Rattle.bb_net.specs.Kinds.{FitKinds, shown};
+ghost use Rattle.bb_net.specs.Kinds.{FitKinds, representatives};
 ghost use Rattle.bb_net.specs.Netlists.{ReadsBefore, box_at, cell_at};
 ghost use Rattle.bb_expand.specs.Inside.TableStarts.{AreStarts};
 ghost use Rattle.bb_expand.specs.Expansions.{cell_clauses};
@@ -31,8 +31,8 @@ fn push_cell(
 ) -> Result<(), NoMemory>
     requires fits { base + place + 1 < 2 ^ 32 }
     requires kinds { FitKinds kinds.now boxes.now }
-    requires small { HaveSmallTables (shown kinds.now boxes.now) }
-    requires starts { AreStarts starts.now (shown kinds.now boxes.now) }
+    requires small { HaveSmallTables (representatives kinds.now boxes.now) }
+    requires starts { AreStarts starts.now (representatives kinds.now boxes.now) }
     requires reads { ReadsBefore (length x.now) boxes.now place cell }
     requires listed { (b p : ℕ) → cell ≡ Cell.BoxOut b p → p < length (box_at boxes.now b).outs }
     ensures { OnOk result (lists_of clauses.new.items ≡ lists_of clauses.old.items
@@ -66,11 +66,15 @@ pub(crate) fn push_cells(
 ) -> Result<(), NoMemory>
     requires fits { base + length imp.now.cells < 2 ^ 32 }
     requires kinds { FitKinds kinds.now imp.now.boxes }
-    requires small { HaveSmallTables (shown kinds.now imp.now.boxes) }
-    requires starts { AreStarts starts.now (shown kinds.now imp.now.boxes) }
+    requires small { HaveSmallTables (representatives kinds.now imp.now.boxes) }
+    requires starts { AreStarts starts.now (representatives kinds.now imp.now.boxes) }
     requires inputs { length x.now ≡ imp.now.inputs }
-    ensures { OnOk result (lists_of clauses.new.items ≡ lists_of clauses.old.items
-        ++ flat_map (λ place. cell_clauses kinds.now imp.now.boxes x.now (λ k. base + k + 1) (base + place + 1) (cell_at imp.now.cells place)) (range_with_len 0 (length imp.now.cells))) }
+    ensures { OnOk result (lists_of clauses.new.items
+        ≡ lists_of clauses.old.items
+        ++ flat_map
+        (λ place. cell_clauses kinds.now imp.now.boxes x.now (λ k. base + k + 1) (base + place + 1)
+        (cell_at imp.now.cells place))
+        (range_with_len 0 (length imp.now.cells))) }
 {
     let boxes = imp.boxes();
     for (place, cell) in imp.cells().iter().enumerate() {

@@ -32,7 +32,8 @@ fn cell_clauses(boxes: &[BoxPins], cell: Cell) -> u64
 }
 
 fn clauses_of_cells(boxes: &[BoxPins], cells: &[Cell]) -> u64
-    requires there { (place b p : ℕ) → place < length cells.now → cell_at cells.now place ≡ Cell.BoxOut b p → b < length boxes.now }
+    requires there { (place b p : ℕ) → place < length cells.now → cell_at cells.now place ≡ Cell.BoxOut b p
+        → b < length boxes.now }
     ensures { result ≡ min (sum_by (cell_clause_count boxes.now) cells.now) (2 ^ 64 - 1) }
 {
     let mut count: u64 = 0;

@@ -1,12 +1,12 @@
 //! The CEGIS loop. It begins with no samples and tables of zeros. An iteration looks for vectors at which the tables
-//! fail; the first becomes a required sample (`distinguishing`), others are added while there is room, and the solver gives
-//! tables that agree at all samples. The loop ends since required samples only become more, and no two are the same.
-//! What was weighed: one vector an iteration keeps fewer samples, but the solver then has to guess what many samples
-//! would settle.
+//! fail; the first becomes a required sample (`distinguishing`), others are added while there is room, and the solver
+//! gives tables that agree at all samples. The loop ends since required samples only become more, and no two are the
+//! same. What was weighed: one vector an iteration keeps fewer samples, but the solver then has to guess what many
+//! samples would settle.
 
 ghost use Rattle.std.specs.Prelude.{◌≡◌, ◌^◌, ◌<◌, ◌≤◌, IfOk, OnOk, IsErrOf};
 ghost use Rattle.bb_net.specs.Completions.{table_bits, HaveSmallTables};
-ghost use Rattle.bb_net.specs.Kinds.{shown};
+ghost use Rattle.bb_net.specs.Kinds.{representatives};
 ghost use Rattle.bb_expand.specs.ClauseCounts.{clause_total};
 ghost use Rattle.bb_expand.specs.declared.expanded.ExpandFault.TheVariants as fault;
 ghost use Rattle.bb_expand.specs.Expanded.{IsExpanded};
@@ -44,12 +44,15 @@ fn wanted(pair: &Pair, bits: u32, clauses: u32, samples: usize) -> usize
 // cell more for each table bit, and no search needs such a bound.
 fn admit(pair: &Pair, clauses: u32) -> Result<u32, ExpandFault>
     requires budget { clauses ≤ 8000000 }
-    ensures bits { IfOk result (λ bits. bits ≡ table_bits (shown pair.now.kinds pair.now.imp.boxes)) }
-    ensures small { OnOk result (HaveSmallTables (shown pair.now.kinds pair.now.imp.boxes)) }
+    ensures bits { IfOk result (λ bits. bits ≡ table_bits (representatives pair.now.kinds pair.now.imp.boxes)) }
+    ensures small { OnOk result (HaveSmallTables (representatives pair.now.kinds pair.now.imp.boxes)) }
     ensures large { OnOk result (2 ^ 20 < table_bits pair.now.imp.boxes → clause_total pair.now.imp ≤ clauses) }
-    ensures wide { IsErrOf result fault.Wide → 2 ^ 24 < table_bits (shown pair.now.kinds pair.now.imp.boxes) }
-    ensures wide_back { 2 ^ 24 < table_bits (shown pair.now.kinds pair.now.imp.boxes) → IsErrOf result fault.Wide }
-    ensures clauses { IsErrOf result fault.Clauses → HaveSmallTables (shown pair.now.kinds pair.now.imp.boxes) × NeedsMoreClauses pair.now.spec pair.now.imp pair.now.kinds clauses }
+    ensures wide { IsErrOf result fault.Wide → 2 ^ 24 < table_bits (representatives pair.now.kinds pair.now.imp.boxes) }
+    ensures wide_back { 2 ^ 24 < table_bits (representatives pair.now.kinds pair.now.imp.boxes)
+        → IsErrOf result fault.Wide }
+    ensures clauses { IsErrOf result fault.Clauses
+        → HaveSmallTables (representatives pair.now.kinds pair.now.imp.boxes)
+        × NeedsMoreClauses pair.now.spec pair.now.imp pair.now.kinds clauses }
 {
     let Some(bits) = pair.table_bits() else {
         return Err(ExpandFault::Wide);
@@ -69,9 +72,12 @@ fn admit(pair: &Pair, clauses: u32) -> Result<u32, ExpandFault>
 pub fn expand(alloc: Global, pair: &Pair, clauses: u32) -> Result<Expanded, ExpandFault>
     requires budget { clauses ≤ 8000000 }
     ensures ok { IfOk result (IsExpanded pair.now.spec pair.now.imp pair.now.kinds clauses) }
-    ensures wide { IsErrOf result fault.Wide → 2 ^ 24 < table_bits (shown pair.now.kinds pair.now.imp.boxes) }
-    ensures wide_back { 2 ^ 24 < table_bits (shown pair.now.kinds pair.now.imp.boxes) → IsErrOf result fault.Wide }
-    ensures clauses { IsErrOf result fault.Clauses → HaveSmallTables (shown pair.now.kinds pair.now.imp.boxes) × NeedsMoreClauses pair.now.spec pair.now.imp pair.now.kinds clauses }
+    ensures wide { IsErrOf result fault.Wide → 2 ^ 24 < table_bits (representatives pair.now.kinds pair.now.imp.boxes) }
+    ensures wide_back { 2 ^ 24 < table_bits (representatives pair.now.kinds pair.now.imp.boxes)
+        → IsErrOf result fault.Wide }
+    ensures clauses { IsErrOf result fault.Clauses
+        → HaveSmallTables (representatives pair.now.kinds pair.now.imp.boxes)
+        × NeedsMoreClauses pair.now.spec pair.now.imp pair.now.kinds clauses }
 {
     vectors_are_few();
     distinguishing_vectors_are_distinct();

@@ -3,7 +3,7 @@
 
 ghost use Rattle.std.specs.Prelude.{◌≡◌, ◌^◌, ◌<◌, ◌≤◌, All, length, IfOk, IfSome, IfNone, true, false};
 ghost use Rattle.bb_net.specs.Equivalence.{TablesMakeEquivalent};
-ghost use Rattle.bb_net.specs.Kinds.{spread};
+ghost use Rattle.bb_net.specs.Kinds.{per_box};
 ghost use Rattle.bb_net.specs.Values.{FitBoxes};
 ghost use Rattle.bb_subst.specs.Distinguishing.{AreEquivalentAt, FailAt};
 ghost use Rattle.bb_expand.specs.ClauseCounts.{clause_total};
@@ -38,12 +38,12 @@ fn fails_at(
     bits: &mut [bool],
     wanted: &mut [bool],
 ) -> bool
-    requires fit { FitBoxes (spread pair.now.kinds tables.now) pair.now.imp.boxes }
+    requires fit { FitBoxes (per_box pair.now.kinds tables.now) pair.now.imp.boxes }
     requires inputs { length x.now ≡ pair.now.imp.inputs }
     requires room { length bits.old ≡ length pair.now.imp.cells }
     requires wanted_room { length wanted.old ≡ length pair.now.spec.cells }
-    ensures yes { result ≡ true → FailAt pair.now.spec pair.now.imp (spread pair.now.kinds tables.now) x.now }
-    ensures no { result ≡ false → AreEquivalentAt pair.now.spec pair.now.imp (spread pair.now.kinds tables.now) x.now }
+    ensures yes { result ≡ true → FailAt pair.now.spec pair.now.imp (per_box pair.now.kinds tables.now) x.now }
+    ensures no { result ≡ false → AreEquivalentAt pair.now.spec pair.now.imp (per_box pair.now.kinds tables.now) x.now }
     ensures room { length bits.new ≡ length pair.now.imp.cells }
     ensures wanted_room { length wanted.new ≡ length pair.now.spec.cells }
 {
@@ -59,10 +59,12 @@ pub(crate) fn first_failure(
     pair: &Pair,
     tables: &[Table],
 ) -> Result<Option<Vec<bool>>, NoMemory>
-    requires fit { FitBoxes (spread pair.now.kinds tables.now) pair.now.imp.boxes }
+    requires fit { FitBoxes (per_box pair.now.kinds tables.now) pair.now.imp.boxes }
     requires few { clause_total pair.now.imp ≤ 8000000 }
-    ensures found { IfOk result (λ found. IfSome found (λ x. FailsAt pair.now.spec pair.now.imp (spread pair.now.kinds tables.now) x.items)) }
-    ensures none { IfOk result (λ found. IfNone found (TablesMakeEquivalent pair.now.spec pair.now.imp (spread pair.now.kinds tables.now))) }
+    ensures found { IfOk result (λ found.
+        IfSome found (λ x. FailsAt pair.now.spec pair.now.imp (per_box pair.now.kinds tables.now) x.items)) }
+    ensures none { IfOk result (λ found.
+        IfNone found (TablesMakeEquivalent pair.now.spec pair.now.imp (per_box pair.now.kinds tables.now))) }
 {
     laws_below();
     let (spec, imp) = (pair.spec(), pair.imp());

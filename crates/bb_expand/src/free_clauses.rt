@@ -29,7 +29,8 @@ fn push_differences(
     requires fits { base + length imp.now.outs < 2 ^ 32 }
     requires wanted { wanted ≡ imp.now.inputs + length imp.now.cells }
     requires base { base ≡ imp.now.inputs + length imp.now.cells + length spec.now.cells }
-    ensures { OnOk result (lists_of clauses.new.items ≡ lists_of clauses.old.items ++ difference_clauses spec.now imp.now) }
+    ensures { OnOk result (lists_of clauses.new.items
+        ≡ lists_of clauses.old.items ++ difference_clauses spec.now imp.now) }
 {
     let inputs = imp.inputs();
     let spec_outs = spec.outs();

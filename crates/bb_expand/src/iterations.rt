@@ -5,7 +5,7 @@ ghost use Rattle.bb_cnf.specs.Chains.{IsRefutation};
 ghost use Rattle.bb_cnf.specs.Truth.{IsModel};
 ghost use Rattle.bb_subst.specs.Distinguishing.{AreEquivalentAt};
 ghost use Rattle.bb_net.specs.Completions.{table_bits, HaveSmallTables};
-ghost use Rattle.bb_net.specs.Kinds.{shown, spread};
+ghost use Rattle.bb_net.specs.Kinds.{representatives, per_box};
 ghost use Rattle.bb_net.specs.Values.{FitBoxes};
 ghost use Rattle.bb_expand.specs.declared.samples.SampleSet.{SampleSet as SampleVectors};
 ghost use Rattle.bb_expand.specs.Expanded.{IsExpanded};
@@ -24,10 +24,10 @@ use std::alloc::Global;
 
 // Zeros, as an unconstrained model would be, so no solver has to run before the first search for failures.
 pub(crate) fn zero_tables(alloc: Global, pair: &Pair, bits: u32) -> Result<Vec<Table>, NoMemory>
-    requires small { HaveSmallTables (shown pair.now.kinds pair.now.imp.boxes) }
-    requires bits { bits ≡ table_bits (shown pair.now.kinds pair.now.imp.boxes) }
-    ensures fit { IfOk result (λ tables. FitBoxes tables.items (shown pair.now.kinds pair.now.imp.boxes)) }
-    ensures spread { IfOk result (λ tables. FitBoxes (spread pair.now.kinds tables.items) pair.now.imp.boxes) }
+    requires small { HaveSmallTables (representatives pair.now.kinds pair.now.imp.boxes) }
+    requires bits { bits ≡ table_bits (representatives pair.now.kinds pair.now.imp.boxes) }
+    ensures fit { IfOk result (λ tables. FitBoxes tables.items (representatives pair.now.kinds pair.now.imp.boxes)) }
+    ensures spread { IfOk result (λ tables. FitBoxes (per_box pair.now.kinds tables.items) pair.now.imp.boxes) }
 {
     laws_below();
     let _ = pair.imp();
@@ -43,12 +43,15 @@ pub(crate) fn tables_of(
     samples: &SampleSet,
     model: &[bool],
 ) -> Result<Vec<Table>, NoMemory>
-    requires small { HaveSmallTables (shown pair.now.kinds pair.now.imp.boxes) }
-    requires expands { samples.now.solver ≡ expansion pair.now.spec pair.now.imp pair.now.kinds (sample_vectors samples.now) }
+    requires small { HaveSmallTables (representatives pair.now.kinds pair.now.imp.boxes) }
+    requires expands { samples.now.solver
+        ≡ expansion pair.now.spec pair.now.imp pair.now.kinds (sample_vectors samples.now) }
     requires holds { IsModel model.now samples.now.solver }
-    ensures fit { IfOk result (λ tables. FitBoxes tables.items (shown pair.now.kinds pair.now.imp.boxes)) }
-    ensures spread { IfOk result (λ tables. FitBoxes (spread pair.now.kinds tables.items) pair.now.imp.boxes) }
-    ensures agree { IfOk result (λ tables. All (AreEquivalentAt pair.now.spec pair.now.imp (spread pair.now.kinds tables.items)) (sample_vectors samples.now)) }
+    ensures fit { IfOk result (λ tables. FitBoxes tables.items (representatives pair.now.kinds pair.now.imp.boxes)) }
+    ensures spread { IfOk result (λ tables. FitBoxes (per_box pair.now.kinds tables.items) pair.now.imp.boxes) }
+    ensures agree { IfOk result (λ tables. All
+        (AreEquivalentAt pair.now.spec pair.now.imp (per_box pair.now.kinds tables.items))
+        (sample_vectors samples.now)) }
 {
     laws_below();
     let _ = samples;
@@ -65,7 +68,10 @@ pub(crate) fn refuted(
     refutation: Refutation,
 ) -> Expanded
     requires refuted { IsRefutation cnf.clauses refutation.steps.items }
-    ensures error { (budget : ℕ) (samples : SampleVectors) → IsSampleSet pair.now.spec pair.now.imp pair.now.kinds budget samples → sample_vectors samples ≡ map vec_items vectors.items → samples.solver ≡ cnf → IsExpanded pair.now.spec pair.now.imp pair.now.kinds budget result }
+    ensures error { (budget : ℕ) (samples : SampleVectors)
+        → IsSampleSet pair.now.spec pair.now.imp pair.now.kinds budget samples
+        → sample_vectors samples ≡ map vec_items vectors.items → samples.solver ≡ cnf
+        → IsExpanded pair.now.spec pair.now.imp pair.now.kinds budget result }
 {
     laws_below();
     expansions_and_tables();

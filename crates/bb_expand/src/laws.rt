@@ -1,6 +1,8 @@
 //! Laws of expansions, as contracts of empty functions: crates above call a function and cite no proof of this one.
 
-ghost use Rattle.bb_expand.specs.Laws.{CellClausesSayGate, ModelsAreTables, AllVectorsDecide, ClausesAreCounted, VariablesAreWithin, VectorsRise, VectorsAreAll, ExpansionsAreRefuted, RefutationsShowVectors, AnswersExist};
+ghost use Rattle.bb_expand.specs.Laws.{CellClausesSayGate, ModelsAreTables, AllVectorsDecide, ClausesAreCounted};
+ghost use Rattle.bb_expand.specs.Laws.{VariablesAreWithin, VectorsRise, VectorsAreAll, ExpansionsAreRefuted};
+ghost use Rattle.bb_expand.specs.Laws.{RefutationsShowVectors, AnswersExist};
 ghost use Rattle.bb_expand.specs.Inside.LawsBelow.{Numbering, Sharing, ValueExists, ValueIsUnique};
 
 use bb_bits::{number_is_below, number_spelled, number_spelled_once};

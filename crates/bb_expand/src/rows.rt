@@ -2,12 +2,13 @@
 //! the table bits are selected by position and need no multiplexer tree. Boxes of one sharing class use the same table
 //! variables.
 
-ghost use Rattle.std.specs.Prelude.{◌≡◌, ◌+◌, ◌*◌, ◌^◌, ◌<◌, ◌≤◌, ◌∷◌, ◌++◌, [], ℕ, All, length, map, slice_index, take, IfOk, OnOk};
+ghost use Rattle.std.specs.Prelude.{◌≡◌, ◌+◌, ◌*◌, ◌^◌, ◌<◌, ◌≤◌, ◌∷◌, ◌++◌, [], ℕ, All, length, map, slice_index};
+ghost use Rattle.std.specs.Prelude.{take, IfOk, OnOk};
 ghost use Rattle.std.specs.List.{flat_map, range_with_len};
 ghost use Rattle.bb_bits.specs.Numbers.{bits_of};
 ghost use Rattle.bb_cnf.specs.Clauses.{lists_of};
 ghost use Rattle.bb_net.specs.Completions.{table_bits, HaveSmallTables};
-ghost use Rattle.bb_net.specs.Kinds.{shown};
+ghost use Rattle.bb_net.specs.Kinds.{representatives};
 ghost use Rattle.bb_net.specs.Netlists.{box_at};
 ghost use Rattle.bb_expand.specs.Inside.TableStarts.{AreStarts};
 ghost use Rattle.bb_expand.specs.Expansions.{differing, row_clauses};
@@ -50,8 +51,9 @@ fn starts_of_boxes(alloc: Global, firsts: &[u32], boxes: &[BoxPins]) -> Result<V
 
 // For each sharing class, how many table bits come before its table.
 pub(crate) fn table_starts(alloc: Global, pair: &Pair) -> Result<Vec<u32>, NoMemory>
-    requires small { HaveSmallTables (shown pair.now.kinds pair.now.imp.boxes) }
-    ensures starts { IfOk result (λ starts. AreStarts starts.items (shown pair.now.kinds pair.now.imp.boxes)) }
+    requires small { HaveSmallTables (representatives pair.now.kinds pair.now.imp.boxes) }
+    ensures starts { IfOk result (λ starts.
+        AreStarts starts.items (representatives pair.now.kinds pair.now.imp.boxes)) }
 {
     let firsts = shown_boxes(alloc, pair)?;
     let starts = starts_of_boxes(alloc, &firsts, pair.imp().boxes())?;
@@ -69,7 +71,8 @@ fn row_clause(
 ) -> Result<SmallVec<Lit, 4>, NoMemory>
     requires bits { length row.now ≡ length ins.now }
     requires there { All (λ pin. base + pin + 1 < 2 ^ 32) ins.now }
-    ensures clause { IfOk result (λ clause. clause.items ≡ differing (λ pin. base + pin + 1) ins.now row.now ++ y ∷ t ∷ []) }
+    ensures clause { IfOk result (λ clause.
+        clause.items ≡ differing (λ pin. base + pin + 1) ins.now row.now ++ y ∷ t ∷ []) }
 {
     let mut clause = SmallVec::with_capacity(alloc, ins.len() + 2)?;
     for (i, pin) in ins.iter().enumerate() {
@@ -90,7 +93,8 @@ fn push_row(
 ) -> Result<(), NoMemory>
     requires bits { length row.now ≡ length ins.now }
     requires there { All (λ pin. base + pin + 1 < 2 ^ 32) ins.now }
-    ensures { OnOk result (lists_of clauses.new.items ≡ lists_of clauses.old.items ++ row_clauses (λ pin. base + pin + 1) ins.now y row.now t) }
+    ensures { OnOk result (lists_of clauses.new.items
+        ≡ lists_of clauses.old.items ++ row_clauses (λ pin. base + pin + 1) ins.now y row.now t) }
 {
     let alloc = *clauses.allocator();
     clauses.push(row_clause(alloc, base, ins, row, no(y), yes(t))?)?;

@@ -4,7 +4,7 @@
 ghost use Rattle.std.specs.Prelude.{◌≡◌, ◌+◌, ◌<◌, ◌≤◌, ◌^◌, ◌++◌, ◌∷◌, [], ℕ, length, map, vec_items, IfOk, OnOk};
 ghost use Rattle.bb_cnf.specs.Clauses.{HasVariablesWithin, lists_of};
 ghost use Rattle.bb_net.specs.Completions.{table_bits, HaveSmallTables};
-ghost use Rattle.bb_net.specs.Kinds.{shown};
+ghost use Rattle.bb_net.specs.Kinds.{representatives};
 ghost use Rattle.bb_expand.specs.Expansions.{expansion};
 
 use crate::laws::expansions_and_tables;
@@ -17,8 +17,8 @@ use bb_net::Pair;
 use smallvec::SmallVec;
 use std::alloc::Global;
 
-/// `distinguishing` are the required samples in order, a sublist of `vectors`. The solver has the clauses of all `vectors`, in
-/// their order.
+/// `distinguishing` are the required samples in order, a sublist of `vectors`. The solver has the clauses of all
+/// `vectors`, in their order.
 #[derive(Drop)]
 pub(crate) struct SampleSet {
     pub(crate) vectors: Vec<Vec<bool>>,
@@ -28,7 +28,7 @@ pub(crate) struct SampleSet {
 
 // The first `bits` variables are the table bits.
 pub(crate) fn no_samples(alloc: Global, pair: &Pair, bits: u32) -> Result<SampleSet, NoMemory>
-    requires bits { bits ≡ table_bits (shown pair.now.kinds pair.now.imp.boxes) }
+    requires bits { bits ≡ table_bits (representatives pair.now.kinds pair.now.imp.boxes) }
     ensures none { IfOk result (λ new. new.vectors.items ≡ []) }
     ensures distinguishing { IfOk result (λ new. new.distinguishing.items ≡ []) }
     ensures cnf { IfOk result (λ new. new.solver ≡ expansion pair.now.spec pair.now.imp pair.now.kinds []) }
@@ -48,7 +48,8 @@ pub(crate) fn no_samples(alloc: Global, pair: &Pair, bits: u32) -> Result<Sample
 
 fn push_all(solver: &mut Solver, clauses: Vec<SmallVec<Lit, 4>>) -> Result<(), NoMemory>
     requires within { HasVariablesWithin solver.old.vars (lists_of clauses.items) }
-    ensures pushed { OnOk result (solver.new ≡ record { vars = solver.old.vars; clauses = solver.old.clauses ++ lists_of clauses.items }) }
+    ensures pushed { OnOk result (solver.new
+        ≡ record { vars = solver.old.vars; clauses = solver.old.clauses ++ lists_of clauses.items }) }
 {
     for clause in clauses {
         solver.push(clause)?;
@@ -63,13 +64,16 @@ pub(crate) fn with_vector(
     samples: SampleSet,
     x: &[bool],
 ) -> Result<SampleSet, NoMemory>
-    requires small { HaveSmallTables (shown pair.now.kinds pair.now.imp.boxes) }
+    requires small { HaveSmallTables (representatives pair.now.kinds pair.now.imp.boxes) }
     requires inputs { length x.now ≡ pair.now.imp.inputs }
-    requires expands { samples.solver ≡ expansion pair.now.spec pair.now.imp pair.now.kinds (map vec_items samples.vectors.items) }
+    requires expands { samples.solver
+        ≡ expansion pair.now.spec pair.now.imp pair.now.kinds (map vec_items samples.vectors.items) }
     requires fits { samples.solver.vars + length pair.now.imp.cells < 2 ^ 32 }
-    ensures vectors { IfOk result (λ new. map vec_items new.vectors.items ≡ map vec_items samples.vectors.items ++ x.now ∷ []) }
+    ensures vectors { IfOk result (λ new.
+        map vec_items new.vectors.items ≡ map vec_items samples.vectors.items ++ x.now ∷ []) }
     ensures distinguishing { IfOk result (λ new. new.distinguishing.items ≡ samples.distinguishing.items) }
-    ensures cnf { IfOk result (λ new. new.solver ≡ expansion pair.now.spec pair.now.imp pair.now.kinds (map vec_items samples.vectors.items ++ x.now ∷ [])) }
+    ensures cnf { IfOk result (λ new. new.solver
+        ≡ expansion pair.now.spec pair.now.imp pair.now.kinds (map vec_items samples.vectors.items ++ x.now ∷ [])) }
 {
     expansions_and_tables();
     let SampleSet {

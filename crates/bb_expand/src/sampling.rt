@@ -2,11 +2,12 @@
 //! check that gives up has the cause that its clause states. The others only speed the loop up, and are dropped when
 //! the clauses of the next required one would exceed the budget; the solver then starts anew over the required ones.
 
-ghost use Rattle.std.specs.Prelude.{◌≡◌, ◌+◌, ◌<◌, ◌≤◌, ◌++◌, ◌∷◌, [], All, Contains, length, map, vec_items, IfOk, IsErrOf, true, false};
+ghost use Rattle.std.specs.Prelude.{◌≡◌, ◌+◌, ◌<◌, ◌≤◌, ◌++◌, ◌∷◌, [], All, Contains, length, map, vec_items, IfOk};
+ghost use Rattle.std.specs.Prelude.{IsErrOf, true, false};
 ghost use Rattle.bb_subst.specs.Distinguishing.{AreEquivalentAt, AreDistinguishing};
 ghost use Rattle.bb_net.specs.Equivalence.{IsVector};
 ghost use Rattle.bb_net.specs.Completions.{table_bits, HaveSmallTables};
-ghost use Rattle.bb_net.specs.Kinds.{shown, spread};
+ghost use Rattle.bb_net.specs.Kinds.{representatives, per_box};
 ghost use Rattle.bb_net.specs.Values.{FitBoxes};
 ghost use Rattle.bb_expand.specs.ClauseCounts.{clauses_per_vector};
 ghost use Rattle.bb_expand.specs.declared.expanded.ExpandFault.TheVariants as fault;
@@ -42,7 +43,7 @@ fn hold(
     x: &[bool],
 ) -> Result<SampleSet, NoMemory>
     requires budget { clauses ≤ 8000000 }
-    requires small { HaveSmallTables (shown pair.now.kinds pair.now.imp.boxes) }
+    requires small { HaveSmallTables (representatives pair.now.kinds pair.now.imp.boxes) }
     requires samples { IsSampleSet pair.now.spec pair.now.imp pair.now.kinds clauses samples }
     requires each { AreDistinctWith (IsVector pair.now.imp) (sample_vectors samples ++ x.now ∷ []) }
     requires room { length samples.solver.clauses + clauses_per_vector pair.now.imp ≤ clauses }
@@ -64,13 +65,16 @@ fn add_distinguishing(
     x: &[bool],
 ) -> Result<SampleSet, NoMemory>
     requires budget { clauses ≤ 8000000 }
-    requires small { HaveSmallTables (shown pair.now.kinds pair.now.imp.boxes) }
+    requires small { HaveSmallTables (representatives pair.now.kinds pair.now.imp.boxes) }
     requires samples { IsSampleSet pair.now.spec pair.now.imp pair.now.kinds clauses samples }
     requires each { AreDistinctWith (IsVector pair.now.imp) (sample_vectors samples ++ x.now ∷ []) }
     requires room { length samples.solver.clauses + clauses_per_vector pair.now.imp ≤ clauses }
-    requires distinguishing { AreDistinguishing pair.now.spec pair.now.imp pair.now.kinds (distinguishing_vectors samples ++ x.now ∷ []) }
+    requires distinguishing { AreDistinguishing pair.now.spec pair.now.imp pair.now.kinds (distinguishing_vectors
+        samples
+        ++ x.now ∷ []) }
     ensures vectors { IfOk result (λ new. sample_vectors new ≡ sample_vectors samples ++ x.now ∷ []) }
-    ensures distinguishing { IfOk result (λ new. distinguishing_vectors new ≡ distinguishing_vectors samples ++ x.now ∷ []) }
+    ensures distinguishing { IfOk result (λ new.
+        distinguishing_vectors new ≡ distinguishing_vectors samples ++ x.now ∷ []) }
     ensures samples { IfOk result (IsSampleSet pair.now.spec pair.now.imp pair.now.kinds clauses) }
 {
     let mut new = hold(alloc, pair, clauses, samples, x)?;
@@ -87,7 +91,7 @@ fn hold_others(
     vectors: &[Vec<bool>],
 ) -> Result<SampleSet, NoMemory>
     requires budget { clauses ≤ 8000000 }
-    requires small { HaveSmallTables (shown pair.now.kinds pair.now.imp.boxes) }
+    requires small { HaveSmallTables (representatives pair.now.kinds pair.now.imp.boxes) }
     requires samples { IsSampleSet pair.now.spec pair.now.imp pair.now.kinds clauses samples }
     requires each { AreDistinctWith (IsVector pair.now.imp) (sample_vectors samples ++ map vec_items vectors.now) }
     ensures distinguishing { IfOk result (λ new. new.distinguishing.items ≡ samples.distinguishing.items) }
@@ -111,10 +115,13 @@ fn distinguishing_alone(
     distinguishing: Vec<Vec<bool>>,
 ) -> Result<SampleSet, NoMemory>
     requires budget { clauses ≤ 8000000 }
-    requires bits { bits ≡ table_bits (shown pair.now.kinds pair.now.imp.boxes) }
-    requires small { HaveSmallTables (shown pair.now.kinds pair.now.imp.boxes) }
-    requires distinguishing { AreDistinguishing pair.now.spec pair.now.imp pair.now.kinds (map vec_items distinguishing.items) }
-    requires within { length (expansion pair.now.spec pair.now.imp pair.now.kinds (map vec_items distinguishing.items)).clauses ≤ clauses }
+    requires bits { bits ≡ table_bits (representatives pair.now.kinds pair.now.imp.boxes) }
+    requires small { HaveSmallTables (representatives pair.now.kinds pair.now.imp.boxes) }
+    requires distinguishing { AreDistinguishing pair.now.spec pair.now.imp pair.now.kinds (map vec_items
+        distinguishing.items) }
+    requires within { length (expansion pair.now.spec pair.now.imp pair.now.kinds (map vec_items
+        distinguishing.items)).clauses
+        ≤ clauses }
     ensures vectors { IfOk result (λ new. sample_vectors new ≡ map vec_items distinguishing.items) }
     ensures distinguishing { IfOk result (λ new. new.distinguishing.items ≡ distinguishing.items) }
     ensures samples { IfOk result (IsSampleSet pair.now.spec pair.now.imp pair.now.kinds clauses) }
@@ -138,15 +145,18 @@ fn make_room(
     samples: SampleSet,
 ) -> Result<SampleSet, ExpandFault>
     requires budget { clauses ≤ 8000000 }
-    requires bits { bits ≡ table_bits (shown pair.now.kinds pair.now.imp.boxes) }
-    requires small { HaveSmallTables (shown pair.now.kinds pair.now.imp.boxes) }
+    requires bits { bits ≡ table_bits (representatives pair.now.kinds pair.now.imp.boxes) }
+    requires small { HaveSmallTables (representatives pair.now.kinds pair.now.imp.boxes) }
     requires samples { IsSampleSet pair.now.spec pair.now.imp pair.now.kinds clauses samples }
     ensures room { IfOk result (λ new. length new.solver.clauses + clauses_per_vector pair.now.imp ≤ clauses) }
     ensures among { IfOk result (λ new. All (Contains (sample_vectors samples)) (sample_vectors new)) }
     ensures distinguishing { IfOk result (λ new. new.distinguishing.items ≡ samples.distinguishing.items) }
     ensures samples { IfOk result (IsSampleSet pair.now.spec pair.now.imp pair.now.kinds clauses) }
     ensures wide { IsErrOf result fault.Wide → ⊥ }
-    ensures clauses { IsErrOf result fault.Clauses → clauses < length (expansion pair.now.spec pair.now.imp pair.now.kinds (distinguishing_vectors samples)).clauses + clauses_per_vector pair.now.imp }
+    ensures clauses { IsErrOf result fault.Clauses
+        → clauses
+        < length (expansion pair.now.spec pair.now.imp pair.now.kinds (distinguishing_vectors samples)).clauses
+        + clauses_per_vector pair.now.imp }
 {
     expansions_and_tables();
     distinguishing_vectors_are_distinct();
@@ -171,17 +181,20 @@ pub(crate) fn hold_failures(
     failures: &[Vec<bool>],
 ) -> Result<SampleSet, ExpandFault>
     requires budget { clauses ≤ 8000000 }
-    requires bits { bits ≡ table_bits (shown pair.now.kinds pair.now.imp.boxes) }
-    requires small { HaveSmallTables (shown pair.now.kinds pair.now.imp.boxes) }
+    requires bits { bits ≡ table_bits (representatives pair.now.kinds pair.now.imp.boxes) }
+    requires small { HaveSmallTables (representatives pair.now.kinds pair.now.imp.boxes) }
     requires samples { IsSampleSet pair.now.spec pair.now.imp pair.now.kinds clauses samples }
-    requires fit { FitBoxes tables.now (shown pair.now.kinds pair.now.imp.boxes) }
-    requires agree { All (AreEquivalentAt pair.now.spec pair.now.imp (spread pair.now.kinds tables.now)) (sample_vectors samples) }
+    requires fit { FitBoxes tables.now (representatives pair.now.kinds pair.now.imp.boxes) }
+    requires agree { All (AreEquivalentAt pair.now.spec pair.now.imp (per_box pair.now.kinds tables.now))
+        (sample_vectors samples) }
     requires some { 0 < length failures.now }
-    requires failures { AreDistinctWith (FailsAt pair.now.spec pair.now.imp (spread pair.now.kinds tables.now)) (map vec_items failures.now) }
+    requires failures { AreDistinctWith (FailsAt pair.now.spec pair.now.imp (per_box pair.now.kinds tables.now))
+        (map vec_items failures.now) }
     ensures more { IfOk result (λ new. length (distinguishing_vectors samples) < length (distinguishing_vectors new)) }
     ensures samples { IfOk result (IsSampleSet pair.now.spec pair.now.imp pair.now.kinds clauses) }
     ensures wide { IsErrOf result fault.Wide → ⊥ }
-    ensures clauses { IsErrOf result fault.Clauses → NeedsMoreClauses pair.now.spec pair.now.imp pair.now.kinds clauses }
+    ensures clauses { IsErrOf result fault.Clauses
+        → NeedsMoreClauses pair.now.spec pair.now.imp pair.now.kinds clauses }
 {
     expansions_and_tables();
     vectors_are_few();

@@ -3,13 +3,14 @@
 //! It works on two netlists and not on a pair: a pair owns its netlists and texts, so a filled one would copy the
 //! specification in each iteration.
 
-ghost use Rattle.std.specs.Prelude.{◌≡◌, ◌<◌, ◌≤◌, ◌^◌, ◌∷◌, [], true, false, map, vec_items, IfOk, IfSome, IfNone, IsErrOf};
+ghost use Rattle.std.specs.Prelude.{◌≡◌, ◌<◌, ◌≤◌, ◌^◌, ◌∷◌, [], true, false, map, vec_items, IfOk, IfSome, IfNone};
+ghost use Rattle.std.specs.Prelude.{IsErrOf};
 ghost use Rattle.bb_bits.specs.Truth.{IsBeadOfAny};
 ghost use Rattle.bb_bits.specs.TruthSets.{HasMoreThan};
 ghost use Rattle.bb_miter.specs.Inside.Equivalence.{AreComparable, AreEquivalent, DiffersAt};
 ghost use Rattle.bb_net.specs.Equivalence.{TablesMakeEquivalent};
 ghost use Rattle.bb_net.specs.Completions.{table_bits};
-ghost use Rattle.bb_net.specs.Kinds.{spread};
+ghost use Rattle.bb_net.specs.Kinds.{per_box};
 ghost use Rattle.bb_net.specs.Values.{FitBoxes};
 ghost use Rattle.bb_sym.specs.Functions.{output_functions};
 ghost use Rattle.bb_expand.specs.ClauseCounts.{clause_total};
@@ -61,7 +62,8 @@ fn search_by_large_diagrams(
     requires nodes { HasMoreThan (IsBeadOfAny (output_functions spec.now filled.now)) 1000000 }
     ensures found { IfOk result (λ found. IfSome found (λ x. DiffersAt spec.now filled.now x.items)) }
     ensures none { IfOk result (λ found. IfNone found (AreEquivalent spec.now filled.now)) }
-    ensures nodes { IsErrOf result RungFault.Nodes → HasMoreThan (IsBeadOfAny (output_functions spec.now filled.now)) 1000000 }
+    ensures nodes { IsErrOf result RungFault.Nodes
+        → HasMoreThan (IsBeadOfAny (output_functions spec.now filled.now)) 1000000 }
 {
     difference(alloc, spec, filled, NODES_AT_LAST, CACHE)
 }
@@ -78,7 +80,8 @@ fn search_at_last(
     requires nodes { HasMoreThan (IsBeadOfAny (output_functions spec.now filled.now)) 1000000 }
     ensures found { IfOk result (λ found. IfSome found (λ x. DiffersAt spec.now filled.now x.items)) }
     ensures none { IfOk result (λ found. IfNone found (AreEquivalent spec.now filled.now)) }
-    ensures nodes { IsErrOf result RungFault.Nodes → HasMoreThan (IsBeadOfAny (output_functions spec.now filled.now)) 1000000 }
+    ensures nodes { IsErrOf result RungFault.Nodes
+        → HasMoreThan (IsBeadOfAny (output_functions spec.now filled.now)) 1000000 }
 {
     match by_solver(alloc, spec, filled, clauses, LEARNED_AT_LAST)? {
         SearchResult::At(x) => Ok(Some(x)),
@@ -97,7 +100,8 @@ fn search_by_diagrams(
     requires budget { clauses ≤ 8000000 }
     ensures found { IfOk result (λ found. IfSome found (λ x. DiffersAt spec.now filled.now x.items)) }
     ensures none { IfOk result (λ found. IfNone found (AreEquivalent spec.now filled.now)) }
-    ensures nodes { IsErrOf result RungFault.Nodes → HasMoreThan (IsBeadOfAny (output_functions spec.now filled.now)) 1000000 }
+    ensures nodes { IsErrOf result RungFault.Nodes
+        → HasMoreThan (IsBeadOfAny (output_functions spec.now filled.now)) 1000000 }
 {
     match difference(alloc, spec, filled, NODES, CACHE) {
         Err(RungFault::Nodes) => search_at_last(alloc, spec, filled, clauses),
@@ -115,7 +119,8 @@ fn search_one(
     requires budget { clauses ≤ 8000000 }
     ensures found { IfOk result (λ found. IfSome found (λ x. DiffersAt spec.now filled.now x.items)) }
     ensures none { IfOk result (λ found. IfNone found (AreEquivalent spec.now filled.now)) }
-    ensures nodes { IsErrOf result RungFault.Nodes → HasMoreThan (IsBeadOfAny (output_functions spec.now filled.now)) 1000000 }
+    ensures nodes { IsErrOf result RungFault.Nodes
+        → HasMoreThan (IsBeadOfAny (output_functions spec.now filled.now)) 1000000 }
 {
     match by_miter(alloc, spec, filled, clauses)? {
         SearchResult::At(x) => Ok(Some(x)),
@@ -150,7 +155,8 @@ fn find_counterexample(
     requires wanted { 1 ≤ wanted }
     ensures found { IfOk result (λ found. AreDistinctWith (DiffersAt spec.now filled.now) (map vec_items found.items)) }
     ensures none { IfOk result (λ found. found.items ≡ [] → AreEquivalent spec.now filled.now) }
-    ensures nodes { IsErrOf result RungFault.Nodes → HasMoreThan (IsBeadOfAny (output_functions spec.now filled.now)) 1000000 }
+    ensures nodes { IsErrOf result RungFault.Nodes
+        → HasMoreThan (IsBeadOfAny (output_functions spec.now filled.now)) 1000000 }
 {
     let drawn = differing_patterns(alloc, spec, filled, seed, wanted)?;
     if !drawn.is_empty() {
@@ -172,11 +178,14 @@ fn by_filling(
 ) -> Result<Vec<Vec<bool>>, RungFault>
     requires budget { clauses ≤ 8000000 }
     requires wanted { 1 ≤ wanted }
-    requires fit { FitBoxes (spread pair.now.kinds tables.now) pair.now.imp.boxes }
+    requires fit { FitBoxes (per_box pair.now.kinds tables.now) pair.now.imp.boxes }
     requires few { table_bits pair.now.imp.boxes ≤ 2 ^ 20 }
-    ensures found { IfOk result (λ found. AreDistinctWith (FailsAt pair.now.spec pair.now.imp (spread pair.now.kinds tables.now)) (map vec_items found.items)) }
-    ensures none { IfOk result (λ found. found.items ≡ [] → TablesMakeEquivalent pair.now.spec pair.now.imp (spread pair.now.kinds tables.now)) }
-    ensures nodes { IsErrOf result RungFault.Nodes → FillTooLarge pair.now.spec pair.now.imp (spread pair.now.kinds tables.now) }
+    ensures found { IfOk result (λ found. AreDistinctWith
+        (FailsAt pair.now.spec pair.now.imp (per_box pair.now.kinds tables.now)) (map vec_items found.items)) }
+    ensures none { IfOk result (λ found.
+        found.items ≡ [] → TablesMakeEquivalent pair.now.spec pair.now.imp (per_box pair.now.kinds tables.now)) }
+    ensures nodes { IsErrOf result RungFault.Nodes
+        → FillTooLarge pair.now.spec pair.now.imp (per_box pair.now.kinds tables.now) }
 {
     filled_are_right();
     let filled = fill(alloc, pair.imp(), tables, pair.kinds())?;
@@ -196,12 +205,16 @@ pub(crate) fn failing_vectors(
 ) -> Result<Vec<Vec<bool>>, ExpandFault>
     requires budget { clauses ≤ 8000000 }
     requires wanted { 1 ≤ wanted }
-    requires fit { FitBoxes (spread pair.now.kinds tables.now) pair.now.imp.boxes }
+    requires fit { FitBoxes (per_box pair.now.kinds tables.now) pair.now.imp.boxes }
     requires large { 2 ^ 20 < table_bits pair.now.imp.boxes → clause_total pair.now.imp ≤ clauses }
-    ensures found { IfOk result (λ found. AreDistinctWith (FailsAt pair.now.spec pair.now.imp (spread pair.now.kinds tables.now)) (map vec_items found.items)) }
-    ensures none { IfOk result (λ found. found.items ≡ [] → TablesMakeEquivalent pair.now.spec pair.now.imp (spread pair.now.kinds tables.now)) }
+    ensures found { IfOk result (λ found. AreDistinctWith
+        (FailsAt pair.now.spec pair.now.imp (per_box pair.now.kinds tables.now)) (map vec_items found.items)) }
+    ensures none { IfOk result (λ found.
+        found.items ≡ [] → TablesMakeEquivalent pair.now.spec pair.now.imp (per_box pair.now.kinds tables.now)) }
     ensures wide { IsErrOf result fault.Wide → ⊥ }
-    ensures clauses { IsErrOf result fault.Clauses → (clauses < clause_total pair.now.imp) × FillTooLarge pair.now.spec pair.now.imp (spread pair.now.kinds tables.now) }
+    ensures clauses { IsErrOf result fault.Clauses
+        → (clauses < clause_total pair.now.imp)
+        × FillTooLarge pair.now.spec pair.now.imp (per_box pair.now.kinds tables.now) }
 {
     if may_be_filled(pair.imp()) {
         match by_filling(alloc, pair, tables, clauses, seed, wanted) {

@@ -3,7 +3,7 @@
 
 ghost use Rattle.std.specs.Prelude.{◌≡◌, ◌+◌, ◌*◌, ◌^◌, ◌<◌, ◌≤◌, ℕ, All, length, map, take, drop, IfOk};
 ghost use Rattle.bb_net.specs.Completions.{table_bits, HaveSmallTables};
-ghost use Rattle.bb_net.specs.Kinds.{shown};
+ghost use Rattle.bb_net.specs.Kinds.{representatives};
 ghost use Rattle.bb_net.specs.Netlists.{box_at};
 ghost use Rattle.bb_net.specs.Pairs.{pin_count};
 ghost use Rattle.bb_expand.specs.Inside.ReadTables.{tables_in};
@@ -19,7 +19,8 @@ fn read_table(alloc: Global, pins: &BoxPins, bits: &[bool]) -> Result<Table, NoM
     requires small { length pins.now.outs * 2 ^ length pins.now.ins ≤ 2 ^ 24 }
     requires few { length pins.now.ins < 2 ^ 32 }
     requires count { length bits.now ≡ length pins.now.outs * 2 ^ length pins.now.ins }
-    ensures table { IfOk result (λ table. table ≡ record { inputs = length pins.now.ins; outputs = length pins.now.outs; rows = bits.now }) }
+    ensures table { IfOk result (λ table.
+        table ≡ record { inputs = length pins.now.ins; outputs = length pins.now.outs; rows = bits.now }) }
 {
     let outs = pins.outs().len() as u32;
     let mut table = Table::zeros(alloc, pins.ins().len() as u32, outs)?;
@@ -54,7 +55,8 @@ fn tables_of_boxes(
 
 // One box for each sharing class, the first: its pins give the size of the table.
 pub(crate) fn shown_boxes(alloc: Global, pair: &Pair) -> Result<Vec<u32>, NoMemory>
-    ensures shown { IfOk result (λ firsts. map (box_at pair.now.imp.boxes) firsts.items ≡ shown pair.now.kinds pair.now.imp.boxes) }
+    ensures shown { IfOk result (λ firsts.
+        map (box_at pair.now.imp.boxes) firsts.items ≡ representatives pair.now.kinds pair.now.imp.boxes) }
     ensures there { IfOk result (λ firsts. All (λ b. b < length pair.now.imp.boxes) firsts.items) }
 {
     laws_below();
@@ -68,9 +70,10 @@ pub(crate) fn read_tables(
     pair: &Pair,
     model: &[bool],
 ) -> Result<Vec<Table>, NoMemory>
-    requires small { HaveSmallTables (shown pair.now.kinds pair.now.imp.boxes) }
-    requires bits { table_bits (shown pair.now.kinds pair.now.imp.boxes) ≤ length model.now }
-    ensures tables { IfOk result (λ tables. tables.items ≡ tables_in (shown pair.now.kinds pair.now.imp.boxes) model.now) }
+    requires small { HaveSmallTables (representatives pair.now.kinds pair.now.imp.boxes) }
+    requires bits { table_bits (representatives pair.now.kinds pair.now.imp.boxes) ≤ length model.now }
+    ensures tables { IfOk result (λ tables.
+        tables.items ≡ tables_in (representatives pair.now.kinds pair.now.imp.boxes) model.now) }
 {
     let firsts = shown_boxes(alloc, pair)?;
     let tables = tables_of_boxes(alloc, &firsts, pair.imp().boxes(), model)?;

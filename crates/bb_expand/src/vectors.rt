@@ -1,12 +1,13 @@
 //! The clauses of one sample: implementation cells with constant inputs, then unit clauses for the outputs. The
 //! specification is simulated and not encoded, since its inputs are known at a sample.
 
-ghost use Rattle.std.specs.Prelude.{◌≡◌, ◌+◌, ◌*◌, ◌^◌, ◌<◌, ◌≤◌, ◌∷◌, ◌++◌, [], ℕ, All, length, slice_index, map, take, OnOk};
+ghost use Rattle.std.specs.Prelude.{◌≡◌, ◌+◌, ◌*◌, ◌^◌, ◌<◌, ◌≤◌, ◌∷◌, ◌++◌, [], ℕ, All, length, slice_index, map};
+ghost use Rattle.std.specs.Prelude.{take, OnOk};
 ghost use Rattle.std.specs.List.{flat_map, range_with_len};
 ghost use Rattle.bb_bits.specs.Numbers.{bits_of};
 ghost use Rattle.bb_cnf.specs.Clauses.{lists_of};
 ghost use Rattle.bb_net.specs.Completions.{table_bits, HaveSmallTables};
-ghost use Rattle.bb_net.specs.Kinds.{shown};
+ghost use Rattle.bb_net.specs.Kinds.{representatives};
 ghost use Rattle.bb_net.specs.Values.{bit_of};
 ghost use Rattle.bb_expand.specs.ClauseCounts.{clause_total};
 ghost use Rattle.bb_expand.specs.Inside.TableStarts.{AreStarts};
@@ -29,8 +30,11 @@ fn push_outputs(
     requires fits { All (λ place. base + place + 1 < 2 ^ 32) outs.now }
     requires count { length wanted.now ≡ length outs.now }
     requires there { All (λ place. place < length bits.now) wanted.now }
-    ensures { OnOk result (lists_of clauses.new.items ≡ lists_of clauses.old.items
-        ++ map (λ j. having (base + slice_index outs.now j + 1) (bit_of bits.now (slice_index wanted.now j)) ∷ []) (range_with_len 0 (length outs.now))) }
+    ensures { OnOk result (lists_of clauses.new.items
+        ≡ lists_of clauses.old.items
+        ++ map
+        (λ j. having (base + slice_index outs.now j + 1) (bit_of bits.now (slice_index wanted.now j)) ∷ [])
+        (range_with_len 0 (length outs.now))) }
 {
     for (j, place) in outs.iter().enumerate() {
         push(
@@ -51,12 +55,14 @@ pub(crate) fn push_vector(
     bits: &mut [bool],
 ) -> Result<(), NoMemory>
     requires fits { base + length pair.now.imp.cells < 2 ^ 32 }
-    requires small { HaveSmallTables (shown pair.now.kinds pair.now.imp.boxes) }
-    requires starts { AreStarts starts.now (shown pair.now.kinds pair.now.imp.boxes) }
+    requires small { HaveSmallTables (representatives pair.now.kinds pair.now.imp.boxes) }
+    requires starts { AreStarts starts.now (representatives pair.now.kinds pair.now.imp.boxes) }
     requires inputs { length x.now ≡ pair.now.imp.inputs }
     requires room { length bits.old ≡ length pair.now.spec.cells }
-    ensures pushed { (v : ℕ) → base ≡ table_bits (shown pair.now.kinds pair.now.imp.boxes) + v * length pair.now.imp.cells
-        → OnOk result (lists_of clauses.new.items ≡ lists_of clauses.old.items ++ vector_clauses pair.now.spec pair.now.imp pair.now.kinds v x.now) }
+    ensures pushed { (v : ℕ)
+        → base ≡ table_bits (representatives pair.now.kinds pair.now.imp.boxes) + v * length pair.now.imp.cells
+        → OnOk result (lists_of clauses.new.items
+        ≡ lists_of clauses.old.items ++ vector_clauses pair.now.spec pair.now.imp pair.now.kinds v x.now) }
     ensures room { OnOk result (length bits.new ≡ length pair.now.spec.cells) }
 {
     let (spec, imp) = (pair.spec(), pair.imp());

@@ -11,7 +11,7 @@ use Rattle.bb_expr.specs.declared.step.BitStep.{BitStep}
 use Rattle.bb_expr.specs.declared.step.BitStep.TheVariants as steps
 use Rattle.bb_expr.specs.Lists.{extended}
 use Rattle.bb_expr.specs.Terms.{Term, Const, Not}
-use Rattle.bb_expr.specs.Cells.{MadeTerms, without_cells, inverted}
+use Rattle.bb_expr.specs.Cells.{MadeTerms, without_cells, complement_terms}
 use Rattle.bb_expr.specs.Lowered.{step_term, term_at, ReadsEarlier, is_operator}
 use Rattle.bb_expr.specs.Inside.Growing.{Adds, AddsRow}
 use Rattle.bb_expr.proofs.StepLemmas.{reads-later}
@@ -132,8 +132,8 @@ module _ (nets : List NetInfo) where
 
   -- a complement of each bit
   pub adds-inverted : (m : MadeTerms) (old mid new : List BitStep) (bits out : List ℕ) → Adds nets m old mid bits → AddsRow (map steps.Not bits) mid new out
-      → Adds nets (record { bits = inverted m.bits; cells = m.cells ++ inverted m.bits }) old new out
+      → Adds nets (record { bits = complement_terms m.bits; cells = m.cells ++ complement_terms m.bits }) old new out
   adds-inverted m old mid new bits out x row =
-      adds-operators m old mid new (map steps.Not bits) bits out (inverted m.bits) x row (nots-read (length mid) bits (recursion_from_All (λ k. k < length mid) bits x.within)) (nots-are bits)
+      adds-operators m old mid new (map steps.Not bits) bits out (complement_terms m.bits) x row (nots-read (length mid) bits (recursion_from_All (λ k. k < length mid) bits x.within)) (nots-are bits)
       (length-map bits steps.Not ∙ x.long ∙ sym (length-map m.bits Not)) (omega (arith, length-map bits steps.Not))
       (λ same. nots-terms (term_at nets mid) bits ∙ ap (map Not) same)

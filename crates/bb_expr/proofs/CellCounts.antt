@@ -19,7 +19,7 @@ use Rattle.bb_word.specs.Words.{HaveOneWidth, word_circuit, word_cells}
 use Rattle.bb_word.specs.Laws.CountLaws.{word_count as circuit-cells, fold_count as reduction-cells, word_long, fold_long}
 use Rattle.bb_expr.specs.Lists.{copies, bitwise}
 use Rattle.bb_expr.specs.Terms.{Term, Const, And, Or, Xor, terms}
-use Rattle.bb_expr.specs.Cells.{MadeTerms, made, makes, inverted, operated, chained, any_from, any_bit, selected, arm_made, arms_made, part_bits, part_cells, net_terms, word_made, word_count, op_cells, counts, cell_count}
+use Rattle.bb_expr.specs.Cells.{MadeTerms, made, makes, complement_terms, operated, chained, any_from, any_bit, selected, arm_made, arms_made, part_bits, part_cells, net_terms, word_made, word_count, op_cells, counts, cell_count}
 use Rattle.bb_word.specs.Folds.{is_odd}
 use Rattle.bb_expr.specs.Laws.{CellsAreCounted}
 use Rattle.bb_expr.proofs.ValueLemmas.{length-extended, length-bitwise, length-copies, length-bits_of, sum-step, first-fits, second-fits, result-fits, one-width}
@@ -40,7 +40,7 @@ operated-cells ops.And w xs ys a b = length-bitwise And w xs ys a b ∙ omega ar
 operated-cells ops.Or w xs ys a b = length-bitwise Or w xs ys a b ∙ omega arith
 operated-cells ops.Xor w xs ys a b = length-bitwise Xor w xs ys a b ∙ omega arith
 operated-cells ops.Xnor w xs ys a b =
-    length-append (bitwise Xor xs ys) (inverted (bitwise Xor xs ys)) ∙ rw (length-map, length-bitwise Xor w xs ys a b) (omega arith)
+    length-append (bitwise Xor xs ys) (complement_terms (bitwise Xor xs ys)) ∙ rw (length-map, length-bitwise Xor w xs ys a b) (omega arith)
 
 pub any-from-cells : (a : Term) (bits : List Term) → length (any_from a bits).1 ≡ length bits
 any-from-cells a [] = refl
@@ -57,8 +57,8 @@ length-selected zero c (t ∷ ts) (e ∷ es) a b = grind (arith, a, b)
 length-selected (suc w) c (t ∷ ts) (e ∷ es) a b = grind (arith, length-selected w c ts es (grind (arith, a)) (grind (arith, b)))
 
 inverted-cells : (o : Bool) (w n : ℕ) (x : MadeTerms) → length x.bits ≡ w → length x.cells ≡ n
-    → length (if o then record { bits = inverted x.bits; cells = x.cells ++ inverted x.bits } else x).cells ≡ n + (if o then w else 0)
-inverted-cells true w n x a b = length-append x.cells (inverted x.bits) ∙ rw (length-map, a, b) refl
+    → length (if o then record { bits = complement_terms x.bits; cells = x.cells ++ complement_terms x.bits } else x).cells ≡ n + (if o then w else 0)
+inverted-cells true w n x a b = length-append x.cells (complement_terms x.bits) ∙ rw (length-map, a, b) refl
 inverted-cells false w n x a b = b ∙ omega arith
 
 arm-cells : (w n k m v : ℕ) (c t e : MadeTerms) → length c.bits ≡ n → length t.bits ≡ w → length e.bits ≡ w → length c.cells ≡ k → length t.cells ≡ m → length e.cells ≡ v
@@ -69,7 +69,7 @@ arm-cells w n k m v c t e a b d f g h =
 length-net_terms : (n : List ℕ) (place count : ℕ) → length (net_terms n place count) ≡ count
 length-net_terms n place count = rw (length-map, length-range) refl
 
-inverted-long : (o : Bool) (w : ℕ) (x : MadeTerms) → length x.bits ≡ w → length (if o then record { bits = inverted x.bits; cells = x.cells ++ inverted x.bits } else x).bits ≡ w
+inverted-long : (o : Bool) (w : ℕ) (x : MadeTerms) → length x.bits ≡ w → length (if o then record { bits = complement_terms x.bits; cells = x.cells ++ complement_terms x.bits } else x).bits ≡ w
 inverted-long true w x a = length-map x.bits _ ∙ a
 inverted-long false w x a = a
 

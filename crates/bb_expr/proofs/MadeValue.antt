@@ -23,7 +23,7 @@ use Rattle.bb_word.specs.Laws.Numbers.{WordsHaveBits, FoldsGiveBits}
 use Rattle.bb_expr.specs.Lists.{extended, copies, bitwise}
 use Rattle.bb_expr.specs.Values.{Bits, value, values, op_bit, chosen_arm, complemented, word_value}
 use Rattle.bb_expr.specs.Terms.{Term, Const, Net as NetTerm, And, Or, Xor, term_bit, terms}
-use Rattle.bb_expr.specs.Cells.{MadeTerms, made, makes, net_terms, inverted, operated, chained, any_from, any_bit, selected, arms_made, circuit_made, word_made, fold_made}
+use Rattle.bb_expr.specs.Cells.{MadeTerms, made, makes, net_terms, complement_terms, operated, chained, any_from, any_bit, selected, arms_made, circuit_made, word_made, fold_made}
 use Rattle.bb_word.specs.Folds.{is_odd}
 use Rattle.bb_expr.specs.Laws.{MadeHasValue}
 use Rattle.bb_expr.proofs.ValueLemmas.{value-length, arms-length, seen, IsWide, word-wide, first-fits, second-fits, one-width}
@@ -53,7 +53,7 @@ map-bitwise env gate op same [] ys = refl
 map-bitwise env gate op same (x ∷ xs) [] = refl
 map-bitwise env gate op same (x ∷ xs) (y ∷ ys) = ap₂ (λ a r. a ∷ r) (same x y) (map-bitwise env gate op same xs ys)
 
-xnor-inverted : (env : Bits) (xs ys : List Term) → map (term_bit env) (inverted (bitwise Xor xs ys)) ≡ bitwise (op_bit ops.Xnor) (map (term_bit env) xs) (map (term_bit env) ys)
+xnor-inverted : (env : Bits) (xs ys : List Term) → map (term_bit env) (complement_terms (bitwise Xor xs ys)) ≡ bitwise (op_bit ops.Xnor) (map (term_bit env) xs) (map (term_bit env) ys)
 xnor-inverted env [] ys = refl
 xnor-inverted env (x ∷ xs) [] = refl
 xnor-inverted env (x ∷ xs) (y ∷ ys) = ap₂ (λ a r. a ∷ r) (xnor-bit (term_bit env x) (term_bit env y)) (xnor-inverted env xs ys)
@@ -79,7 +79,7 @@ pub complemented-odd : (k : ℕ) (b : Bool) → complemented k b ≡ (if is_odd 
 complemented-odd zero b = refl
 complemented-odd (suc k) b = ap not (complemented-odd k b) ∙ not-if (is_odd k) b
 
-map-complements : (env : Bits) (f : Bool → Bool) → ((b : Bool) → f b ≡ not b) → (bits : List Term) → map (term_bit env) (inverted bits) ≡ map f (map (term_bit env) bits)
+map-complements : (env : Bits) (f : Bool → Bool) → ((b : Bool) → f b ≡ not b) → (bits : List Term) → map (term_bit env) (complement_terms bits) ≡ map f (map (term_bit env) bits)
 map-complements env f same [] = refl
 map-complements env f same (b ∷ bits) = ap₂ (λ c r. c ∷ r) (sym (same (term_bit env b))) (map-complements env f same bits)
 
@@ -88,7 +88,7 @@ map-same f same [] = refl
 map-same f same (b ∷ bits) = ap₂ (λ c r. c ∷ r) (sym (same b)) (map-same f same bits)
 
 inverted-by : (env : Bits) (o : Bool) (f : Bool → Bool) → ((b : Bool) → f b ≡ (if o then not b else b)) → (x : MadeTerms)
-    → map (term_bit env) (if o then record { bits = inverted x.bits; cells = x.cells ++ inverted x.bits } else x).bits ≡ map f (map (term_bit env) x.bits)
+    → map (term_bit env) (if o then record { bits = complement_terms x.bits; cells = x.cells ++ complement_terms x.bits } else x).bits ≡ map f (map (term_bit env) x.bits)
 inverted-by env true f same x = map-complements env f same x.bits
 inverted-by env false f same x = map-same f same (map (term_bit env) x.bits)
 

@@ -8,7 +8,7 @@ use Rattle.bb_expr.specs.declared.step.BitStep.{BitStep}
 use Rattle.bb_expr.specs.declared.step.BitStep.TheVariants as steps
 use Rattle.bb_expr.specs.Lists.{bitwise}
 use Rattle.bb_expr.specs.Terms.{Term, Or, Xor}
-use Rattle.bb_expr.specs.Cells.{MadeTerms, op_cells, inverted, operated, chained, any_from, any_bit}
+use Rattle.bb_expr.specs.Cells.{MadeTerms, op_cells, complement_terms, operated, chained, any_from, any_bit}
 use Rattle.bb_expr.specs.Inside.Growing.{Adds, AddsRow, paired, gate_step, gate_term, gated, complemented, reduced}
 use Rattle.bb_expr.proofs.GateLemmas.{IsGate, adds-gates}
 use Rattle.bb_expr.proofs.ChoiceLemmas.{adds-or}
@@ -27,8 +27,8 @@ module _ (nets : List NetInfo) where
   -- an exclusive or with an inversion, and the others without
   pub inverted-xor : (m n : MadeTerms) (old new : List BitStep) (out : List ℕ) → Adds nets (complemented (gated ops.Xnor m n)) old new out → Adds nets (chained m n (operated ops.Xnor m.bits n.bits)) old new out
   inverted-xor m n old new out h =
-      subst (λ cells. Adds nets (record { bits = inverted (bitwise Xor m.bits n.bits); cells = cells }) old new out)
-      (append_assoc (m.cells ++ n.cells) (bitwise Xor m.bits n.bits) (inverted (bitwise Xor m.bits n.bits))) h
+      subst (λ cells. Adds nets (record { bits = complement_terms (bitwise Xor m.bits n.bits); cells = cells }) old new out)
+      (append_assoc (m.cells ++ n.cells) (bitwise Xor m.bits n.bits) (complement_terms (bitwise Xor m.bits n.bits))) h
 
   -- a chain of or, with the bits that are left
   pub record IsOnTheWay (m : MadeTerms) (old now : List BitStep) (places : List ℕ) : Type 0 where

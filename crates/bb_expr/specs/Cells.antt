@@ -65,15 +65,15 @@ abbrev pub net_terms : List ℕ → ℕ → ℕ → List Term
 net_terms n place count = map (Net n) (range_with_len place count)
 
 -- a cell for each bit
-abbrev pub inverted : List Term → List Term
-inverted bits = map Not bits
+abbrev pub complement_terms : List Term → List Term
+complement_terms bits = map Not bits
 
 -- an operator between the operands left of it, already combined, and its right operand
 abbrev pub operated : Op → List Term → List Term → MadeTerms
 operated ops.And a b = record { bits = bitwise And a b; cells = bitwise And a b }
 operated ops.Or a b = record { bits = bitwise Or a b; cells = bitwise Or a b }
 operated ops.Xor a b = record { bits = bitwise Xor a b; cells = bitwise Xor a b }
-operated ops.Xnor a b = record { bits = inverted (bitwise Xor a b); cells = bitwise Xor a b ++ inverted (bitwise Xor a b) }
+operated ops.Xnor a b = record { bits = complement_terms (bitwise Xor a b); cells = bitwise Xor a b ++ complement_terms (bitwise Xor a b) }
 
 abbrev pub chained : MadeTerms → MadeTerms → MadeTerms → MadeTerms
 chained a b made = record { bits = made.bits; cells = a.cells ++ b.cells ++ made.cells }
@@ -127,7 +127,7 @@ makes ranges = record {
   part = λ n i j w. without_cells (extended (Const false) w (net_terms n (place_of (ranges n) i) (distance i j + 1)));
   sized = λ bits w. without_cells (extended (Const false) w (map Const bits));
   plain = λ n w. without_cells (extended (Const false) w (map Const (bits_of 32 n)));
-  not = λ k e w. let x = e.at w in if is_odd k then record { bits = inverted x.bits; cells = x.cells ++ inverted x.bits } else x;
+  not = λ k e w. let x = e.at w in if is_odd k then record { bits = complement_terms x.bits; cells = x.cells ++ complement_terms x.bits } else x;
   reduce = λ op e w. fold_made op (alone e) w;
   chain = λ e rest w. fold (λ a x. let b = x.1.at w in chained a b (operated x.0 a.bits b.bits)) (e.at w) rest;
   words = λ e rest w. words_at word_made e rest w;

@@ -122,7 +122,8 @@ fn cells_at(scope: &CheckedModule, expr: &Expr, width: u32) -> u64
 fn operand_cells(scope: &CheckedModule, rest: &[(Op, Expr)], width: u32) -> u64
     requires fit { All (λ x. AreFit (module_facts scope.now) x.1) (map operand_view rest.now) }
     requires width { width ≤ 65536 }
-    ensures { result ≡ capped (sum_by (operand_cells (ranges_in (module_facts scope.now)) width) (map operand_view rest.now)) }
+    ensures { result
+        ≡ capped (sum_by (operand_cells (ranges_in (module_facts scope.now)) width) (map operand_view rest.now)) }
 {
     let mut total = 0u64;
     for (op, operand) in rest {
@@ -139,7 +140,8 @@ fn level_cells(scope: &CheckedModule, left: u32, rest: &[(WordOp, Expr)], width:
     requires level { IsOneLevel (word_operands (map operand_view rest.now)) }
     requires bounded { left ≤ 65536 }
     requires width { width ≤ 65536 }
-    ensures { result ≡ capped (words_cells (ranges_in (module_facts scope.now)) left (map operand_view rest.now) width) }
+    ensures { result
+        ≡ capped (words_cells (ranges_in (module_facts scope.now)) left (map operand_view rest.now) width) }
 {
     let mut total = 0u64;
     let mut own = left;
@@ -157,7 +159,8 @@ fn level_cells(scope: &CheckedModule, left: u32, rest: &[(WordOp, Expr)], width:
 /// For each arm the ors of its condition, one less than it has bits, and a choice for each bit of the result.
 #[cycle(cells)]
 fn arm_cells(scope: &CheckedModule, all: &[(Expr, Expr)], width: u32) -> u64
-    requires fit { All (λ x. AreFit (module_facts scope.now) x.0 × AreFit (module_facts scope.now) x.1) (map arm_view all.now) }
+    requires fit { All (λ x. AreFit (module_facts scope.now) x.0 × AreFit (module_facts scope.now) x.1)
+        (map arm_view all.now) }
     requires width { width ≤ 65536 }
     ensures { result ≡ capped (sum_by (arm_cells (ranges_in (module_facts scope.now)) width) (map arm_view all.now)) }
 {

@@ -3,7 +3,8 @@
 //! only where something reads it, so that the bound of three steps for each cell holds also for operators with few
 //! cells.
 
-ghost use Rattle.std.specs.Prelude.{◌≡◌, ◌≤◌, ◌<◌, ◌+◌, ◌-◌, ◌^◌, ◌++◌, [], ℕ, true, ◌||◌, List, All, map, length, IfOk, OnOk};
+ghost use Rattle.std.specs.Prelude.{◌≡◌, ◌≤◌, ◌<◌, ◌+◌, ◌-◌, ◌^◌, ◌++◌, [], ℕ, true, ◌||◌, List, All, map, length};
+ghost use Rattle.std.specs.Prelude.{IfOk, OnOk};
 ghost use Rattle.bb_names.specs.declared.net.NetInfo.{NetInfo};
 ghost use Rattle.bb_net.specs.Netlists.{cell_at, ReadsBefore};
 ghost use Rattle.bb_word.specs.Folds.{fold_cells};
@@ -12,7 +13,8 @@ ghost use Rattle.bb_word.specs.Words.{word_cells, AreWidths};
 ghost use Rattle.bb_expr.specs.declared.step.BitStep.{BitStep};
 ghost use Rattle.bb_expr.specs.Cells.{MadeTerms};
 ghost use Rattle.bb_expr.specs.Inside.Growing.{Adds, word_joined, fold_joined};
-ghost use Rattle.bb_expr.specs.Inside.Instantiation.{is_read, read_by, is_out, after_inputs, constant_steps, moved, instantiated, IsInstantiated};
+ghost use Rattle.bb_expr.specs.Inside.Instantiation.{is_read, read_by, is_out, after_inputs, constant_steps, moved};
+ghost use Rattle.bb_expr.specs.Inside.Instantiation.{instantiated, IsInstantiated};
 
 use crate::rows::push;
 use crate::step::BitStep;
@@ -101,7 +103,8 @@ fn place_of(at: Instantiation, inputs: &[u32], place: u32) -> u32
 
 fn step_of(at: Instantiation, inputs: &[u32], cell: Cell) -> BitStep
     requires few { length inputs.now ≤ 131072 }
-    requires reads { (place : ℕ) × (at.first + (place - (2 + length inputs.now)) ≤ 2 ^ 32) × ReadsBefore (length inputs.now) [] place cell }
+    requires reads { (place : ℕ) × (at.first + (place - (2 + length inputs.now)) ≤ 2 ^ 32)
+        × ReadsBefore (length inputs.now) [] place cell }
     ensures { result ≡ instantiated (moved at inputs.now) cell }
 {
     match cell {
@@ -129,7 +132,8 @@ fn instantiate_cells(
     requires few { length inputs.now ≤ 131072 }
     requires first { at.first + length cells.now ≤ 2 ^ 32 }
     requires room { length steps.old.items + length cells.now ≤ 2 ^ 32 }
-    requires earlier { (k : ℕ) → k < length cells.now → ReadsBefore (length inputs.now) [] (2 + length inputs.now + k) (cell_at cells.now k) }
+    requires earlier { (k : ℕ) → k < length cells.now
+        → ReadsBefore (length inputs.now) [] (2 + length inputs.now + k) (cell_at cells.now k) }
     ensures { OnOk result (steps.new.items ≡ steps.old.items ++ map (instantiated (moved at inputs.now)) cells.now) }
 {
     for cell in cells {
@@ -145,7 +149,8 @@ fn moved_outs(
     outs: &[u32],
 ) -> Result<Vec<u32>, NoMemory>
     requires few { length inputs.now ≤ 131072 }
-    requires there { (count : ℕ) × (at.first + count ≤ 2 ^ 32) × All (λ place. place < 2 + length inputs.now + count) outs.now }
+    requires there { (count : ℕ) × (at.first + count ≤ 2 ^ 32)
+        × All (λ place. place < 2 + length inputs.now + count) outs.now }
     ensures { IfOk result (λ places. places.items ≡ map (moved at inputs.now) outs.now) }
 {
     let mut places = Vec::with_capacity(alloc, outs.len())?;
@@ -205,10 +210,12 @@ pub(crate) fn word(
     requires few_right { length right.now ≤ 65536 }
     requires few_cells { word_cells op (length left.now) (length right.now) ≤ 2000000 }
     requires room { length steps.old.items + 2 + word_cells op (length left.now) (length right.now) ≤ 2 ^ 32 }
-    ensures made { (nets : List NetInfo) (m n : MadeTerms) (old mid : List BitStep) → Adds nets m old mid left.now → Adds nets n mid steps.old.items right.now
+    ensures made { (nets : List NetInfo) (m n : MadeTerms) (old mid : List BitStep) → Adds nets m old mid left.now
+        → Adds nets n mid steps.old.items right.now
         → IfOk result (λ places. Adds nets (word_joined op m n) old steps.new.items places.items) }
     ensures count { IfOk result (λ places. length places.items ≡ word_width op (length left.now)) }
-    ensures grown { OnOk result (length steps.new.items ≤ length steps.old.items + 2 + word_cells op (length left.now) (length right.now)) }
+    ensures grown { OnOk result (length steps.new.items
+        ≤ length steps.old.items + 2 + word_cells op (length left.now) (length right.now)) }
 {
     let net = bb_word::word(alloc, op, left.len() as u32, right.len() as u32)?;
     let mut inputs = Vec::with_capacity(alloc, left.len() + right.len())?;
@@ -229,7 +236,8 @@ pub(crate) fn fold(
     ensures made { (nets : List NetInfo) (m : MadeTerms) (old : List BitStep) → Adds nets m old steps.old.items bits.now
         → IfOk result (λ places. Adds nets (fold_joined op m) old steps.new.items places.items) }
     ensures count { IfOk result (λ places. length places.items ≡ 1) }
-    ensures grown { OnOk result (length steps.new.items ≤ length steps.old.items + 2 + fold_cells op (length bits.now)) }
+    ensures grown { OnOk result (length steps.new.items
+        ≤ length steps.old.items + 2 + fold_cells op (length bits.now)) }
 {
     let net = bb_word::fold(alloc, op, bits.len() as u32)?;
     instantiate(alloc, steps, &net, bits)

@@ -2,7 +2,8 @@
 //! function.
 
 ghost use Rattle.bb_expr.specs.Laws.{ValuesHaveWidth, MadeHasValue, CellsAreCounted, WiderAddsZeros};
-ghost use Rattle.bb_expr.specs.Laws.FitLaws.{OccurrencesAreFit, OccurrencesAreFitIn, LoweringsExist, NamesAreNets, PartsOccur, NetNamesDiffer, AssignableIsNets};
+ghost use Rattle.bb_expr.specs.Laws.FitLaws.{OccurrencesAreFit, OccurrencesAreFitIn, LoweringsExist, NamesAreNets};
+ghost use Rattle.bb_expr.specs.Laws.FitLaws.{PartsOccur, NetNamesDiffer, AssignableIsNets};
 
 use bb_word::{folds_give_bits, words_spell_numbers};
 

@@ -44,7 +44,8 @@ pub(crate) fn net(
     requires own { range_width (ranges_in (module_facts scope.now) name.now) ≤ width }
     requires width { width ≤ 65536 }
     requires room { length steps.old.items + width ≤ 2 ^ 32 }
-    ensures { IfOk result (λ bits. Adds scope.now.nets.items (made (ranges_in (module_facts scope.now)) (Net name.now) width) steps.old.items steps.new.items bits.items) }
+    ensures { IfOk result (λ bits. Adds scope.now.nets.items
+        (made (ranges_in (module_facts scope.now)) (Net name.now) width) steps.old.items steps.new.items bits.items) }
 {
     let count = range_width(range_of(scope, name));
     let bits = net_bits(alloc, steps, place_of(scope, name), 0, count)?;
@@ -65,7 +66,9 @@ pub(crate) fn part(
     requires own { distance left right + 1 ≤ width }
     requires width { width ≤ 65536 }
     requires room { length steps.old.items + width ≤ 2 ^ 32 }
-    ensures { IfOk result (λ bits. Adds scope.now.nets.items (made (ranges_in (module_facts scope.now)) (Part name.now left right) width) steps.old.items steps.new.items bits.items) }
+    ensures { IfOk result (λ bits. Adds scope.now.nets.items
+        (made (ranges_in (module_facts scope.now)) (Part name.now left right) width) steps.old.items steps.new.items
+        bits.items) }
 {
     let from = first_place(range_of(scope, name), left);
     let count = left.abs_diff(right) + 1;
@@ -81,8 +84,9 @@ pub(crate) fn number(
 ) -> Result<Vec<u32>, NoMemory>
     requires own { length bits.now ≤ width }
     requires room { length steps.old.items + width ≤ 2 ^ 32 }
-    ensures { (nets : List NetInfo) → IfOk result (λ places.
-        Adds nets (without_cells (extended (Const false) width (map Const bits.now))) steps.old.items steps.new.items places.items) }
+    ensures { (nets : List NetInfo)
+        → IfOk result (λ places. Adds nets (without_cells (extended (Const false) width (map Const bits.now)))
+        steps.old.items steps.new.items places.items) }
 {
     let places = constants(alloc, steps, bits)?;
     extended(alloc, steps, &places, width)
@@ -96,8 +100,10 @@ pub(crate) fn plain_number(
 ) -> Result<Vec<u32>, NoMemory>
     requires own { 32 ≤ width }
     requires room { length steps.old.items + width ≤ 2 ^ 32 }
-    ensures { (nets : List NetInfo) → IfOk result (λ places.
-        Adds nets (without_cells (extended (Const false) width (map Const (bits_of 32 value)))) steps.old.items steps.new.items places.items) }
+    ensures { (nets : List NetInfo)
+        → IfOk result (λ places. Adds nets
+        (without_cells (extended (Const false) width (map Const (bits_of 32 value)))) steps.old.items
+        steps.new.items places.items) }
 {
     let bits = number_bits(alloc, value)?;
     number(alloc, steps, &bits, width)

@@ -3,7 +3,8 @@
 //! an operator reads. That something reads each cell is not said: the last carry of a sum is a cell that nothing reads,
 //! and it counts.
 
-ghost use Rattle.std.specs.Prelude.{◌≡◌, ◌≤◌, ◌+◌, ◌-◌, ◌*◌, ◌^◌, Bool, true, false, List, length, map, sum, sum_by, All, IfOk};
+ghost use Rattle.std.specs.Prelude.{◌≡◌, ◌≤◌, ◌+◌, ◌-◌, ◌*◌, ◌^◌, Bool, true, false, List, length, map, sum, sum_by};
+ghost use Rattle.std.specs.Prelude.{All, IfOk};
 ghost use Rattle.bb_ast.specs.Syntax.{Net, Part};
 ghost use Rattle.bb_ast.specs.Inside.Views.{expression, operand_view, arm_view};
 ghost use Rattle.bb_names.specs.declared.net.NetInfo.{NetInfo};
@@ -49,10 +50,10 @@ pub fn lower(
     requires width { width ≤ 65536 }
     requires cells { cell_count (ranges_at checked.now «module») (expression expr.now) width ≤ 2000000 }
 
-    ensures lowered { IfOk result (λ l.
-        IsLowered (nets_at checked.now «module») (ranges_at checked.now «module») (expression expr.now) width l.steps.items l.bits.items) }
-    ensures value { IfOk result (λ l.
-        HasValue (nets_at checked.now «module») (ranges_at checked.now «module») (expression expr.now) width l.steps.items l.bits.items) }
+    ensures lowered { IfOk result (λ l. IsLowered (nets_at checked.now «module») (ranges_at checked.now «module»)
+        (expression expr.now) width l.steps.items l.bits.items) }
+    ensures value { IfOk result (λ l. HasValue (nets_at checked.now «module») (ranges_at checked.now «module»)
+        (expression expr.now) width l.steps.items l.bits.items) }
 
     // A caller's list of cells has room for so many steps only. Each use of a net or a number adds steps, and the cells
     // of an operator on words at most two constants.
@@ -81,9 +82,13 @@ fn lower_at(
     requires fit { AreFit (module_facts scope.now) (expression expr.now) }
     requires own { own_width (ranges_in (module_facts scope.now)) (expression expr.now) ≤ width }
     requires width { width ≤ 65536 }
-    requires room { length steps.old.items + most_steps width (cell_count (ranges_in (module_facts scope.now)) (expression expr.now) width) ≤ 2 ^ 31 }
+    requires room { length steps.old.items
+        + most_steps width (cell_count (ranges_in (module_facts scope.now)) (expression expr.now) width)
+        ≤ 2 ^ 31 }
     requires few { cell_count (ranges_in (module_facts scope.now)) (expression expr.now) width ≤ 2000000 }
-    ensures { IfOk result (λ bits. Adds scope.now.nets.items (made (ranges_in (module_facts scope.now)) (expression expr.now) width) steps.old.items steps.new.items bits.items) }
+    ensures { IfOk result (λ bits. Adds scope.now.nets.items
+        (made (ranges_in (module_facts scope.now)) (expression expr.now) width) steps.old.items steps.new.items
+        bits.items) }
 {
     match expr {
         Expr::Net(name) => net(alloc, scope, steps, name, width),
@@ -145,10 +150,15 @@ fn chain(
     requires owns { All (λ x. own_width (ranges_in (module_facts scope.now)) x.1 ≤ width) (map operand_view rest.now) }
     requires width { width ≤ 65536 }
     requires first { length first.items ≡ width }
-    requires room { length steps.old.items + 4 * sum_by (operand_cells (ranges_in (module_facts scope.now)) width) (map operand_view rest.now) ≤ 2 ^ 31 }
-    requires few { sum_by (operand_cells (ranges_in (module_facts scope.now)) width) (map operand_view rest.now) ≤ 2000000 }
+    requires room { length steps.old.items
+        + 4 * sum_by (operand_cells (ranges_in (module_facts scope.now)) width) (map operand_view rest.now)
+        ≤ 2 ^ 31 }
+    requires few { sum_by (operand_cells (ranges_in (module_facts scope.now)) width) (map operand_view rest.now)
+        ≤ 2000000 }
     ensures { (m : MadeTerms) (old : List BitStep) → Adds scope.now.nets.items m old steps.old.items first.items
-        → IfOk result (λ bits. Adds scope.now.nets.items (chained_on (ranges_in (module_facts scope.now)) width m (map operand_view rest.now)) old steps.new.items bits.items) }
+        → IfOk result (λ bits. Adds scope.now.nets.items
+        (chained_on (ranges_in (module_facts scope.now)) width m (map operand_view rest.now)) old
+        steps.new.items bits.items) }
 {
     let mut bits = first;
     for (op, operand) in rest {
@@ -170,9 +180,12 @@ fn words(
     rest: &[(WordOp, Expr)],
     width: u32,
 ) -> Result<Vec<u32>, NoMemory>
-    requires { AreReady (module_facts scope.now) (map operand_view rest.now) width left (length steps.old.items) (length first.items) }
+    requires { AreReady (module_facts scope.now) (map operand_view rest.now) width left (length steps.old.items)
+        (length first.items) }
     ensures { (m : MadeTerms) (old : List BitStep) → Adds scope.now.nets.items m old steps.old.items first.items
-        → IfOk result (λ bits. Adds scope.now.nets.items (words_on (ranges_in (module_facts scope.now)) m left (map operand_view rest.now) width) old steps.new.items bits.items) }
+        → IfOk result (λ bits. Adds scope.now.nets.items
+        (words_on (ranges_in (module_facts scope.now)) m left (map operand_view rest.now) width) old
+        steps.new.items bits.items) }
 {
     let mut bits = first;
     let mut own = left;
@@ -199,15 +212,20 @@ fn conditional(
     all: &[(Expr, Expr)],
     width: u32,
 ) -> Result<Vec<u32>, NoMemory>
-    requires fit { All (λ x. AreFit (module_facts scope.now) x.0 × AreFit (module_facts scope.now) x.1) (map arm_view all.now) }
+    requires fit { All (λ x. AreFit (module_facts scope.now) x.0 × AreFit (module_facts scope.now) x.1)
+        (map arm_view all.now) }
     requires owns { All (λ x. own_width (ranges_in (module_facts scope.now)) x.1 ≤ width) (map arm_view all.now) }
     requires width { width ≤ 65536 }
     requires some { 1 ≤ width }
     requires last { length last.items ≡ width }
-    requires room { length steps.old.items + 4 * sum_by (arm_cells (ranges_in (module_facts scope.now)) width) (map arm_view all.now) ≤ 2 ^ 31 }
+    requires room { length steps.old.items
+        + 4 * sum_by (arm_cells (ranges_in (module_facts scope.now)) width) (map arm_view all.now)
+        ≤ 2 ^ 31 }
     requires few { sum_by (arm_cells (ranges_in (module_facts scope.now)) width) (map arm_view all.now) ≤ 2000000 }
     ensures { (m : MadeTerms) (old : List BitStep) → Adds scope.now.nets.items m old steps.old.items last.items
-        → IfOk result (λ bits. Adds scope.now.nets.items (arms_on (ranges_in (module_facts scope.now)) width m (map arm_view all.now)) old steps.new.items bits.items) }
+        → IfOk result (λ bits. Adds scope.now.nets.items
+        (arms_on (ranges_in (module_facts scope.now)) width m (map arm_view all.now)) old steps.new.items
+        bits.items) }
 {
     let mut bits = last;
     for turn in 0..all.len() {
@@ -230,10 +248,14 @@ fn side_by_side(
 ) -> Result<Vec<u32>, NoMemory>
     requires fit { All (AreFit (module_facts scope.now)) (map expression all.now) }
     requires width { sum (map (own_width (ranges_in (module_facts scope.now))) (map expression all.now)) ≤ 65536 }
-    requires room { length steps.old.items + most_steps (sum_by (own_width (ranges_in (module_facts scope.now))) (map expression all.now))
-        (sum_by (own_cells (ranges_in (module_facts scope.now))) (map expression all.now)) ≤ 2 ^ 31 }
+    requires room { length steps.old.items
+        + most_steps (sum_by (own_width (ranges_in (module_facts scope.now))) (map expression all.now))
+        (sum_by (own_cells (ranges_in (module_facts scope.now))) (map expression all.now))
+        ≤ 2 ^ 31 }
     requires few { sum_by (own_cells (ranges_in (module_facts scope.now))) (map expression all.now) ≤ 2000000 }
-    ensures { IfOk result (λ bits. Adds scope.now.nets.items (beside (ranges_in (module_facts scope.now)) (map expression all.now)) steps.old.items steps.new.items bits.items) }
+    ensures { IfOk result (λ bits. Adds scope.now.nets.items
+        (beside (ranges_in (module_facts scope.now)) (map expression all.now)) steps.old.items steps.new.items
+        bits.items) }
 {
     let mut bits = Vec::with_capacity(alloc, total_width(scope, all) as usize)?;
     for part in all {

@@ -92,10 +92,14 @@ pub(crate) fn widths_at(
     requires operand { AreFit (module_facts scope.now) (expression operand.now) }
     requires fit { All (λ x. AreFit (module_facts scope.now) x.1) (map operand_view rest.now) }
     requires level { IsOneLevel (word_operands (map operand_view rest.now)) }
-    ensures own { result.own ≡ operator_width op left (own_width (ranges_in (module_facts scope.now)) (expression operand.now)) }
-    ensures context { result.context ≡ taken (ranges_in (module_facts scope.now)) result.own (map operand_view (drop next rest.now)) width }
-    ensures first { result.first ≡ first_at op left (own_width (ranges_in (module_facts scope.now)) (expression operand.now)) result.context }
-    ensures second { result.second ≡ second_at op left (own_width (ranges_in (module_facts scope.now)) (expression operand.now)) result.context }
+    ensures own { result.own
+        ≡ operator_width op left (own_width (ranges_in (module_facts scope.now)) (expression operand.now)) }
+    ensures context { result.context
+        ≡ taken (ranges_in (module_facts scope.now)) result.own (map operand_view (drop next rest.now)) width }
+    ensures first { result.first
+        ≡ first_at op left (own_width (ranges_in (module_facts scope.now)) (expression operand.now)) result.context }
+    ensures second { result.second
+        ≡ second_at op left (own_width (ranges_in (module_facts scope.now)) (expression operand.now)) result.context }
 {
     let right = width_of(scope, operand);
     let own = operator_width(op, left, right);

@@ -52,7 +52,8 @@ fn gates(
 ) -> Result<Vec<u32>, NoMemory>
     requires same { length left.now ≡ length right.now }
     requires room { length steps.old.items + length left.now ≤ 2 ^ 32 }
-    ensures made { (nets : List NetInfo) (m n : MadeTerms) (old mid : List BitStep) → Adds nets m old mid left.now → Adds nets n mid steps.old.items right.now
+    ensures made { (nets : List NetInfo) (m n : MadeTerms) (old mid : List BitStep) → Adds nets m old mid left.now
+        → Adds nets n mid steps.old.items right.now
         → IfOk result (λ places. Adds nets (gated op m n) old steps.new.items places.items) }
     ensures grown { OnOk result (length steps.new.items ≡ length steps.old.items + length left.now) }
     ensures count { IfOk result (λ places. length places.items ≡ length left.now) }
@@ -82,8 +83,10 @@ pub(crate) fn operate(
 ) -> Result<Vec<u32>, NoMemory>
     requires same { length left.now ≡ length right.now }
     requires room { length steps.old.items + op_cells op * length left.now ≤ 2 ^ 32 }
-    ensures made { (nets : List NetInfo) (m n : MadeTerms) (old mid : List BitStep) → Adds nets m old mid left.now → Adds nets n mid steps.old.items right.now
-        → IfOk result (λ places. Adds nets (chained m n (operated op m.bits n.bits)) old steps.new.items places.items) }
+    ensures made { (nets : List NetInfo) (m n : MadeTerms) (old mid : List BitStep) → Adds nets m old mid left.now
+        → Adds nets n mid steps.old.items right.now
+        → IfOk result (λ places.
+        Adds nets (chained m n (operated op m.bits n.bits)) old steps.new.items places.items) }
     ensures grown { OnOk result (length steps.new.items ≡ length steps.old.items + op_cells op * length left.now) }
     ensures count { IfOk result (λ places. length places.items ≡ length left.now) }
 {
@@ -121,7 +124,8 @@ pub(crate) fn select(
     requires some { 1 ≤ length chosen.now }
     requires room { length steps.old.items + length chosen.now ≤ 2 ^ 32 }
     ensures made { (nets : List NetInfo) (e c t : MadeTerms) (old first second : List BitStep)
-        → Adds nets e old first others.now → Adds nets (reduced c) first second (condition ∷ []) → Adds nets t second steps.old.items chosen.now
+        → Adds nets e old first others.now → Adds nets (reduced c) first second (condition ∷ [])
+        → Adds nets t second steps.old.items chosen.now
         → IfOk result (λ places. Adds nets (arm_made c t e) old steps.new.items places.items) }
     ensures grown { OnOk result (length steps.new.items ≡ length steps.old.items + length chosen.now) }
     ensures count { IfOk result (λ places. length places.items ≡ length chosen.now) }

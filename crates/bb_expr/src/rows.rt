@@ -1,7 +1,8 @@
 //! Rows of steps: constants, bits of nets, and zeros on the left. Places of bits go from the most significant on, as in
 //! all lists of bits here.
 
-ghost use Rattle.std.specs.Prelude.{◌≡◌, ◌<◌, ◌≤◌, ◌+◌, ◌-◌, ◌^◌, ◌++◌, ◌∷◌, [], List, length, map, IfOk, OnOk, nat_le, if◌then◌else◌};
+ghost use Rattle.std.specs.Prelude.{◌≡◌, ◌<◌, ◌≤◌, ◌+◌, ◌-◌, ◌^◌, ◌++◌, ◌∷◌, [], List, length, map, IfOk, OnOk, nat_le};
+ghost use Rattle.std.specs.Prelude.{if◌then◌else◌};
 ghost use Rattle.std.specs.List.{range_with_len};
 ghost use Rattle.bb_bits.specs.Numbers.{bits_of};
 ghost use Rattle.bb_names.specs.declared.net.NetInfo.{NetInfo};
@@ -65,7 +66,8 @@ pub(crate) fn net_bits(
 ) -> Result<Vec<u32>, NoMemory>
     requires room { length steps.old.items + count ≤ 2 ^ 32 }
     requires fits { from + count ≤ 2 ^ 32 }
-    ensures { IfOk result (λ places. AddsRow (map (of.Net net) (range_with_len from count)) steps.old.items steps.new.items places.items) }
+    ensures { IfOk result (λ places.
+        AddsRow (map (of.Net net) (range_with_len from count)) steps.old.items steps.new.items places.items) }
 {
     let mut places = Vec::with_capacity(alloc, count as usize)?;
     for turn in 0..count {

@@ -60,7 +60,8 @@ pub(crate) fn width_of(scope: &CheckedModule, expr: &Expr) -> u32
 #[cycle(width)]
 fn widest_operand(scope: &CheckedModule, rest: &[(Op, Expr)]) -> u32
     requires fit { All (λ x. AreFit (module_facts scope.now) x.1) (map operand_view rest.now) }
-    ensures { result ≡ greatest (map (λ x. own_width (ranges_in (module_facts scope.now)) x.1) (map operand_view rest.now)) }
+    ensures { result
+        ≡ greatest (map (λ x. own_width (ranges_in (module_facts scope.now)) x.1) (map operand_view rest.now)) }
 {
     let mut widest = 0;
     for (_, operand) in rest {

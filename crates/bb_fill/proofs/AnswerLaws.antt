@@ -12,7 +12,7 @@ use Rattle.bb_lemmas.proofs.Ranges.{from_range, range_there}
 use Rattle.bb_net.specs.declared.cell.Cell.{Cell}
 use Rattle.bb_net.specs.declared.cell.Cell.TheVariants.{Const, Input, Not, And, Or, Xor, Mux, BoxOut}
 use Rattle.bb_net.specs.Flats.{FlatNet}
-use Rattle.bb_net.specs.CutPoints.{register_texts}
+use Rattle.bb_net.specs.CutPoints.{state_texts}
 use Rattle.bb_fill.specs.Clashes.{AreInputsApart, AreNamesApart, InputClashes, IsClash, IsInputClash, IsItsRegister, IsOutputClash, OutputClashes, output_cell, output_numbers, register_text, state_cell}
 use Rattle.bb_fill.specs.Sizes.{IsSmallText, IsTooLargeText, filled_cell_count, most_bytes, most_filled_cells, most_nets, net_count}
 use Rattle.bb_fill.specs.Filled.{filled_text, output_text}
@@ -23,7 +23,7 @@ use Rattle.bb_fill.proofs.ClashLemmas.{input_or_not, output_or_not}
 module _ (f : FlatNet) where
   apart_no_input : (name : List ℕ) → IsFirst (IsInputClash f) f.ins name → AreInputsApart f → ⊥
   apart_no_input name first apart =
-      input_or_not f name first.holds (All-contains (λ text. (Contains (register_texts f) text → ⊥) × (Contains f.outs text → ⊥)) f.ins name apart (first_there (IsInputClash f) f.ins name first))
+      input_or_not f name first.holds (All-contains (λ text. (Contains (state_texts f) text → ⊥) × (Contains f.outs text → ⊥)) f.ins name apart (first_there (IsInputClash f) f.ins name first))
 
   apart_no_clash : (name : List ℕ) → IsClash f name → AreNamesApart f → ⊥
   apart_no_clash name (InputClashes first) apart = apart_no_input name first apart.inputs
@@ -56,7 +56,7 @@ module _ (f : FlatNet) where
   decide_name = decide_list decide_number
 
   decide_input : (text : List ℕ) → Decision (IsInputClash f text)
-  decide_input text = decide_either (decide_contains decide_name (register_texts f) text) (decide_contains decide_name f.outs text)
+  decide_input text = decide_either (decide_contains decide_name (state_texts f) text) (decide_contains decide_name f.outs text)
 
   decide_state : (cell : Cell) (n : ℕ) → Decision (cell ≡ Input n)
   decide_state (Input i) n = from (decide_number i n)
@@ -106,11 +106,11 @@ module _ (f : FlatNet) where
   names : ((name : List ℕ) × IsClash f name) ⊎ AreNamesApart f
   names = from (first_or_none (IsInputClash f) decide_input f.ins) (first_or_none (IsOutputClash f) decide_output (output_numbers f))
     where
-      neither : (text : List ℕ) → (IsInputClash f text → ⊥) → (Contains (register_texts f) text → ⊥) × (Contains f.outs text → ⊥)
+      neither : (text : List ℕ) → (IsInputClash f text → ⊥) → (Contains (state_texts f) text → ⊥) × (Contains f.outs text → ⊥)
       neither text n = (λ h. n (inl h), λ h. n (inr h))
 
       inputs_apart : ((text : List ℕ) → Contains f.ins text → IsInputClash f text → ⊥) → AreInputsApart f
-      inputs_apart none = all_from (λ text. (Contains (register_texts f) text → ⊥) × (Contains f.outs text → ⊥)) f.ins (λ text has. neither text (none text has))
+      inputs_apart none = all_from (λ text. (Contains (state_texts f) text → ⊥) × (Contains f.outs text → ⊥)) f.ins (λ text has. neither text (none text has))
 
       from : ((text : List ℕ) → Contains f.ins text → IsInputClash f text → ⊥) ⊎ ((text : List ℕ) × IsFirst (IsInputClash f) f.ins text)
           → ((o : ℕ) → Contains (output_numbers f) o → IsOutputClash f o → ⊥) ⊎ ((o : ℕ) × IsFirst (IsOutputClash f) (output_numbers f) o) → ((name : List ℕ) × IsClash f name) ⊎ AreNamesApart f

@@ -5,18 +5,18 @@ use Rattle.std.specs.List.{flat_map, range_with_len, slice_index_or}
 use Rattle.std.proofs.lemmas.Grind.{flat_map-append}
 use Rattle.std.proofs.lemmas.List.{length-map}
 use Rattle.std.proofs.lemmas.List.Elements.{All-cons, All-map, All-nil, All-weaker, Contains-append_left, Contains-append_right, Contains-get_or, Contains-push}
-use Rattle.bb_bits.specs.Tables.{TableBits}
+use Rattle.bb_bits.specs.Tables.{TableBits, column}
 use Rattle.bb_lemmas.proofs.Members.{contains-map, into_flat}
 use Rattle.bb_lemmas.proofs.Orders.{less_or_not}
 use Rattle.bb_lemmas.proofs.Ranges.{range_there, range_last_from_zero}
 use Rattle.bb_net.specs.declared.cell.Cell.{Cell}
 use Rattle.bb_net.specs.declared.cell.Cell.TheVariants as cells
-use Rattle.bb_net.specs.CutPoints.{register_texts}
+use Rattle.bb_net.specs.CutPoints.{state_texts}
 use Rattle.bb_net.specs.Flats.{FlatNet}
 use Rattle.bb_net.specs.Netlists.{ReadsBefore, box_at, cell_at}
 use Rattle.bb_net.specs.Values.{table_at}
 use Rattle.bb_fill.specs.Words.{NetWord, Bit, Named, CellNet, cell_word, word_at}
-use Rattle.bb_fill.specs.Trees.{choice_nets, column}
+use Rattle.bb_fill.specs.Trees.{choice_nets}
 use Rattle.bb_fill.specs.Filled.{cell_lines, choice_count, first_choice, lines_of_cells, output_pin_words, pin_words}
 use Rattle.bb_fill.specs.Laws.{IsReady, driven}
 use Rattle.bb_fill.proofs.Driven.{cell-driven, nets_of}
@@ -29,7 +29,7 @@ use Rattle.bb_fill.proofs.TreeOccurs.{tree_occurs}
 
 -- the words of inputs and registers
 abbrev pub port_words : FlatNet → List NetWord
-port_words f = map Named (f.ins ++ register_texts f)
+port_words f = map Named (f.ins ++ state_texts f)
 
 -- these, and the nets of the cells before a number
 abbrev pub nets_before : FlatNet → ℕ → List NetWord
@@ -51,8 +51,8 @@ module _ (f : FlatNet) (tables : List TableBits) (ready : IsReady f tables) wher
       each : (c : Cell) → ReadsBefore f.net.inputs f.net.boxes a c → ((z : NetWord) → Contains (nets_of f a c) z → IsKnown (nets_before f k) z) → IsKnown (nets_before f k) (cell_word f a c)
       each (cells.Const b) reads own = inl (b, refl)
       each (cells.Input i) reads own =
-          let named = f.ins ++ register_texts f in
-          let there = Contains-get_or named i [] (omega (arith, reads, ready.flat.named.inputs, length-append f.ins (register_texts f), length-map f.regs (λ q. q.text))) in
+          let named = f.ins ++ state_texts f in
+          let there = Contains-get_or named i [] (omega (arith, reads, ready.flat.named.inputs, length-append f.ins (state_texts f), length-map f.regs (λ q. q.text))) in
           let name = slice_index_or named i [] in
           inr (Contains-append_left (port_words f) (flat_map nets_at (range_with_len 0 k)) (Named name) (contains-map Named named name there))
       each (cells.Not b) reads own = own (CellNet a) (Contains-push (choice_nets (first_choice f a) 0) (CellNet a))

@@ -4,7 +4,7 @@ use Rattle.std.specs.Prelude.{MatchBool}
 use Rattle.std.proofs.lemmas.List.{length-map}
 use Rattle.bb_lemmas.proofs.Orders.{less_or_same}
 use Rattle.bb_net.specs.Flats.{FlatNet, HasDistinctNames}
-use Rattle.bb_net.specs.CutPoints.{register_texts}
+use Rattle.bb_net.specs.CutPoints.{state_texts}
 use Rattle.bb_fill.specs.Clashes.{IsInputClash, IsOutputClash, IsItsRegister, output_cell, register_text, state_cell}
 use Rattle.bb_fill.specs.Filled.{output_text}
 
@@ -24,7 +24,7 @@ output_clash f o r false apart lt is other = (r, lt, is, other)
 
 -- both cannot be
 
-pub input_or_not : (f : FlatNet) (text : List ℕ) → IsInputClash f text → (Contains (register_texts f) text → ⊥) × (Contains f.outs text → ⊥) → ⊥
+pub input_or_not : (f : FlatNet) (text : List ℕ) → IsInputClash f text → (Contains (state_texts f) text → ⊥) × (Contains f.outs text → ⊥) → ⊥
 input_or_not f text (inl h) n = n.0 h
 input_or_not f text (inr h) n = n.1 h
 

@@ -4,7 +4,7 @@ use Rattle.std.specs.Prelude.{All, Contains}
 use Rattle.std.proofs.lemmas.List.{map-append}
 use Rattle.std.proofs.lemmas.List.Elements.{All-append, All-cons, All-map, All-nil, All-same, Contains-append_left, Contains-append_right}
 use Rattle.bb_lemmas.proofs.Members.{all_from}
-use Rattle.bb_net.specs.CutPoints.{register_texts}
+use Rattle.bb_net.specs.CutPoints.{state_texts}
 use Rattle.bb_net.specs.Flats.{FlatNet}
 use Rattle.bb_fill.specs.Words.{NetWord, Named, texts_of}
 use Rattle.bb_fill.specs.Lines.{Line, Module, Input, Output, Reg}
@@ -25,17 +25,17 @@ module _ (P : NetWord → Type 0) (nets : List NetWord) where
   pub declarations_say : (f : FlatNet) → ((text : List ℕ) → Contains (texts_of f) text → P (Named text)) → All (Claims P nets) (declarations f)
   declarations_say f holds =
       let ports = All-append P (map Named f.ins) (map Named f.outs) (All-map P Named f.ins (all_from (λ n. P (Named n)) f.ins input)) (All-map P Named f.outs (all_from (λ n. P (Named n)) f.outs output)) in
-      All-cons (Claims P nets) (Module (f.ins ++ f.outs)) (map Input f.ins ++ map Output f.outs ++ map Reg (register_texts f))
+      All-cons (Claims P nets) (Module (f.ins ++ f.outs)) (map Input f.ins ++ map Output f.outs ++ map Reg (state_texts f))
       (All-same P (map Named (f.ins ++ f.outs)) (map Named f.ins ++ map Named f.outs) (map-append Named f.ins f.outs) ports, All-nil (IsKnown nets))
-      (All-append (Claims P nets) (map Input f.ins ++ map Output f.outs) (map Reg (register_texts f))
+      (All-append (Claims P nets) (map Input f.ins ++ map Output f.outs) (map Reg (state_texts f))
       (All-append (Claims P nets) (map Input f.ins) (map Output f.outs) (each_reports Input (λ n. refl) (λ n. refl) f.ins input) (each_reports Output (λ n. refl) (λ n. refl) f.outs output))
-      (each_reports Reg (λ n. refl) (λ n. refl) (register_texts f) register))
+      (each_reports Reg (λ n. refl) (λ n. refl) (state_texts f) register))
     where
       input : (text : List ℕ) → Contains f.ins text → P (Named text)
-      input text has = holds text (Contains-append_left (f.ins ++ register_texts f) f.outs text (Contains-append_left f.ins (register_texts f) text has))
+      input text has = holds text (Contains-append_left (f.ins ++ state_texts f) f.outs text (Contains-append_left f.ins (state_texts f) text has))
 
-      register : (text : List ℕ) → Contains (register_texts f) text → P (Named text)
-      register text has = holds text (Contains-append_left (f.ins ++ register_texts f) f.outs text (Contains-append_right f.ins (register_texts f) text has))
+      register : (text : List ℕ) → Contains (state_texts f) text → P (Named text)
+      register text has = holds text (Contains-append_left (f.ins ++ state_texts f) f.outs text (Contains-append_right f.ins (state_texts f) text has))
 
       output : (text : List ℕ) → Contains f.outs text → P (Named text)
-      output text has = holds text (Contains-append_right (f.ins ++ register_texts f) f.outs text has)
+      output text has = holds text (Contains-append_right (f.ins ++ state_texts f) f.outs text has)

@@ -16,7 +16,7 @@ use Rattle.bb_lemmas.proofs.Ranges.{from_range}
 use Rattle.bb_net.specs.declared.cell.Cell.{Cell}
 use Rattle.bb_net.specs.declared.cell.Cell.TheVariants as cells
 use Rattle.bb_net.specs.declared.flat.Reg.{Reg as Register}
-use Rattle.bb_net.specs.CutPoints.{register_texts}
+use Rattle.bb_net.specs.CutPoints.{state_texts}
 use Rattle.bb_net.specs.Flats.{FlatNet}
 use Rattle.bb_net.specs.Netlists.{box_at, cell_at}
 use Rattle.bb_net.specs.Values.{table_at}
@@ -77,7 +77,7 @@ cell_nets f = flat_map (λ k. nets_of f k (cell_at f.net.cells k)) (range_with_l
 
 -- the texts that are driven: those of outputs that are no registers, and those of registers
 abbrev pub driven_texts : FlatNet → List (List ℕ)
-driven_texts f = plain_outputs f ++ register_texts f
+driven_texts f = plain_outputs f ++ state_texts f
 
 -- a net of a cell is its own, or one of its choices
 abbrev pub IsNetOf : FlatNet → ℕ → Cell → NetWord → Type 0
@@ -156,24 +156,24 @@ module _ (f : FlatNet) (tables : List TableBits) (fits : TablesFit tables f.net.
   -- an output is driven where it is no register
 
   abbrev plain_net : List ℕ → List NetWord
-  plain_net text = if has_name text (register_texts f) then [] else Named text ∷ []
+  plain_net text = if has_name text (state_texts f) then [] else Named text ∷ []
 
   output-driven : (o : ℕ) → flat_map driven (output_lines f o) ≡ plain_net (output_text f o)
-  output-driven o = by (has_name (output_text f o) (register_texts f))
+  output-driven o = by (has_name (output_text f o) (state_texts f))
     where
       by : (b : Bool) → flat_map driven (if b then [] else Gate Buf (Named (output_text f o)) (word_at f (slice_index f.net.outs o) ∷ []) ∷ []) ≡ (if b then [] else Named (output_text f o) ∷ [])
       by true = refl
       by false = refl
 
-  plain_nets : (texts : List (List ℕ)) → flat_map plain_net texts ≡ map Named (filter (λ text. not (has_name text (register_texts f))) texts)
+  plain_nets : (texts : List (List ℕ)) → flat_map plain_net texts ≡ map Named (filter (λ text. not (has_name text (state_texts f))) texts)
   plain_nets [] = refl
-  plain_nets (text ∷ texts) = by (has_name text (register_texts f)) (plain_nets texts)
+  plain_nets (text ∷ texts) = by (has_name text (state_texts f)) (plain_nets texts)
     where
       rest : List (List ℕ)
-      rest = filter (λ t. not (has_name t (register_texts f))) texts
+      rest = filter (λ t. not (has_name t (state_texts f))) texts
 
-      by : (b : Bool) → flat_map plain_net texts ≡ map Named (filter (λ t. not (has_name t (register_texts f))) texts)
-          → (if b then [] else Named text ∷ []) ++ flat_map plain_net texts ≡ map Named (if not b then text ∷ filter (λ t. not (has_name t (register_texts f))) texts else filter (λ t. not (has_name t (register_texts f))) texts)
+      by : (b : Bool) → flat_map plain_net texts ≡ map Named (filter (λ t. not (has_name t (state_texts f))) texts)
+          → (if b then [] else Named text ∷ []) ++ flat_map plain_net texts ≡ map Named (if not b then text ∷ filter (λ t. not (has_name t (state_texts f))) texts else filter (λ t. not (has_name t (state_texts f))) texts)
       by true e = e
       by false e = ap (λ l. Named text ∷ l) e
 
@@ -195,12 +195,12 @@ module _ (f : FlatNet) (tables : List TableBits) (fits : TablesFit tables f.net.
 
   pub declarations-driven : flat_map driven (declarations f) ≡ []
   declarations-driven =
-      flat_map-append driven (map Input f.ins ++ map Output f.outs) (map Reg (register_texts f))
-      ∙ ap₂ ◌++◌ (flat_map-append driven (map Input f.ins) (map Output f.outs) ∙ ap₂ ◌++◌ (none-driven Input (λ n. refl) f.ins) (none-driven Output (λ n. refl) f.outs)) (none-driven Reg (λ n. refl) (register_texts f))
+      flat_map-append driven (map Input f.ins ++ map Output f.outs) (map Reg (state_texts f))
+      ∙ ap₂ ◌++◌ (flat_map-append driven (map Input f.ins) (map Output f.outs) ∙ ap₂ ◌++◌ (none-driven Input (λ n. refl) f.ins) (none-driven Output (λ n. refl) f.outs)) (none-driven Reg (λ n. refl) (state_texts f))
 
   pub lines-driven : flat_map driven (filled_lines f tables) ≡ cell_nets f ++ map Named (driven_texts f)
   lines-driven =
       five_parts driven (declarations f) (lines_of_cells f tables) (lines_of_outputs f) (register_lines f 0 f.regs) (End ∷ [])
       ∙ append-nil (flat_map driven (declarations f) ++ flat_map driven (lines_of_cells f tables) ++ flat_map driven (lines_of_outputs f) ++ flat_map driven (register_lines f 0 f.regs))
       ∙ ap₂ ◌++◌ (ap₂ ◌++◌ (ap₂ ◌++◌ declarations-driven cells-driven) outputs-driven) (registers-driven 0 f.regs)
-      ∙ append_assoc (cell_nets f) (map Named (plain_outputs f)) (map Named (register_texts f)) ∙ ap (λ l. cell_nets f ++ l) (sym (map-append Named (plain_outputs f) (register_texts f)))
+      ∙ append_assoc (cell_nets f) (map Named (plain_outputs f)) (map Named (state_texts f)) ∙ ap (λ l. cell_nets f ++ l) (sym (map-append Named (plain_outputs f) (state_texts f)))

@@ -12,7 +12,7 @@ use Rattle.bb_lemmas.proofs.Members.{contains_cases, from_flat, from_map, kept_f
 use Rattle.bb_lemmas.proofs.Orders.{less_or_not}
 use Rattle.bb_net.specs.declared.cell.Cell.{Cell}
 use Rattle.bb_net.specs.declared.cell.Cell.TheVariants as cells
-use Rattle.bb_net.specs.CutPoints.{register_texts}
+use Rattle.bb_net.specs.CutPoints.{state_texts}
 use Rattle.bb_net.specs.Flats.{FlatNet}
 use Rattle.bb_net.specs.Netlists.{cell_at}
 use Rattle.bb_fill.specs.Words.{NetWord, Named, CellNet, ChoiceNet}
@@ -109,10 +109,10 @@ apart_names : (texts : List (List ℕ)) → AllPairs ◌≢◌ texts → AllPair
 apart_names texts apart = apart_map Named (λ a b e. cc e) texts apart
 
 -- an output that is kept is no register
-pub plain_is : (f : FlatNet) (text : List ℕ) → Contains (plain_outputs f) text → Contains f.outs text × (has_name text (register_texts f) ≡ false)
+pub plain_is : (f : FlatNet) (text : List ℕ) → Contains (plain_outputs f) text → Contains f.outs text × (has_name text (state_texts f) ≡ false)
 plain_is f text has =
-    let kept = kept_from (λ t. not (has_name t (register_texts f))) f.outs text has in
-    (kept.0, by (has_name text (register_texts f)) kept.1)
+    let kept = kept_from (λ t. not (has_name t (state_texts f))) f.outs text has in
+    (kept.0, by (has_name text (state_texts f)) kept.1)
   where
     by : (b : Bool) → not b ≡ true → b ≡ false
     by false e = refl
@@ -123,16 +123,16 @@ pub nets_are : (f : FlatNet) (tables : List TableBits) → IsReady f tables → 
 nets_are f tables ready = ap (λ l. map Named f.ins ++ l) (lines-driven f tables (tables_fit tables f.net.boxes ready.fit))
 
 module _ (f : FlatNet) (tables : List TableBits) (ready : IsReady f tables) where
-  plain_is_apart : (text : List ℕ) → Contains (plain_outputs f) text → Contains (f.ins ++ register_texts f) text → ⊥
+  plain_is_apart : (text : List ℕ) → Contains (plain_outputs f) text → Contains (f.ins ++ state_texts f) text → ⊥
   plain_is_apart text plain = let is = plain_is f text plain in plain_apart f ready.names text is.0 is.1
 
   texts_apart : AllPairs ◌≢◌ (driven_texts f)
   texts_apart =
-      apart_both (plain_outputs f) (register_texts f) (AllPairs-filter ◌≢◌ (λ t. not (has_name t (register_texts f))) f.outs ready.flat.apart.outs) ready.flat.apart.regs
-      (λ text plain register. plain_is_apart text plain (Contains-append_right f.ins (register_texts f) text register))
+      apart_both (plain_outputs f) (state_texts f) (AllPairs-filter ◌≢◌ (λ t. not (has_name t (state_texts f))) f.outs ready.flat.apart.outs) ready.flat.apart.regs
+      (λ text plain register. plain_is_apart text plain (Contains-append_right f.ins (state_texts f) text register))
 
-  input_is_apart : (text : List ℕ) → Contains f.ins text → Contains (plain_outputs f) text ⊎ Contains (register_texts f) text → ⊥
-  input_is_apart text input (inl plain) = plain_is_apart text plain (Contains-append_left f.ins (register_texts f) text input)
+  input_is_apart : (text : List ℕ) → Contains f.ins text → Contains (plain_outputs f) text ⊎ Contains (state_texts f) text → ⊥
+  input_is_apart text input (inl plain) = plain_is_apart text plain (Contains-append_left f.ins (state_texts f) text input)
   input_is_apart text input (inr register) = (input_apart f ready.names text input).0 register
 
   after_inputs : (z : NetWord) → Contains (map Named f.ins) z → Contains (cell_nets f) z ⊎ Contains (map Named (driven_texts f)) z → ⊥
@@ -142,7 +142,7 @@ module _ (f : FlatNet) (tables : List TableBits) (ready : IsReady f tables) wher
       let other = from_map Named (driven_texts f) z named in
       let e = other.2 ∙ sym one.2 in
       let same : other.0 ≡ one.0 = cc e in
-      input_is_apart one.0 one.1 (Contains-append_cases (plain_outputs f) (register_texts f) one.0 (subst (Contains (driven_texts f)) same other.1))
+      input_is_apart one.0 one.1 (Contains-append_cases (plain_outputs f) (state_texts f) one.0 (subst (Contains (driven_texts f)) same other.1))
 
   parts_apart : AllPairs ◌≢◌ (map Named f.ins ++ (cell_nets f ++ map Named (driven_texts f)))
   parts_apart =
@@ -154,7 +154,7 @@ module _ (f : FlatNet) (tables : List TableBits) (ready : IsReady f tables) wher
   parts-length =
       let nets = cell_nets-length f tables (tables_fit tables f.net.boxes ready.fit) in
       let after = length-append (cell_nets f) (map Named (driven_texts f)) in
-      let texts = length-append (plain_outputs f) (register_texts f) in
+      let texts = length-append (plain_outputs f) (state_texts f) in
       omega (arith, nets, after, texts, length-append (map Named f.ins) (cell_nets f ++ map Named (driven_texts f)), length-map f.ins Named, length-map (driven_texts f) Named, length-map f.regs (λ q. q.text))
 
 pub nets_are_driven_once : NetsAreDrivenOnce

@@ -11,7 +11,7 @@ use Rattle.bb_lemmas.proofs.Members.{any_there}
 use Rattle.bb_lemmas.proofs.Names.{same_equal, same_self}
 use Rattle.bb_lemmas.proofs.Orders.{less_or_not}
 use Rattle.bb_net.specs.Flats.{FlatNet, HasDistinctNames}
-use Rattle.bb_net.specs.CutPoints.{register_texts}
+use Rattle.bb_net.specs.CutPoints.{state_texts}
 use Rattle.bb_fill.specs.Clashes.{register_text}
 use Rattle.bb_fill.specs.Filled.{output_text}
 use Rattle.bb_fill.specs.Inside.Indexes.{IsFound, IsIndexUpTo}
@@ -97,31 +97,31 @@ not_here : (o : Option ℕ) (k : ℕ) → is_some o ≡ false → o ≡ Some k �
 not_here o k none e = true≢false (sym (ap is_some e) ∙ none)
 
 pub taken : (f : FlatNet) (entries : List (List ℕ × ℕ)) (text : List ℕ) (b : Bool) → IsIndexUpTo f (length f.regs) entries → b ≡ is_some (lookup (same_name text) entries)
-    → MatchBool b (Contains (register_texts f) text ⊎ Contains f.outs text) ((Contains (register_texts f) text → ⊥) × (Contains f.outs text → ⊥))
-taken f entries text b index is = subst (λ b. MatchBool b (Contains (register_texts f) text ⊎ Contains f.outs text) ((Contains (register_texts f) text → ⊥) × (Contains f.outs text → ⊥))) (sym is) (by (lookup (same_name text) entries) refl)
+    → MatchBool b (Contains (state_texts f) text ⊎ Contains f.outs text) ((Contains (state_texts f) text → ⊥) × (Contains f.outs text → ⊥))
+taken f entries text b index is = subst (λ b. MatchBool b (Contains (state_texts f) text ⊎ Contains f.outs text) ((Contains (state_texts f) text → ⊥) × (Contains f.outs text → ⊥))) (sym is) (by (lookup (same_name text) entries) refl)
   where
-    here : (k : ℕ) → IsFound f (length f.regs) text k → Contains (register_texts f) text ⊎ Contains f.outs text
-    here k (inl h) = let within : k < length (register_texts f) = omega (arith, h.0, length-map f.regs (λ q. q.text)) in inl (k, within, get_or_default (register_texts f) k text [] within ∙ sym h.1)
+    here : (k : ℕ) → IsFound f (length f.regs) text k → Contains (state_texts f) text ⊎ Contains f.outs text
+    here k (inl h) = let within : k < length (state_texts f) = omega (arith, h.0, length-map f.regs (λ q. q.text)) in inl (k, within, get_or_default (state_texts f) k text [] within ∙ sym h.1)
     here k (inr h) = inr h.1
 
-    by : (o : Option ℕ) → lookup (same_name text) entries ≡ o → MatchBool (is_some o) (Contains (register_texts f) text ⊎ Contains f.outs text) ((Contains (register_texts f) text → ⊥) × (Contains f.outs text → ⊥))
+    by : (o : Option ℕ) → lookup (same_name text) entries ≡ o → MatchBool (is_some o) (Contains (state_texts f) text ⊎ Contains f.outs text) ((Contains (state_texts f) text → ⊥) × (Contains f.outs text → ⊥))
     by (Some k) e = here k (index.right text k e)
     by None e = (
       λ has.
-          let at : register_text f has.0 ≡ text = get_or_default (register_texts f) has.0 [] text has.1 ∙ has.2 in
+          let at : register_text f has.0 ≡ text = get_or_default (state_texts f) has.0 [] text has.1 ∙ has.2 in
           not_here (lookup (same_name text) entries) has.0 (ap is_some e) (subst (λ t. lookup (same_name t) entries ≡ Some has.0) at (index.registers has.0 (omega (arith, has.1, length-map f.regs (λ q. q.text))))),
       λ has. true≢false (sym (index.outputs text has) ∙ ap is_some e),
     )
 
 pub register_named : (f : FlatNet) (text : List ℕ) (o : Option ℕ) → IfSome o (λ r. (r < length f.regs) × (text ≡ register_text f r)) → IfNone o ((r : ℕ) → r < length f.regs → text ≡ register_text f r → ⊥)
-    → is_some o ≡ has_name text (register_texts f)
+    → is_some o ≡ has_name text (state_texts f)
 register_named f text (Some r) some none =
-    sym (list_any_at (same_name text) (register_texts f) r [] (omega (arith, some.0, length-map f.regs (λ q. q.text))) (subst (λ t. same_name text t ≡ true) some.1 (same_self text)))
-register_named f text None some none = by (has_name text (register_texts f)) refl
+    sym (list_any_at (same_name text) (state_texts f) r [] (omega (arith, some.0, length-map f.regs (λ q. q.text))) (subst (λ t. same_name text t ≡ true) some.1 (same_self text)))
+register_named f text None some none = by (has_name text (state_texts f)) refl
   where
-    by : (b : Bool) → has_name text (register_texts f) ≡ b → false ≡ b
+    by : (b : Bool) → has_name text (state_texts f) ≡ b → false ≡ b
     by false e = refl
     by true e =
-        let there = any_there (same_name text) (register_texts f) e in
+        let there = any_there (same_name text) (state_texts f) e in
         let has = there.1 in
-        absurd (none has.0 (omega (arith, has.1, length-map f.regs (λ q. q.text))) (same_equal text there.0 there.2 ∙ sym (get_or_default (register_texts f) has.0 [] there.0 has.1 ∙ has.2)))
+        absurd (none has.0 (omega (arith, has.1, length-map f.regs (λ q. q.text))) (same_equal text there.0 there.2 ∙ sym (get_or_default (state_texts f) has.0 [] there.0 has.1 ∙ has.2)))

@@ -5,13 +5,13 @@ use Rattle.std.proofs.lemmas.Grind.{flat_map-append}
 use Rattle.std.proofs.lemmas.List.{flat_map_more, length-map, map-append, reverse-append}
 use Rattle.std.proofs.lemmas.List.Folds.{flat_map-map}
 use Rattle.std.proofs.lemmas.Simd.{map-map}
-use Rattle.bb_bits.specs.Tables.{TableBits, table_bit}
+use Rattle.bb_bits.specs.Tables.{TableBits, table_bit, column}
 use Rattle.bb_lemmas.proofs.Ranges.{length-range}
 use Rattle.bb_fill.specs.declared.trees.Values.{Values}
 use Rattle.bb_fill.specs.declared.trees.Values.TheVariants.{Rows, Nets}
 use Rattle.bb_fill.specs.Words.{NetWord, Bit, CellNet, ChoiceNet}
 use Rattle.bb_fill.specs.Lines.{Line, Assign, Gate, Buf, line_text}
-use Rattle.bb_fill.specs.Trees.{column, halved, choice_nets, tree_lines, tree_values}
+use Rattle.bb_fill.specs.Trees.{halved, choice_nets, tree_lines, tree_values}
 use Rattle.bb_fill.specs.Inside.Levels.{level_words, value_word}
 
 -- a choice between the values at two neighbouring numbers

@@ -13,7 +13,7 @@ use Rattle.bb_lemmas.proofs.Names.{same_equal}
 use Rattle.bb_lemmas.proofs.Orders.{less_or_not}
 use Rattle.bb_lemmas.proofs.Ranges.{range_there}
 use Rattle.bb_net.specs.declared.cell.Cell.TheVariants.{Const}
-use Rattle.bb_net.specs.CutPoints.{register_texts}
+use Rattle.bb_net.specs.CutPoints.{state_texts}
 use Rattle.bb_net.specs.Flats.{FlatNet}
 use Rattle.bb_net.specs.Netlists.{IsOrdered, Netlist, cell_at}
 use Rattle.bb_net.specs.Values.{IsValue, bit_of, flat_with, gate, tabled_bit, value_of}
@@ -34,15 +34,15 @@ pub word_past : (f : FlatNet) (k : ℕ) → length f.net.cells ≤ k → word_at
 word_past f k past = ap (cell_word f k) (get_or_past f.net.cells k (Const false) past)
 
 -- where a register has the text of an output, the output is that register, and is called by its text
-pub register_word : (f : FlatNet) (o : ℕ) → AreNamesApart f → o < length f.outs → has_name (output_text f o) (register_texts f) ≡ true → word_at f (slice_index f.net.outs o) ≡ Named (output_text f o)
+pub register_word : (f : FlatNet) (o : ℕ) → AreNamesApart f → o < length f.outs → has_name (output_text f o) (state_texts f) ≡ true → word_at f (slice_index f.net.outs o) ≡ Named (output_text f o)
 register_word f o apart within named =
-    let found = any_there (same_name (output_text f o)) (register_texts f) named in
+    let found = any_there (same_name (output_text f o)) (state_texts f) named in
     let r = found.1.0 in
-    let text : slice_index_or (register_texts f) r [] ≡ found.0 = get_or_default (register_texts f) r [] found.0 found.1.1 ∙ found.1.2 in
+    let text : slice_index_or (state_texts f) r [] ≡ found.0 = get_or_default (state_texts f) r [] found.0 found.1.1 ∙ found.1.2 in
     let same : output_text f o ≡ register_text f r = same_equal (output_text f o) found.0 found.2 ∙ sym text in
     let number : r < length f.regs = omega (arith, found.1.1, length-map f.regs (λ q. q.text)) in
     let its : IsItsRegister f o = All-contains (IsItsRegister f) (output_numbers f) o apart.outputs (range_there 0 (length f.outs) o (omega arith) (omega (arith, within))) in
-    ap (cell_word f (slice_index f.net.outs o)) (its r number same) ∙ ap Named (get_or-append-add f.ins (register_texts f) r [] ∙ sym same)
+    ap (cell_word f (slice_index f.net.outs o)) (its r number same) ∙ ap Named (get_or-append-add f.ins (state_texts f) r [] ∙ sym same)
 
 module _ (f : FlatNet) (tables : List TableBits) (ready : IsReady f tables) (x : List Bool) (bit : NetWord → Bool) (gives : GivesBitsOf f x bit) (met : AreMet bit (filled_lines f tables)) where
   -- the bits of the words, cell by cell
@@ -74,9 +74,9 @@ module _ (f : FlatNet) (tables : List TableBits) (ready : IsReady f tables) (x :
 
   -- an output is a register, or a copy
   output_bit : (o : ℕ) → o < length f.outs → bit (Named (output_text f o)) ≡ word_bit f bit (slice_index f.net.outs o)
-  output_bit o within = by (has_name (output_text f o) (register_texts f)) refl (part_of_output (IsMet bit) f tables met o within)
+  output_bit o within = by (has_name (output_text f o) (state_texts f)) refl (part_of_output (IsMet bit) f tables met o within)
     where
-      by : (b : Bool) → has_name (output_text f o) (register_texts f) ≡ b → AreMet bit (if b then [] else Gate Buf (Named (output_text f o)) (word_at f (slice_index f.net.outs o) ∷ []) ∷ [])
+      by : (b : Bool) → has_name (output_text f o) (state_texts f) ≡ b → AreMet bit (if b then [] else Gate Buf (Named (output_text f o)) (word_at f (slice_index f.net.outs o) ∷ []) ∷ [])
           → bit (Named (output_text f o)) ≡ word_bit f bit (slice_index f.net.outs o)
       by true named line = sym (ap bit (register_word f o ready.names within named))
       by false named line = All-head (IsMet bit) (Gate Buf (Named (output_text f o)) (word_at f (slice_index f.net.outs o) ∷ [])) [] line

@@ -7,7 +7,7 @@ use Rattle.bb_bits.specs.Tables.{TableBits}
 use Rattle.bb_lemmas.proofs.Members.{all_from, from_flat}
 use Rattle.bb_lemmas.proofs.Ranges.{from_range, range_there}
 use Rattle.bb_lemmas.proofs.Turns.{all_flat}
-use Rattle.bb_net.specs.CutPoints.{register_texts}
+use Rattle.bb_net.specs.CutPoints.{state_texts}
 use Rattle.bb_net.specs.Flats.{FlatNet}
 use Rattle.bb_net.specs.Netlists.{cell_at}
 use Rattle.bb_fill.specs.Lines.{Line, Module, Input, Output, Reg, End}
@@ -15,7 +15,7 @@ use Rattle.bb_fill.specs.Filled.{cell_lines, filled_lines, lines_of_cells, outpu
 use Rattle.bb_fill.proofs.Lists.{all_left, all_right}
 
 abbrev pub declarations : FlatNet → List Line
-declarations f = Module (f.ins ++ f.outs) ∷ map Input f.ins ++ map Output f.outs ++ map Reg (register_texts f)
+declarations f = Module (f.ins ++ f.outs) ∷ map Input f.ins ++ map Output f.outs ++ map Reg (state_texts f)
 
 abbrev pub lines_of_outputs : FlatNet → List Line
 lines_of_outputs f = flat_map (output_lines f) (range_with_len 0 (length f.outs))

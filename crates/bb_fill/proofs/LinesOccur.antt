@@ -10,7 +10,7 @@ use Rattle.bb_bits.specs.Tables.{TableBits}
 use Rattle.bb_lemmas.proofs.Members.{all_from, contains-map}
 use Rattle.bb_lemmas.proofs.Places.{some_at, there_at}
 use Rattle.bb_net.specs.declared.flat.Reg.{Reg as Register}
-use Rattle.bb_net.specs.CutPoints.{clock_text, register_texts}
+use Rattle.bb_net.specs.CutPoints.{clock_text, state_texts}
 use Rattle.bb_net.specs.Flats.{FlatNet, HaveClocks}
 use Rattle.bb_fill.specs.Words.{NetWord, Named, texts_of, word_at}
 use Rattle.bb_fill.specs.Lines.{Line, Gate, Buf, End}
@@ -38,7 +38,7 @@ module _ (f : FlatNet) (tables : List TableBits) (ready : IsReady f tables) (P :
   nets = nets_before f (length f.net.cells)
 
   output_reports : (o : ℕ) → All (Claims P nets) (output_lines f o)
-  output_reports o = by (has_name (output_text f o) (register_texts f))
+  output_reports o = by (has_name (output_text f o) (state_texts f))
     where
       line : Line
       line = Gate Buf (Named (output_text f o)) (word_at f (slice_index f.net.outs o) ∷ [])
@@ -64,7 +64,7 @@ module _ (f : FlatNet) (tables : List TableBits) (ready : IsReady f tables) (P :
   clock_known : (register : Register) → IsSome register.clock → IfSome register.clock (λ k. k < length f.ins) → IsClocked register
   clock_known register some within =
       let found = clock_there f register some within in
-      let there = contains-map Named (f.ins ++ register_texts f) found.0 (Contains-append_left f.ins (register_texts f) found.0 found.2) in
+      let there = contains-map Named (f.ins ++ state_texts f) found.0 (Contains-append_left f.ins (state_texts f) found.0 found.2) in
       subst (λ o. IsKnown nets (Named (unwrap_or o []))) (sym found.1) (inr (Contains-append_left (port_words f) (cell_nets f) (Named found.0) there))
 
   back_reports : HaveClocks f → All (Claims P nets) (lines_of_outputs f ++ (register_lines f 0 f.regs ++ End ∷ []))

@@ -11,7 +11,7 @@ use Rattle.bb_net.specs.declared.cell.Cell.TheVariants as cells
 use Rattle.bb_net.specs.Netlists.{Pins, ReadsBefore, box_at}
 use Rattle.bb_net.specs.Values.{FitBoxes, bit_of, gate, table_at, tabled_bit}
 use Rattle.bb_net.specs.Flats.{FlatNet}
-use Rattle.bb_net.specs.CutPoints.{register_texts}
+use Rattle.bb_net.specs.CutPoints.{state_texts}
 use Rattle.std.specs.List.{slice_index_or}
 use Rattle.bb_fill.specs.Words.{NetWord, Bit, Named, CellNet, cell_word, word_at}
 use Rattle.bb_fill.specs.Lines.{Line, Gate, Buf}
@@ -57,7 +57,7 @@ module _ (f : FlatNet) (tables : List TableBits) (x : List Bool) (bit : NetWord 
       let found = choose bit numbers (table_at tables b) p (first_choice f k) pins (length-map (box_at f.net.boxes b).ins (word_at f) ∙ sym (fits b)) met in
       ap (λ l. gate_bit Buf (map bit l)) found.1 ∙ found.2 ∙ ap (λ l. table_bit (table_at tables b) (number_of l) p) (map-twice (word_at f) bit (box_at f.net.boxes b).ins)
 
-  pub word_from_lines : ((i : ℕ) → i < f.net.inputs → bit (Named (slice_index_or (f.ins ++ register_texts f) i [])) ≡ bit_of x i)
+  pub word_from_lines : ((i : ℕ) → i < f.net.inputs → bit (Named (slice_index_or (f.ins ++ state_texts f) i [])) ≡ bit_of x i)
       → (k : ℕ) (c : Cell) → ReadsBefore f.net.inputs f.net.boxes k c → AreMet bit (cell_lines f tables k c) → bit (cell_word f k c) ≡ gate_of c
   word_from_lines inputs k (cells.Const b) reads met = numbers b
   word_from_lines inputs k (cells.Input i) reads met = inputs i reads

@@ -7,26 +7,26 @@ use Rattle.bb_bits.specs.Names.{same_name}
 use Rattle.bb_lemmas.proofs.Apart.{pairs_tail}
 use Rattle.bb_lemmas.proofs.Members.{contains_here, contains_there, either, none_of}
 use Rattle.bb_lemmas.proofs.Names.{same_equal, same_self}
-use Rattle.bb_net.specs.CutPoints.{register_texts}
+use Rattle.bb_net.specs.CutPoints.{state_texts}
 use Rattle.bb_net.specs.Flats.{FlatNet, IsFlat}
 use Rattle.bb_fill.specs.Clashes.{AreNamesApart}
 use Rattle.bb_fill.proofs.Lists.{apart_both, first_apart}
 
 module _ (f : FlatNet) (names : AreNamesApart f) where
   -- an input is no register and no output
-  pub input_apart : (text : List ℕ) → Contains f.ins text → (Contains (register_texts f) text → ⊥) × (Contains f.outs text → ⊥)
-  input_apart text has = All-contains (λ t. (Contains (register_texts f) t → ⊥) × (Contains f.outs t → ⊥)) f.ins text names.inputs has
+  pub input_apart : (text : List ℕ) → Contains f.ins text → (Contains (state_texts f) text → ⊥) × (Contains f.outs text → ⊥)
+  input_apart text has = All-contains (λ t. (Contains (state_texts f) t → ⊥) × (Contains f.outs t → ⊥)) f.ins text names.inputs has
 
-  pub ports_apart : IsFlat f → AllPairs ◌≢◌ (f.ins ++ register_texts f)
-  ports_apart flat = apart_both f.ins (register_texts f) flat.apart.ins flat.apart.regs (λ z input register. (input_apart z input).0 register)
+  pub ports_apart : IsFlat f → AllPairs ◌≢◌ (f.ins ++ state_texts f)
+  ports_apart flat = apart_both f.ins (state_texts f) flat.apart.ins flat.apart.regs (λ z input register. (input_apart z input).0 register)
 
   -- an output that is no register is no input either
-  pub plain_apart : (text : List ℕ) → Contains f.outs text → has_name text (register_texts f) ≡ false → Contains (f.ins ++ register_texts f) text → ⊥
-  plain_apart text out plain has = by (Contains-append_cases f.ins (register_texts f) text has)
+  pub plain_apart : (text : List ℕ) → Contains f.outs text → has_name text (state_texts f) ≡ false → Contains (f.ins ++ state_texts f) text → ⊥
+  plain_apart text out plain has = by (Contains-append_cases f.ins (state_texts f) text has)
     where
-      by : Contains f.ins text ⊎ Contains (register_texts f) text → ⊥
+      by : Contains f.ins text ⊎ Contains (state_texts f) text → ⊥
       by (inl input) = (input_apart text input).1 out
-      by (inr register) = true≢false (sym (same_self text) ∙ none_of (same_name text) (register_texts f) plain text register)
+      by (inr register) = true≢false (sym (same_self text) ∙ none_of (same_name text) (state_texts f) plain text register)
 
 -- the bit of the first text that is a name, or else another bit
 abbrev pub bit_called : List (List ℕ) → (ℕ → Bool) → Bool → List ℕ → Bool

@@ -12,7 +12,7 @@ use Rattle.bb_lemmas.proofs.Members.{from_flat, from_map}
 use Rattle.bb_lemmas.proofs.Ranges.{from_range}
 use Rattle.bb_net.specs.declared.cell.Cell.{Cell}
 use Rattle.bb_net.specs.declared.cell.Cell.TheVariants as cells
-use Rattle.bb_net.specs.CutPoints.{register_texts}
+use Rattle.bb_net.specs.CutPoints.{state_texts}
 use Rattle.bb_net.specs.Flats.{FlatNet}
 use Rattle.bb_net.specs.Netlists.{cell_at}
 use Rattle.bb_fill.specs.Words.{NetWord, Named, texts_of}
@@ -58,19 +58,19 @@ module _ (f : FlatNet) (tables : List TableBits) (ready : IsReady f tables) (sma
   named_of_netlist texts there word has = let at = from_map Named texts word has in subst (IsWordOf f) at.2 (there at.0 at.1)
 
   -- an output or a register
-  driven_there : (text : List ℕ) → Contains (plain_outputs f) text ⊎ Contains (register_texts f) text → Contains (texts_of f) text
-  driven_there text (inl plain) = Contains-append_right (f.ins ++ register_texts f) f.outs text (plain_is f text plain).0
-  driven_there text (inr register) = Contains-append_left (f.ins ++ register_texts f) f.outs text (Contains-append_right f.ins (register_texts f) text register)
+  driven_there : (text : List ℕ) → Contains (plain_outputs f) text ⊎ Contains (state_texts f) text → Contains (texts_of f) text
+  driven_there text (inl plain) = Contains-append_right (f.ins ++ state_texts f) f.outs text (plain_is f text plain).0
+  driven_there text (inr register) = Contains-append_left (f.ins ++ state_texts f) f.outs text (Contains-append_right f.ins (state_texts f) text register)
 
   after_of_netlist : (word : NetWord) → Contains (cell_nets f) word ⊎ Contains (map Named (driven_texts f)) word → IsWordOf f word
   after_of_netlist word (inl net) =
       let at = from_flat (λ k. nets_of f k (cell_at f.net.cells k)) (range_with_len 0 (length f.net.cells)) word net in
       net_of_netlist at.0 (omega (arith, (from_range 0 (length f.net.cells) at.0 at.1).1)) word (from_nets f at.0 (cell_at f.net.cells at.0) word at.2)
-  after_of_netlist word (inr named) = named_of_netlist (driven_texts f) (λ text has. driven_there text (Contains-append_cases (plain_outputs f) (register_texts f) text has)) word named
+  after_of_netlist word (inr named) = named_of_netlist (driven_texts f) (λ text has. driven_there text (Contains-append_cases (plain_outputs f) (state_texts f) text has)) word named
 
   part_of_netlist : (word : NetWord) → Contains (map Named f.ins) word ⊎ Contains (cell_nets f ++ map Named (driven_texts f)) word → IsWordOf f word
   part_of_netlist word (inl input) =
-      named_of_netlist f.ins (λ text has. Contains-append_left (f.ins ++ register_texts f) f.outs text (Contains-append_left f.ins (register_texts f) text has)) word input
+      named_of_netlist f.ins (λ text has. Contains-append_left (f.ins ++ state_texts f) f.outs text (Contains-append_left f.ins (state_texts f) text has)) word input
   part_of_netlist word (inr after) = after_of_netlist word (Contains-append_cases (cell_nets f) (map Named (driven_texts f)) word after)
 
   word_of_netlist : (word : NetWord) → IsNumber word ⊎ Contains (all_nets f tables) word → IsWordOf f word

@@ -5,14 +5,14 @@ use Rattle.std.proofs.lemmas.Grind.{flat_map-append}
 use Rattle.std.proofs.lemmas.List.{append-nil, length-map, length-reverse}
 use Rattle.std.proofs.lemmas.List.FromFn.{length-range_with_len}
 use Rattle.bb_lemmas.proofs.Ranges.{range_last_from_zero}
-use Rattle.bb_bits.specs.Tables.{TableBits, table_bit}
+use Rattle.bb_bits.specs.Tables.{TableBits, table_bit, column}
 use Rattle.bb_net.specs.declared.cell.Cell.TheVariants.{BoxOut}
 use Rattle.bb_net.specs.Netlists.{box_at}
 use Rattle.bb_net.specs.Values.{table_at}
 use Rattle.bb_net.specs.Flats.{FlatNet}
 use Rattle.bb_fill.specs.Words.{NetWord, Bit, ChoiceNet, CellNet, word_at}
 use Rattle.bb_fill.specs.Lines.{Line, Gate, Buf}
-use Rattle.bb_fill.specs.Trees.{column, halved, choice_nets, tree_lines, tree_values}
+use Rattle.bb_fill.specs.Trees.{halved, choice_nets, tree_lines, tree_values}
 use Rattle.bb_fill.specs.Filled.{cell_lines, choice_count, first_choice, lines_of_cells, output_pin_words, pin_words}
 use Rattle.bb_fill.specs.Sizes.{filled_cell_count, makes_cell, net_count}
 

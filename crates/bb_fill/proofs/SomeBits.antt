@@ -7,20 +7,19 @@ use Rattle.std.proofs.lemmas.List.Concat.{get_or-flat_map, length-flat_map}
 use Rattle.std.proofs.lemmas.List.Elements.{All-append, All-cons, All-map, All-nil, Contains-get_or}
 use Rattle.std.proofs.lemmas.List.FromFn.{length-range_with_len}
 use Rattle.bb_bits.specs.Earlier.{has_name}
-use Rattle.bb_bits.specs.Tables.{TableBits, table_bit}
+use Rattle.bb_bits.specs.Tables.{TableBits, table_bit, column}
 use Rattle.bb_lemmas.proofs.Maps.{map-twice, reverse-map}
 use Rattle.bb_lemmas.proofs.Orders.{less_or_not}
 use Rattle.bb_net.specs.declared.cell.Cell.{Cell}
 use Rattle.bb_net.specs.declared.cell.Cell.TheVariants as cells
 use Rattle.bb_net.specs.declared.flat.Reg.{Reg as Register}
 use Rattle.bb_net.specs.Equivalence.{out_bit}
-use Rattle.bb_net.specs.CutPoints.{register_texts}
+use Rattle.bb_net.specs.CutPoints.{state_texts}
 use Rattle.bb_net.specs.Flats.{FlatNet}
 use Rattle.bb_net.specs.Netlists.{IsOrdered, Netlist, ReadsBefore, box_at, cell_at}
 use Rattle.bb_net.specs.Values.{IsValue, bit_of, flat_with, gate, table_at, tabled_bit, value_of}
 use Rattle.bb_fill.specs.Words.{NetWord, Bit, Named, CellNet, ChoiceNet, cell_word, word_at}
 use Rattle.bb_fill.specs.Lines.{Module, Input, Output, Reg, Gate, Buf}
-use Rattle.bb_fill.specs.Trees.{column}
 use Rattle.bb_fill.specs.Filled.{cell_lines, choice_count, filled_lines, first_choice, output_lines, output_text, output_pin_words, pin_words, register_line, register_lines}
 use Rattle.bb_fill.specs.Laws.{AreMet, GivesBitsOf, IsMet, IsReady, LinesCanBeMet, TreesChoose}
 use Rattle.bb_fill.proofs.ChoiceBits.{choice_bits, choice_bits-length, tree_met}
@@ -47,7 +46,7 @@ all_choices f tables value = flat_map (cell_choices f tables value) f.net.cells
 -- the bit of each word at a vector
 abbrev bit_at : FlatNet → List TableBits → List Bool → NetWord → Bool
 bit_at f tables x (Bit b) = b
-bit_at f tables x (Named name) = bit_called (f.ins ++ register_texts f) (bit_of x) (bit_called f.outs (out_bit f.net (flat_with f.net x tables)) false name) name
+bit_at f tables x (Named name) = bit_called (f.ins ++ state_texts f) (bit_of x) (bit_called f.outs (out_bit f.net (flat_with f.net x tables)) false name) name
 bit_at f tables x (CellNet number) = bit_of (flat_with f.net x tables) number
 bit_at f tables x (ChoiceNet number) = bit_of (all_choices f tables (flat_with f.net x tables)) number
 
@@ -89,10 +88,10 @@ module _ (f : FlatNet) (tables : List TableBits) (ready : IsReady f tables) (x :
   abbrev value : List Bool
   value = flat_with f.net x tables
 
-  input_bit : (i : ℕ) → i < f.net.inputs → bit (Named (slice_index_or (f.ins ++ register_texts f) i [])) ≡ bit_of x i
+  input_bit : (i : ℕ) → i < f.net.inputs → bit (Named (slice_index_or (f.ins ++ state_texts f) i [])) ≡ bit_of x i
   input_bit i within =
-      called-at (f.ins ++ register_texts f) (bit_of x) (bit_called f.outs (out_bit f.net value) false (slice_index_or (f.ins ++ register_texts f) i [])) i (ports_apart f ready.names ready.flat)
-      (omega (arith, within, ready.flat.named.inputs, length-append f.ins (register_texts f), length-map f.regs (λ q. q.text)))
+      called-at (f.ins ++ state_texts f) (bit_of x) (bit_called f.outs (out_bit f.net value) false (slice_index_or (f.ins ++ state_texts f) i [])) i (ports_apart f ready.names ready.flat)
+      (omega (arith, within, ready.flat.named.inputs, length-append f.ins (state_texts f), length-map f.regs (λ q. q.text)))
 
   -- the words of the cells have their bits
   word_is : (k : ℕ) → word_bit f bit k ≡ bit_of value k
@@ -134,14 +133,14 @@ module _ (f : FlatNet) (tables : List TableBits) (ready : IsReady f tables) (x :
       (is_value.each k within ∙ ap (λ v. gate f.net.boxes x (tabled_bit tables) v c) (λ i j. sym (word_is j) i)) (λ b p is. tree_is_met k b p within is)
 
   output_is_met : (o : ℕ) → o < length f.outs → AreMet bit (output_lines f o)
-  output_is_met o within = by (has_name (output_text f o) (register_texts f)) refl
+  output_is_met o within = by (has_name (output_text f o) (state_texts f)) refl
     where
-      by : (b : Bool) → has_name (output_text f o) (register_texts f) ≡ b → AreMet bit (if b then [] else Gate Buf (Named (output_text f o)) (word_at f (slice_index f.net.outs o) ∷ []) ∷ [])
+      by : (b : Bool) → has_name (output_text f o) (state_texts f) ≡ b → AreMet bit (if b then [] else Gate Buf (Named (output_text f o)) (word_at f (slice_index f.net.outs o) ∷ []) ∷ [])
       by true named = All-nil (IsMet bit)
       by false plain =
           let text = output_text f o in
           let own : bit (Named text) ≡ out_bit f.net value o =
-          called-other (f.ins ++ register_texts f) (bit_of x) (bit_called f.outs (out_bit f.net value) false text) text (plain_apart f ready.names text (Contains-get_or f.outs o [] within) plain)
+          called-other (f.ins ++ state_texts f) (bit_of x) (bit_called f.outs (out_bit f.net value) false text) text (plain_apart f ready.names text (Contains-get_or f.outs o [] within) plain)
           ∙ called-at f.outs (out_bit f.net value) false o ready.flat.apart.outs within
           in
           All-cons (IsMet bit) (Gate Buf (Named text) (word_at f (slice_index f.net.outs o) ∷ [])) [] (own ∙ sym (word_is (slice_index f.net.outs o))) (All-nil (IsMet bit))
@@ -152,9 +151,9 @@ module _ (f : FlatNet) (tables : List TableBits) (ready : IsReady f tables) (x :
 
   declarations_are_met : AreMet bit (declarations f)
   declarations_are_met =
-      All-cons (IsMet bit) (Module (f.ins ++ f.outs)) (map Input f.ins ++ map Output f.outs ++ map Reg (register_texts f)) tt
-      (All-append (IsMet bit) (map Input f.ins ++ map Output f.outs) (map Reg (register_texts f))
-      (All-append (IsMet bit) (map Input f.ins) (map Output f.outs) (All-map (IsMet bit) Input f.ins (λ k d lt. tt)) (All-map (IsMet bit) Output f.outs (λ k d lt. tt))) (All-map (IsMet bit) Reg (register_texts f) (λ k d lt. tt)))
+      All-cons (IsMet bit) (Module (f.ins ++ f.outs)) (map Input f.ins ++ map Output f.outs ++ map Reg (state_texts f)) tt
+      (All-append (IsMet bit) (map Input f.ins ++ map Output f.outs) (map Reg (state_texts f))
+      (All-append (IsMet bit) (map Input f.ins) (map Output f.outs) (All-map (IsMet bit) Input f.ins (λ k d lt. tt)) (All-map (IsMet bit) Output f.outs (λ k d lt. tt))) (All-map (IsMet bit) Reg (state_texts f) (λ k d lt. tt)))
 
   some_bits : TreesChoose → (bit : NetWord → Bool) × GivesBitsOf f x bit × AreMet bit (filled_lines f tables)
   some_bits choose =

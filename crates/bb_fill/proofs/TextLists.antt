@@ -7,7 +7,7 @@ use Rattle.std.proofs.lemmas.List.Folds.{flat_map-map}
 use Rattle.bb_net.specs.declared.flat.Reg.{Reg as Register}
 use Rattle.bb_bits.specs.Tables.{TableBits}
 use Rattle.bb_net.specs.Flats.{FlatNet}
-use Rattle.bb_net.specs.CutPoints.{register_texts}
+use Rattle.bb_net.specs.CutPoints.{state_texts}
 use Rattle.bb_fill.specs.Words.{printed}
 use Rattle.bb_fill.specs.Lines.{Line, Module, Input, Output, Reg, End, line_text}
 use Rattle.bb_fill.specs.Filled.{filled_lines, lines_of_cells, output_lines, register_line, register_lines}
@@ -33,11 +33,11 @@ declared_text stem ins outs regs =
 
 -- the whole text
 pub sections_text : (stem : List ℕ) (f : FlatNet) (tables : List TableBits)
-    → line_text stem (Module (f.ins ++ f.outs)) ++ flat_map (line_text stem) (map Input f.ins ++ map Output f.outs ++ map Reg (register_texts f)) ++ flat_map (line_text stem) (lines_of_cells f tables)
+    → line_text stem (Module (f.ins ++ f.outs)) ++ flat_map (line_text stem) (map Input f.ins ++ map Output f.outs ++ map Reg (state_texts f)) ++ flat_map (line_text stem) (lines_of_cells f tables)
     ++ flat_map (line_text stem) (flat_map (output_lines f) (range_with_len 0 (length f.outs))) ++ flat_map (line_text stem) (register_lines f 0 f.regs) ++ codes "endmodule\n"
     ≡ flat_map (line_text stem) (filled_lines f tables)
 sections_text stem f tables =
-    sym (five_parts (line_text stem) (Module (f.ins ++ f.outs) ∷ map Input f.ins ++ map Output f.outs ++ map Reg (register_texts f)) (lines_of_cells f tables) (flat_map (output_lines f) (range_with_len 0 (length f.outs))) (register_lines f 0 f.regs) (End ∷ []))
+    sym (five_parts (line_text stem) (Module (f.ins ++ f.outs) ∷ map Input f.ins ++ map Output f.outs ++ map Reg (state_texts f)) (lines_of_cells f tables) (flat_map (output_lines f) (range_with_len 0 (length f.outs))) (register_lines f 0 f.regs) (End ∷ []))
 
 -- the registers
 

@@ -5,10 +5,10 @@ use Rattle.std.proofs.lemmas.List.{length-map, length-reverse, map-append, rever
 use Rattle.std.proofs.lemmas.List.Elements.{All-head, All-tail}
 use Rattle.std.proofs.lemmas.List.FromFn.{get_or-map-range_with_len, length-range_with_len}
 use Rattle.bb_bits.specs.Numbers.{number_of}
-use Rattle.bb_bits.specs.Tables.{table_bit}
+use Rattle.bb_bits.specs.Tables.{table_bit, column}
 use Rattle.bb_fill.specs.Words.{NetWord, Bit, ChoiceNet}
 use Rattle.bb_fill.specs.Lines.{Assign}
-use Rattle.bb_fill.specs.Trees.{choice_nets, column, halved, tree_lines, tree_values}
+use Rattle.bb_fill.specs.Trees.{choice_nets, halved, tree_lines, tree_values}
 use Rattle.bb_fill.specs.Laws.{AreMet, IsMet, TreesChoose}
 use Rattle.bb_fill.proofs.Lists.{all_left, all_right}
 use Rattle.bb_fill.proofs.SizeLemmas.{column-length}

@@ -9,7 +9,7 @@ use Rattle.bb_net.specs.declared.cell.Cell.{Cell}
 use Rattle.bb_net.specs.declared.cell.Cell.TheVariants.{Input}
 use Rattle.bb_net.specs.Netlists.{cell_at}
 use Rattle.bb_net.specs.Flats.{FlatNet}
-use Rattle.bb_net.specs.CutPoints.{register_texts}
+use Rattle.bb_net.specs.CutPoints.{state_texts}
 use Rattle.bb_fill.specs.Filled.{output_text}
 
 -- the cell of an output of the top
@@ -18,14 +18,14 @@ output_cell f o = cell_at f.net.cells (slice_index f.net.outs o)
 
 -- the text of a register, and the input of the netlist that is its present state
 abbrev pub register_text : FlatNet → ℕ → List ℕ
-register_text f r = slice_index_or (register_texts f) r []
+register_text f r = slice_index_or (state_texts f) r []
 
 abbrev pub state_cell : FlatNet → ℕ → Cell
 state_cell f r = Input (length f.ins + r)
 
 -- an input has the text of a register or of an output
 abbrev pub IsInputClash : FlatNet → List ℕ → Type 0
-IsInputClash f text = Contains (register_texts f) text ⊎ Contains f.outs text
+IsInputClash f text = Contains (state_texts f) text ⊎ Contains f.outs text
 
 -- an output has the text of a register that it is not
 abbrev pub IsOutputClash : FlatNet → ℕ → Type 0
@@ -37,7 +37,7 @@ output_numbers f = range_with_len 0 (length f.outs)
 
 -- no input clashes
 abbrev pub AreInputsApart : FlatNet → Type 0
-AreInputsApart f = All (λ text. (Contains (register_texts f) text → ⊥) × (Contains f.outs text → ⊥)) f.ins
+AreInputsApart f = All (λ text. (Contains (state_texts f) text → ⊥) × (Contains f.outs text → ⊥)) f.ins
 
 -- an output with the text of a register is this register
 abbrev pub IsItsRegister : FlatNet → ℕ → Type 0

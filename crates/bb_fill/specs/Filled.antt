@@ -6,17 +6,17 @@ use Rattle.std.specs.Prelude.{ℕ, ◌+◌, ◌-◌, ◌^◌, if◌then◌else�
 use Rattle.std.specs.List.{flat_map, range_with_len, slice_index_or}
 use Rattle.std.specs.Option.{unwrap_or}
 use Rattle.bb_bits.specs.Earlier.{has_name}
-use Rattle.bb_bits.specs.Tables.{TableBits}
+use Rattle.bb_bits.specs.Tables.{TableBits, column}
 use Rattle.bb_net.specs.declared.cell.Cell.{Cell}
 use Rattle.bb_net.specs.declared.cell.Cell.TheVariants as cells
 use Rattle.bb_net.specs.declared.flat.Reg.{Reg as Register}
 use Rattle.bb_net.specs.Netlists.{Pins, box_at, cell_at}
 use Rattle.bb_net.specs.Values.{table_at}
 use Rattle.bb_net.specs.Flats.{FlatNet}
-use Rattle.bb_net.specs.CutPoints.{clock_text, register_texts}
+use Rattle.bb_net.specs.CutPoints.{clock_text, state_texts}
 use Rattle.bb_fill.specs.Words.{NetWord, Bit, Named, CellNet, stem_of, word_at}
 use Rattle.bb_fill.specs.Lines.{Line, Module, Input, Output, Reg, Gate, Assign, Always, End, Not, And, Or, Xor, Buf, line_text}
-use Rattle.bb_fill.specs.Trees.{column, tree_lines, tree_values}
+use Rattle.bb_fill.specs.Trees.{tree_lines, tree_values}
 
 -- how many choices implement a cell: a tree over n input pins has 2^n - 1
 abbrev pub choice_count : List Pins → Cell → ℕ
@@ -58,7 +58,7 @@ output_text f o = slice_index_or f.outs o []
 
 -- the line of an output; one that has the text of a register is this register, and has none
 abbrev pub output_lines : FlatNet → ℕ → List Line
-output_lines f o = if has_name (output_text f o) (register_texts f) then [] else Gate Buf (Named (output_text f o)) (word_at f (slice_index f.net.outs o) ∷ []) ∷ []
+output_lines f o = if has_name (output_text f o) (state_texts f) then [] else Gate Buf (Named (output_text f o)) (word_at f (slice_index f.net.outs o) ∷ []) ∷ []
 
 -- what the register with a number takes: the netlist's output after those of the top
 abbrev pub next_word : FlatNet → ℕ → NetWord
@@ -75,7 +75,7 @@ register_lines f r (register ∷ registers) = register_line f r register ∷ reg
 -- all lines of the text; there is one table for each box
 abbrev pub filled_lines : FlatNet → List TableBits → List Line
 filled_lines f tables =
-    Module (f.ins ++ f.outs) ∷ map Input f.ins ++ map Output f.outs ++ map Reg (register_texts f)
+    Module (f.ins ++ f.outs) ∷ map Input f.ins ++ map Output f.outs ++ map Reg (state_texts f)
     ++ lines_of_cells f tables ++ flat_map (output_lines f) (range_with_len 0 (length f.outs)) ++ register_lines f 0 f.regs ++ End ∷ []
 
 abbrev pub filled_text : FlatNet → List TableBits → List ℕ

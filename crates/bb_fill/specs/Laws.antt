@@ -2,15 +2,15 @@
 use Rattle.std.specs.Prelude.{◌≡◌, ◌≢◌, ◌⊎◌, ℕ, ◌+◌, ◌<◌, ◌^◌, Bool, true, false, not, ◌&&◌, ◌||◌, if◌then◌else◌, List, [], ◌∷◌, ◌++◌, length, map, reverse, fold, All, AllPairs, Contains, Option, None, Some, codes, decimal, slice_get}
 use Rattle.std.specs.List.{flat_map, slice_index_or}
 use Rattle.bb_bits.specs.Numbers.{number_of}
-use Rattle.bb_bits.specs.Tables.{TableBits, table_bit}
+use Rattle.bb_bits.specs.Tables.{TableBits, table_bit, column}
 use Rattle.bb_net.specs.declared.flat.Reg.{Reg as Register}
 use Rattle.bb_net.specs.Equivalence.{IsVector, out_bit}
-use Rattle.bb_net.specs.CutPoints.{clock_text, register_texts}
+use Rattle.bb_net.specs.CutPoints.{clock_text, state_texts}
 use Rattle.bb_net.specs.Flats.{FlatNet, IsFlat, HaveClocks}
 use Rattle.bb_net.specs.Values.{FitBoxes, bit_of, flat_with, xor}
 use Rattle.bb_fill.specs.Words.{NetWord, Bit, Named, CellNet, ChoiceNet, stem_of, texts_of, word_at}
 use Rattle.bb_fill.specs.Lines.{Line, Primitive, Not, And, Or, Xor, Buf, Module, Input, Output, Reg, Gate, Assign, Always, End}
-use Rattle.bb_fill.specs.Trees.{column, tree_lines, tree_values}
+use Rattle.bb_fill.specs.Trees.{tree_lines, tree_values}
 use Rattle.bb_fill.specs.Filled.{filled_lines, output_text}
 use Rattle.bb_fill.specs.Clashes.{AreNamesApart}
 use Rattle.bb_fill.specs.Sizes.{IsSmallText, net_count}
@@ -71,7 +71,7 @@ WordsAreApart = (f : FlatNet) (one other : NetWord) (name : List ℕ) → IsWord
 -- numbers are themselves, and the names of inputs and registers have the bits of a vector of the netlist
 pub record GivesBitsOf (f : FlatNet) (x : List Bool) (bit : NetWord → Bool) : Type 0 where
   pub numbers : (b : Bool) → bit (Bit b) ≡ b
-  pub inputs : (i : ℕ) → i < f.net.inputs → bit (Named (slice_index_or (f.ins ++ register_texts f) i [])) ≡ bit_of x i
+  pub inputs : (i : ℕ) → i < f.net.inputs → bit (Named (slice_index_or (f.ins ++ state_texts f) i [])) ≡ bit_of x i
 
 -- where the lines are met at a vector, each cell's word has the cell's bit by the tables, and so has each output's name
 pub record HaveBits (f : FlatNet) (tables : List TableBits) (x : List Bool) (bit : NetWord → Bool) : Type 0 where
@@ -154,4 +154,4 @@ WordsAreOfNetlist = (f : FlatNet) (tables : List TableBits) → IsReady f tables
 -- what a line reads is a number, an input, a register, or driven by a line before it, so no net depends on itself but through a register
 abbrev pub LinesReadWhatIsDriven : Type 0
 LinesReadWhatIsDriven = (f : FlatNet) (tables : List TableBits) → IsReady f tables → HaveClocks f → (before after : List Line) (line : Line) → filled_lines f tables ≡ before ++ line ∷ after
-    → All (λ word. IsNumber word ⊎ Contains (map Named (f.ins ++ register_texts f) ++ flat_map driven before) word) (line_reads line)
+    → All (λ word. IsNumber word ⊎ Contains (map Named (f.ins ++ state_texts f) ++ flat_map driven before) word) (line_reads line)

@@ -7,7 +7,7 @@ use Rattle.std.specs.List.{filter}
 use Rattle.bb_bits.specs.Earlier.{has_name}
 use Rattle.bb_bits.specs.Tables.{TableBits}
 use Rattle.bb_net.specs.Flats.{FlatNet}
-use Rattle.bb_net.specs.CutPoints.{register_texts}
+use Rattle.bb_net.specs.CutPoints.{state_texts}
 use Rattle.bb_fill.specs.Lines.{Line, Gate, Buf}
 use Rattle.bb_fill.specs.Filled.{filled_text, lines_of_cells}
 
@@ -22,7 +22,7 @@ most_filled_cells = 2000000
 
 -- the outputs that are no registers
 abbrev pub plain_outputs : FlatNet → List (List ℕ)
-plain_outputs f = filter (λ text. not (has_name text (register_texts f))) f.outs
+plain_outputs f = filter (λ text. not (has_name text (state_texts f))) f.outs
 
 -- how many bits of nets the text has
 abbrev pub net_count : FlatNet → List TableBits → ℕ

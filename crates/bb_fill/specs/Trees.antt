@@ -3,15 +3,11 @@
 -- first: a node has the value of its right side where the input pin is 1, and that of its left side where it is 0. So
 -- the root has the pin's bit in the row whose number the bits at the input pins spell, the first pin most significant.
 -- Each node is a conditional (IEEE 1364-2005, 5.1.13) with a net of its own.
-use Rattle.std.specs.Prelude.{ℕ, ◌+◌, ◌/◌, ◌^◌, Bool, List, [], ◌∷◌, ◌++◌, length, map}
+use Rattle.std.specs.Prelude.{ℕ, ◌+◌, ◌/◌, Bool, List, [], ◌∷◌, ◌++◌, length, map}
 use Rattle.std.specs.List.{range_with_len}
-use Rattle.bb_bits.specs.Tables.{TableBits, table_bit}
+use Rattle.bb_bits.specs.Tables.{TableBits, column}
 use Rattle.bb_fill.specs.Words.{NetWord, ChoiceNet}
 use Rattle.bb_fill.specs.Lines.{Line, Assign}
-
--- the bits of an output pin in all rows
-abbrev pub column : TableBits → ℕ → List Bool
-column t pin = map (λ row. table_bit t row pin) (range_with_len 0 (2 ^ t.inputs))
 
 -- choices by a pin between each two neighbouring values, which are numbered on from a number
 abbrev pub halved : NetWord → ℕ → List NetWord → List Line

@@ -9,7 +9,7 @@ use Rattle.bb_net.specs.declared.cell.Cell.{Cell}
 use Rattle.bb_net.specs.declared.cell.Cell.TheVariants.{Const, Input}
 use Rattle.bb_net.specs.Netlists.{cell_at}
 use Rattle.bb_net.specs.Flats.{FlatNet}
-use Rattle.bb_net.specs.CutPoints.{register_texts}
+use Rattle.bb_net.specs.CutPoints.{state_texts}
 
 pub data NetWord : Type 0 where
   -- a bit, as a number of one bit
@@ -44,7 +44,7 @@ maximum (n ∷ ns) = max n (maximum ns)
 
 -- the texts of a netlist's inputs, registers and outputs
 abbrev pub texts_of : FlatNet → List (List ℕ)
-texts_of f = f.ins ++ register_texts f ++ f.outs
+texts_of f = f.ins ++ state_texts f ++ f.outs
 
 -- `_` once more than any text begins with
 abbrev pub stem_of : FlatNet → List ℕ
@@ -54,7 +54,7 @@ stem_of f = replicate (maximum (map leading (texts_of f)) + 1) 95
 -- else its net. The inputs of the netlist are those of the top and then the registers.
 abbrev pub cell_word : FlatNet → ℕ → Cell → NetWord
 cell_word f number (Const b) = Bit b
-cell_word f number (Input i) = Named (slice_index_or (f.ins ++ register_texts f) i [])
+cell_word f number (Input i) = Named (slice_index_or (f.ins ++ state_texts f) i [])
 cell_word f number cell = CellNet number
 
 abbrev pub word_at : FlatNet → ℕ → NetWord

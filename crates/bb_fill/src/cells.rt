@@ -3,7 +3,7 @@
 
 ghost use Rattle.std.specs.Prelude.{◌≡◌, ◌+◌, ◌<◌, ◌^◌, length, replicate, sum_by};
 ghost use Rattle.std.specs.List.{flat_map};
-ghost use Rattle.bb_net.specs.Kinds.{spread};
+ghost use Rattle.bb_net.specs.Kinds.{per_box};
 ghost use Rattle.bb_net.specs.Netlists.{cell_at};
 ghost use Rattle.bb_net.specs.Values.{FitBoxes};
 ghost use Rattle.bb_fill.specs.Lines.{line_text};
@@ -19,7 +19,7 @@ use bb_net::{Cell, Flat};
 
 /// The number of inner nodes of a box pin's tree, 2^n - 1 for n input pins; 0 for other cells.
 pub(crate) fn choice_count(flat: &Flat, tables: &[Table], kinds: &[u32], number: u32) -> u32
-    requires tables { FitBoxes (spread kinds.now tables.now) flat.now.net.boxes }
+    requires tables { FitBoxes (per_box kinds.now tables.now) flat.now.net.boxes }
     requires there { number < length flat.now.net.cells }
     ensures count { result ≡ choice_count flat.now.net.boxes (cell_at flat.now.net.cells number) }
     ensures few { result < 2 ^ 25 }
@@ -40,11 +40,12 @@ fn put_cell(
     first: u32,
     number: u32,
 )
-    requires tables { FitBoxes (spread kinds.now tables.now) flat.now.net.boxes }
+    requires tables { FitBoxes (per_box kinds.now tables.now) flat.now.net.boxes }
     requires there { number < length flat.now.net.cells }
     requires first { first ≡ first_choice flat.now number }
     requires room { first + choice_count flat.now.net.boxes (cell_at flat.now.net.cells number) < 2 ^ 32 }
-    ensures adds { Adds out.old out.new (flat_map (line_text (replicate stem 95)) (cell_lines flat.now (spread kinds.now tables.now) number (cell_at flat.now.net.cells number))) }
+    ensures adds { Adds out.old out.new (flat_map (line_text (replicate stem 95)) (cell_lines flat.now
+        (per_box kinds.now tables.now) number (cell_at flat.now.net.cells number))) }
 {
     match cell_of(flat, number) {
         Cell::Const(_) | Cell::Input(_) => {}
@@ -68,9 +69,10 @@ pub(crate) fn put_cells(
     kinds: &[u32],
     stem: usize,
 )
-    requires tables { FitBoxes (spread kinds.now tables.now) flat.now.net.boxes }
+    requires tables { FitBoxes (per_box kinds.now tables.now) flat.now.net.boxes }
     requires room { sum_by (choice_count flat.now.net.boxes) flat.now.net.cells < 2 ^ 32 }
-    ensures adds { Adds out.old out.new (flat_map (line_text (replicate stem 95)) (lines_of_cells flat.now (spread kinds.now tables.now))) }
+    ensures adds { Adds out.old out.new (flat_map (line_text (replicate stem 95)) (lines_of_cells flat.now
+        (per_box kinds.now tables.now))) }
 {
     let mut first = 0;
     for number in 0..cell_count(flat) {

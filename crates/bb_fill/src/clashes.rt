@@ -5,7 +5,8 @@
 ghost use Rattle.std.specs.Prelude.{◌≡◌, ◌≢◌, ◌+◌, ◌<◌, All, length, IfSome, IfNone, MatchBool};
 ghost use Rattle.bb_bits.specs.Closures.{IsFirst};
 ghost use Rattle.bb_net.specs.Netlists.{cell_at};
-ghost use Rattle.bb_fill.specs.Clashes.{AreInputsApart, AreNamesApart, IsClash, IsInputClash, IsItsRegister, IsOutputClash, output_numbers, state_cell};
+ghost use Rattle.bb_fill.specs.Clashes.{AreInputsApart, AreNamesApart, IsClash, IsInputClash, IsItsRegister};
+ghost use Rattle.bb_fill.specs.Clashes.{IsOutputClash, output_numbers, state_cell};
 ghost use Rattle.bb_fill.specs.Inside.Indexes.{IsIndex};
 
 use crate::index::{Texts, is_taken, register_of};
@@ -40,7 +41,8 @@ fn state_input(flat: &Flat, r: u32) -> u32
 fn is_state(flat: &Flat, place: u32, r: u32) -> bool
     requires there { place < length flat.now.net.cells }
     requires register { r < length flat.now.regs }
-    ensures state { MatchBool result (cell_at flat.now.net.cells place ≡ state_cell flat.now r) (cell_at flat.now.net.cells place ≢ state_cell flat.now r) }
+    ensures state { MatchBool result (cell_at flat.now.net.cells place ≡ state_cell flat.now r)
+        (cell_at flat.now.net.cells place ≢ state_cell flat.now r) }
 {
     match cell_of(flat, place) {
         Cell::Input(i) => i == state_input(flat, r),
@@ -61,7 +63,8 @@ fn is_output_clash(flat: &Flat, texts: &Texts, o: u32) -> bool
 
 fn first_output<'a>(flat: &'a Flat, texts: &Texts) -> Option<u32>
     requires index { IsIndex flat.now texts.now.entries }
-    ensures some { IfSome result (λ o. (o < length flat.now.outs) × IsFirst (IsOutputClash flat.now) (output_numbers flat.now) o) }
+    ensures some { IfSome result (λ o.
+        (o < length flat.now.outs) × IsFirst (IsOutputClash flat.now) (output_numbers flat.now) o) }
     ensures none { IfNone result (All (IsItsRegister flat.now) (output_numbers flat.now)) }
 {
     for o in 0..output_count(flat) {

@@ -5,7 +5,7 @@
 //! a text that is not.
 
 ghost use Rattle.std.specs.Prelude.{◌≡◌, ◌-◌, ◌<◌, ◌≤◌, ◌^◌, length, replicate, sum_by, IfOk, IfSome};
-ghost use Rattle.bb_net.specs.Kinds.{spread};
+ghost use Rattle.bb_net.specs.Kinds.{per_box};
 ghost use Rattle.bb_net.specs.Values.{FitBoxes};
 ghost use Rattle.bb_fill.specs.Answers.{Answer, IsFillAnswer, answer_of};
 ghost use Rattle.bb_fill.specs.Clashes.{AreNamesApart};
@@ -42,12 +42,13 @@ fn byte_count(
     stem: usize,
 ) -> u64
     requires clocks { HaveClocks flat.now }
-    requires tables { FitBoxes (spread kinds.now tables.now) flat.now.net.boxes }
+    requires tables { FitBoxes (per_box kinds.now tables.now) flat.now.net.boxes }
     requires index { IsIndex flat.now texts.now.entries }
     requires room { sum_by (choice_count flat.now.net.boxes) flat.now.net.cells < 2 ^ 32 }
     requires stem { replicate stem 95 ≡ stem_of flat.now }
-    ensures counted { length (filled_text flat.now (spread kinds.now tables.now)) < 2 ^ 64 → result ≡ length (filled_text flat.now (spread kinds.now tables.now)) }
-    ensures full { 2 ^ 64 ≤ length (filled_text flat.now (spread kinds.now tables.now)) → 2 ^ 64 - 1 ≤ result }
+    ensures counted { length (filled_text flat.now (per_box kinds.now tables.now)) < 2 ^ 64
+        → result ≡ length (filled_text flat.now (per_box kinds.now tables.now)) }
+    ensures full { 2 ^ 64 ≤ length (filled_text flat.now (per_box kinds.now tables.now)) → 2 ^ 64 - 1 ≤ result }
 {
     let mut text_buffer = TextBuffer::new(Vec::new(alloc), 0);
     put_text(&mut text_buffer, flat, tables, kinds, texts, stem);
@@ -65,12 +66,12 @@ fn text_of(
     bytes: u32,
 ) -> Result<Vec<u8>, NoMemory>
     requires clocks { HaveClocks flat.now }
-    requires tables { FitBoxes (spread kinds.now tables.now) flat.now.net.boxes }
+    requires tables { FitBoxes (per_box kinds.now tables.now) flat.now.net.boxes }
     requires index { IsIndex flat.now texts.now.entries }
     requires room { sum_by (choice_count flat.now.net.boxes) flat.now.net.cells < 2 ^ 32 }
     requires stem { replicate stem 95 ≡ stem_of flat.now }
-    requires bytes { length (filled_text flat.now (spread kinds.now tables.now)) ≡ bytes }
-    ensures text { IfOk result (λ text. text.items ≡ filled_text flat.now (spread kinds.now tables.now)) }
+    requires bytes { length (filled_text flat.now (per_box kinds.now tables.now)) ≡ bytes }
+    ensures text { IfOk result (λ text. text.items ≡ filled_text flat.now (per_box kinds.now tables.now)) }
 {
     let text = Vec::with_capacity(alloc, bytes as usize)?;
     let mut text_buffer = TextBuffer::new(text, bytes);
@@ -87,11 +88,11 @@ fn fill_apart(
     texts: &Texts,
 ) -> Result<Vec<u8>, FillFault>
     requires clocks { HaveClocks flat.now }
-    requires tables { FitBoxes (spread kinds.now tables.now) flat.now.net.boxes }
+    requires tables { FitBoxes (per_box kinds.now tables.now) flat.now.net.boxes }
     requires index { IsIndex flat.now texts.now.entries }
     requires apart { AreNamesApart flat.now }
-    ensures answer { IfSome (answer_of result) (IsFillAnswer flat.now (spread kinds.now tables.now)) }
-    ensures text { IfOk result (λ text. text.items ≡ filled_text flat.now (spread kinds.now tables.now)) }
+    ensures answer { IfSome (answer_of result) (IsFillAnswer flat.now (per_box kinds.now tables.now)) }
+    ensures text { IfOk result (λ text. text.items ≡ filled_text flat.now (per_box kinds.now tables.now)) }
 {
     if net_count(flat, tables, kinds, texts) > MOST_NETS {
         return Err(FillFault::TooLarge);
@@ -118,12 +119,13 @@ pub fn fill(
     kinds: &[u32],
 ) -> Result<Vec<u8>, FillFault>
     requires clocks { HaveClocks flat.now }
-    requires tables { FitBoxes (spread kinds.now tables.now) flat.now.net.boxes }
-    ensures answer { IfSome (answer_of result) (IsFillAnswer flat.now (spread kinds.now tables.now)) }
-    ensures text { IfOk result (λ text. text.items ≡ filled_text flat.now (spread kinds.now tables.now)) }
+    requires tables { FitBoxes (per_box kinds.now tables.now) flat.now.net.boxes }
+    ensures answer { IfSome (answer_of result) (IsFillAnswer flat.now (per_box kinds.now tables.now)) }
+    ensures text { IfOk result (λ text. text.items ≡ filled_text flat.now (per_box kinds.now tables.now)) }
 
     // There is only one answer, so another result excludes it.
-    ensures due { (answer : Answer) → IsFillAnswer flat.now (spread kinds.now tables.now) answer → IfSome (answer_of result) (λ given. given ≡ answer) }
+    ensures due { (answer : Answer) → IsFillAnswer flat.now (per_box kinds.now tables.now) answer
+        → IfSome (answer_of result) (λ given. given ≡ answer) }
 {
     answers_are_one();
     let texts = index_of(alloc, flat)?;

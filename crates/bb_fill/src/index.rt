@@ -3,7 +3,7 @@
 
 ghost use Rattle.std.specs.Prelude.{◌≡◌, ◌+◌, ◌<◌, ◌⊎◌, ℕ, length, Contains, IfOk, IfSome, IfNone, MatchBool, OnOk, []};
 ghost use Rattle.bb_bits.specs.Earlier.{has_name};
-ghost use Rattle.bb_net.specs.CutPoints.{register_texts};
+ghost use Rattle.bb_net.specs.CutPoints.{state_texts};
 ghost use Rattle.bb_fill.specs.Clashes.{register_text};
 ghost use Rattle.bb_fill.specs.Inside.Indexes.{IsIndex, IsIndexUpTo};
 
@@ -65,7 +65,8 @@ pub(crate) fn register_of(flat: &Flat, texts: &Texts, text: &Name) -> Option<u32
 /// An input with such a text clashes.
 pub(crate) fn is_taken(flat: &Flat, texts: &Texts, text: &Name) -> bool
     requires index { IsIndex flat.now texts.now.entries }
-    ensures taken { MatchBool result (Contains (register_texts flat.now) text.now ⊎ Contains flat.now.outs text.now) ((Contains (register_texts flat.now) text.now → ⊥) × (Contains flat.now.outs text.now → ⊥)) }
+    ensures taken { MatchBool result (Contains (state_texts flat.now) text.now ⊎ Contains flat.now.outs text.now)
+        ((Contains (state_texts flat.now) text.now → ⊥) × (Contains flat.now.outs text.now → ⊥)) }
 {
     let _ = flat;
     texts.contains_key(text)
@@ -74,7 +75,7 @@ pub(crate) fn is_taken(flat: &Flat, texts: &Texts, text: &Name) -> bool
 /// Such an output needs no line: it is the register.
 pub(crate) fn is_register(flat: &Flat, texts: &Texts, text: &Name) -> bool
     requires index { IsIndex flat.now texts.now.entries }
-    ensures register { result ≡ has_name text.now (register_texts flat.now) }
+    ensures register { result ≡ has_name text.now (state_texts flat.now) }
 {
     register_of(flat, texts, text).is_some()
 }

@@ -2,7 +2,8 @@
 //! show that a design has them. Each function has a law as its contract and does nothing.
 
 ghost use Rattle.bb_fill.specs.Laws.{AnswersAreOne, AnswersExist, LinesCanBeMet, LinesHaveBits, LinesReadWhatIsDriven};
-ghost use Rattle.bb_fill.specs.Laws.{NetsAreDrivenOnce, RegistersTakeBits, TreesChoose, WordsAreApart, WordsAreNets, WordsAreOfNetlist};
+ghost use Rattle.bb_fill.specs.Laws.{NetsAreDrivenOnce, RegistersTakeBits, TreesChoose, WordsAreApart, WordsAreNets};
+ghost use Rattle.bb_fill.specs.Laws.{WordsAreOfNetlist};
 
 use bb_bits::{number_doubles, number_is_below};
 use bb_net::{value_exists, value_is_unique};

@@ -1,8 +1,8 @@
 //! The implementation with its boxes filled, printed as one module in Verilog. The text is defined as a list of lines,
 //! each an item of the language, and printed from them. What the lines say of bits is said for all values of their
 //! words that meet them: some values do, each net is driven once, and a line reads only what comes before it, so no net
-//! depends on itself. This rests on netlists alone; that the text reads as its module (`bb_readback`) and what this
-//! module means as a design (`bb_readback`) are crates of their own, so only the top call waits for both.
+//! depends on itself. This rests on netlists alone; that the text reads as its module, and what this module
+//! means as a design, is in a crate of its own (`bb_readback`), so only the top call waits for it.
 #![tactic(auto)]
 
 mod cells;

@@ -63,7 +63,9 @@ pub(crate) fn put_gate_of_one(
     a: u32,
 )
     requires there { a < length flat.now.net.cells }
-    ensures adds { Adds out.old out.new (gate.now ++ codes "(" ++ with_commas (map (word_text (replicate stem 95)) (CellNet number ∷ word_at flat.now a ∷ [])) ++ codes ");\n") }
+    ensures adds { Adds out.old out.new (gate.now ++ codes "("
+        ++ with_commas (map (word_text (replicate stem 95)) (CellNet number ∷ word_at flat.now a ∷ []))
+        ++ codes ");\n") }
 {
     put_gate(out, gate, stem, number);
     put_operand(out, flat, stem, a);
@@ -81,7 +83,10 @@ pub(crate) fn put_gate_of_two(
 )
     requires first { a < length flat.now.net.cells }
     requires second { b < length flat.now.net.cells }
-    ensures adds { Adds out.old out.new (gate.now ++ codes "(" ++ with_commas (map (word_text (replicate stem 95)) (CellNet number ∷ word_at flat.now a ∷ word_at flat.now b ∷ [])) ++ codes ");\n") }
+    ensures adds { Adds out.old out.new (gate.now ++ codes "("
+        ++ with_commas (map (word_text (replicate stem 95)) (CellNet number ∷ word_at flat.now a
+        ∷ word_at flat.now b ∷ []))
+        ++ codes ");\n") }
 {
     put_gate(out, gate, stem, number);
     put_operand(out, flat, stem, a);
@@ -102,7 +107,8 @@ pub(crate) fn put_multiplexer(
     requires condition { c < length flat.now.net.cells }
     requires high { t < length flat.now.net.cells }
     requires low { e < length flat.now.net.cells }
-    ensures adds { Adds out.old out.new (line_text (replicate stem 95) (Assign (CellNet number) (word_at flat.now c) (word_at flat.now t) (word_at flat.now e))) }
+    ensures adds { Adds out.old out.new (line_text (replicate stem 95) (Assign (CellNet number) (word_at flat.now c)
+        (word_at flat.now t) (word_at flat.now e))) }
 {
     out.put(b"assign ");
     put_net(out, stem, number);
@@ -118,7 +124,8 @@ pub(crate) fn put_multiplexer(
 /// A `buf`, which elaboration does not count as a cell.
 pub(crate) fn put_copy(out: &mut TextBuffer, flat: &Flat, stem: usize, name: &Name, place: u32)
     requires there { place < length flat.now.net.cells }
-    ensures adds { Adds out.old out.new (line_text (replicate stem 95) (Gate Buf (Named name.now) (word_at flat.now place ∷ []))) }
+    ensures adds { Adds out.old out.new (line_text (replicate stem 95) (Gate Buf (Named name.now)
+        (word_at flat.now place ∷ []))) }
 {
     out.put(b"buf(");
     put_name(out, name);
@@ -127,7 +134,8 @@ pub(crate) fn put_copy(out: &mut TextBuffer, flat: &Flat, stem: usize, name: &Na
 }
 
 fn put_edge(out: &mut TextBuffer, falling: bool, clock: &Name)
-    ensures adds { Adds out.old out.new (codes "always @(" ++ (if falling then codes "negedge " else codes "posedge ") ++ printed clock.now ++ codes ") ") }
+    ensures adds { Adds out.old out.new (codes "always @("
+        ++ (if falling then codes "negedge " else codes "posedge ") ++ printed clock.now ++ codes ") ") }
 {
     out.put(b"always @(");
     if falling {
@@ -149,7 +157,8 @@ pub(crate) fn put_register(
     place: u32,
 )
     requires there { place < length flat.now.net.cells }
-    ensures adds { Adds out.old out.new (line_text (replicate stem 95) (Always reg.now.falling clock.now reg.now.text (word_at flat.now place))) }
+    ensures adds { Adds out.old out.new (line_text (replicate stem 95) (Always reg.now.falling clock.now
+        reg.now.text (word_at flat.now place))) }
 {
     put_edge(out, reg.falling, clock);
     put_name(out, &reg.text);

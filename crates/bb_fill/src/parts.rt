@@ -3,7 +3,7 @@
 
 ghost use Rattle.std.specs.Prelude.{◌≡◌, ◌+◌, ◌<◌, ◌^◌, ℕ, All, length, slice_index};
 ghost use Rattle.bb_net.specs.Flats.{IsFlat};
-ghost use Rattle.bb_net.specs.Kinds.{spread};
+ghost use Rattle.bb_net.specs.Kinds.{per_box};
 ghost use Rattle.bb_net.specs.Netlists.{ReadsBefore, box_at, cell_at};
 ghost use Rattle.bb_net.specs.Values.{FitBoxes, table_at};
 ghost use Rattle.bb_fill.specs.Clashes.{register_text};
@@ -24,7 +24,8 @@ pub(crate) fn cell_of(flat: &Flat, number: u32) -> Cell
     requires there { number < length flat.now.net.cells }
     ensures cell { result ≡ cell_at flat.now.net.cells number }
     ensures reads { ReadsBefore flat.now.net.inputs flat.now.net.boxes (length flat.now.net.cells) result }
-    ensures pin { (b p : ℕ) → result ≡ Cell.BoxOut b p → (b < length flat.now.net.boxes) × (p < length (box_at flat.now.net.boxes b).outs) }
+    ensures pin { (b p : ℕ) → result ≡ Cell.BoxOut b p
+        → (b < length flat.now.net.boxes) × (p < length (box_at flat.now.net.boxes b).outs) }
 {
     flat.net().cells()[number as usize]
 }
@@ -46,9 +47,9 @@ pub(crate) fn table_of<'a>(
     b: u32,
     p: u32,
 ) -> &'a Table
-    requires tables { FitBoxes (spread kinds.now tables.now) flat.now.net.boxes }
+    requires tables { FitBoxes (per_box kinds.now tables.now) flat.now.net.boxes }
     requires pin { (b < length flat.now.net.boxes) × (p < length (box_at flat.now.net.boxes b).outs) }
-    ensures table { result.now ≡ table_at (spread kinds.now tables.now) b }
+    ensures table { result.now ≡ table_at (per_box kinds.now tables.now) b }
     ensures inputs { result.now.inputs ≡ length (box_at flat.now.net.boxes b).ins }
     ensures pin { p < result.now.outputs }
 {

@@ -1,10 +1,11 @@
 //! The sections of the text in order: header, declarations, cells, outputs, registers. Cells come before outputs, so
 //! that a line reads only what is driven before it.
 
-ghost use Rattle.std.specs.Prelude.{◌≡◌, ◌<◌, ◌^◌, ◌++◌, [], ℕ, List, IsSome, IfSome, if◌then◌else◌, codes, length, map, replicate, sum_by};
+ghost use Rattle.std.specs.Prelude.{◌≡◌, ◌<◌, ◌^◌, ◌++◌, [], ℕ, List, IsSome, IfSome, if◌then◌else◌, codes, length};
+ghost use Rattle.std.specs.Prelude.{map, replicate, sum_by};
 ghost use Rattle.std.specs.List.{flat_map, range_with_len};
-ghost use Rattle.bb_net.specs.CutPoints.{register_texts};
-ghost use Rattle.bb_net.specs.Kinds.{spread};
+ghost use Rattle.bb_net.specs.CutPoints.{state_texts};
+ghost use Rattle.bb_net.specs.Kinds.{per_box};
 ghost use Rattle.bb_net.specs.Values.{FitBoxes};
 ghost use Rattle.bb_fill.specs.Words.{printed, stem_of};
 ghost use Rattle.bb_fill.specs.Lines.{Module, line_text};
@@ -58,7 +59,9 @@ fn put_header(out: &mut TextBuffer, flat: &Flat)
 }
 
 fn put_all_declarations(out: &mut TextBuffer, flat: &Flat)
-    ensures adds { (stem : List ℕ) → Adds out.old out.new (flat_map (line_text stem) (map line.Input flat.now.ins ++ map line.Output flat.now.outs ++ map line.Reg (register_texts flat.now))) }
+    ensures adds { (stem : List ℕ)
+        → Adds out.old out.new (flat_map (line_text stem) (map line.Input flat.now.ins
+        ++ map line.Output flat.now.outs ++ map line.Reg (state_texts flat.now))) }
 {
     put_declarations(out, "input ", flat.ins());
     put_declarations(out, "output ", flat.outs());
@@ -79,7 +82,8 @@ fn put_output(out: &mut TextBuffer, flat: &Flat, texts: &Texts, stem: usize, o: 
 
 fn put_outputs(out: &mut TextBuffer, flat: &Flat, texts: &Texts, stem: usize)
     requires index { IsIndex flat.now texts.now.entries }
-    ensures adds { Adds out.old out.new (flat_map (line_text (replicate stem 95)) (flat_map (output_lines flat.now) (range_with_len 0 (length flat.now.outs)))) }
+    ensures adds { Adds out.old out.new (flat_map (line_text (replicate stem 95)) (flat_map (output_lines flat.now)
+        (range_with_len 0 (length flat.now.outs)))) }
 {
     for o in 0..output_count(flat) {
         put_output(out, flat, texts, stem, o);
@@ -102,7 +106,8 @@ fn put_state(out: &mut TextBuffer, flat: &Flat, stem: usize, r: u32, reg: &Reg)
 
 fn put_states(out: &mut TextBuffer, flat: &Flat, stem: usize)
     requires clocks { HaveClocks flat.now }
-    ensures adds { Adds out.old out.new (flat_map (line_text (replicate stem 95)) (register_lines flat.now 0 flat.now.regs)) }
+    ensures adds { Adds out.old out.new (flat_map (line_text (replicate stem 95)) (register_lines flat.now 0
+        flat.now.regs)) }
 {
     for (r, reg) in flat.regs().iter().enumerate() {
         put_state(out, flat, stem, r as u32, reg);
@@ -118,11 +123,11 @@ pub(crate) fn put_text(
     stem: usize,
 )
     requires clocks { HaveClocks flat.now }
-    requires tables { FitBoxes (spread kinds.now tables.now) flat.now.net.boxes }
+    requires tables { FitBoxes (per_box kinds.now tables.now) flat.now.net.boxes }
     requires index { IsIndex flat.now texts.now.entries }
     requires room { sum_by (choice_count flat.now.net.boxes) flat.now.net.cells < 2 ^ 32 }
     requires stem { replicate stem 95 ≡ stem_of flat.now }
-    ensures adds { Adds out.old out.new (filled_text flat.now (spread kinds.now tables.now)) }
+    ensures adds { Adds out.old out.new (filled_text flat.now (per_box kinds.now tables.now)) }
 {
     put_header(out, flat);
     put_all_declarations(out, flat);

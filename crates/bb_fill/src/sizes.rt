@@ -2,7 +2,7 @@
 //! comes first: within its bound choices have numbers of 32 bits, which the printer needs.
 
 ghost use Rattle.std.specs.Prelude.{◌≡◌, ◌<◌, ◌≤◌, ◌^◌, length, sum_by};
-ghost use Rattle.bb_net.specs.Kinds.{spread};
+ghost use Rattle.bb_net.specs.Kinds.{per_box};
 ghost use Rattle.bb_net.specs.Netlists.{cell_at};
 ghost use Rattle.bb_net.specs.Values.{FitBoxes};
 ghost use Rattle.bb_fill.specs.Filled.{cell_lines, choice_count, lines_of_cells};
@@ -17,9 +17,10 @@ use bb_net::{Cell, Flat};
 
 // A tree over n pins gives 2^n - 1 choices and one `buf`.
 fn line_count(flat: &Flat, tables: &[Table], kinds: &[u32], number: u32) -> u64
-    requires tables { FitBoxes (spread kinds.now tables.now) flat.now.net.boxes }
+    requires tables { FitBoxes (per_box kinds.now tables.now) flat.now.net.boxes }
     requires there { number < length flat.now.net.cells }
-    ensures count { result ≡ length (cell_lines flat.now (spread kinds.now tables.now) number (cell_at flat.now.net.cells number)) }
+    ensures count { result
+        ≡ length (cell_lines flat.now (per_box kinds.now tables.now) number (cell_at flat.now.net.cells number)) }
     ensures choices { choice_count flat.now.net.boxes (cell_at flat.now.net.cells number) ≤ result }
     ensures few { result ≤ 2 ^ 25 }
 {
@@ -31,8 +32,8 @@ fn line_count(flat: &Flat, tables: &[Table], kinds: &[u32], number: u32) -> u64
 }
 
 fn all_line_count(flat: &Flat, tables: &[Table], kinds: &[u32]) -> u64
-    requires tables { FitBoxes (spread kinds.now tables.now) flat.now.net.boxes }
-    ensures count { result ≡ length (lines_of_cells flat.now (spread kinds.now tables.now)) }
+    requires tables { FitBoxes (per_box kinds.now tables.now) flat.now.net.boxes }
+    ensures count { result ≡ length (lines_of_cells flat.now (per_box kinds.now tables.now)) }
     ensures choices { sum_by (choice_count flat.now.net.boxes) flat.now.net.cells ≤ result }
     ensures few { result ≤ 2 ^ 57 }
 {
@@ -60,9 +61,9 @@ fn plain_count(flat: &Flat, texts: &Texts) -> u64
 
 /// Inputs, registers, further outputs, and one net for each line of a cell.
 pub(crate) fn net_count(flat: &Flat, tables: &[Table], kinds: &[u32], texts: &Texts) -> u64
-    requires tables { FitBoxes (spread kinds.now tables.now) flat.now.net.boxes }
+    requires tables { FitBoxes (per_box kinds.now tables.now) flat.now.net.boxes }
     requires index { IsIndex flat.now texts.now.entries }
-    ensures count { result ≡ net_count flat.now (spread kinds.now tables.now) }
+    ensures count { result ≡ net_count flat.now (per_box kinds.now tables.now) }
     ensures choices { sum_by (choice_count flat.now.net.boxes) flat.now.net.cells ≤ result }
 {
     let inputs = input_count(flat) as u64;

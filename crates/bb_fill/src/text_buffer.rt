@@ -2,7 +2,8 @@
 //! sheets, first one without room and then one of the right length: one printer, no growing list, and no error in the
 //! middle of a text.
 
-ghost use Rattle.std.specs.Prelude.{◌≡◌, ◌≤◌, ◌<◌, ◌+◌, ◌-◌, ◌^◌, ◌++◌, [], length, replicate, decimal, vec_len, vec_capacity};
+ghost use Rattle.std.specs.Prelude.{◌≡◌, ◌≤◌, ◌<◌, ◌+◌, ◌-◌, ◌^◌, ◌++◌, [], length, replicate, decimal, vec_len};
+ghost use Rattle.std.specs.Prelude.{vec_capacity};
 ghost use Rattle.bb_fill.specs.Inside.TextBuffers.{Adds};
 
 use itoa::Buffer;

@@ -3,11 +3,13 @@
 //! whatever the table has: its size and its names are known from the pins alone, so both are counted before anything is
 //! printed.
 
-ghost use Rattle.std.specs.Prelude.{◌≡◌, ◌+◌, ◌*◌, ◌^◌, ◌<◌, ◌≤◌, ◌++◌, ◌∷◌, [], ℕ, All, length, map, replicate, reverse};
+ghost use Rattle.std.specs.Prelude.{◌≡◌, ◌+◌, ◌*◌, ◌^◌, ◌<◌, ◌≤◌, ◌++◌, ◌∷◌, [], ℕ, All, length, map, replicate};
+ghost use Rattle.std.specs.Prelude.{reverse};
 ghost use Rattle.std.specs.List.{flat_map};
 ghost use Rattle.bb_fill.specs.Words.{Bit, CellNet, word_at, word_text};
 ghost use Rattle.bb_fill.specs.Lines.{Buf, Gate, line_text};
-ghost use Rattle.bb_fill.specs.Trees.{column, halved, tree_lines, tree_values};
+ghost use Rattle.bb_bits.specs.Tables.{column};
+ghost use Rattle.bb_fill.specs.Trees.{halved, tree_lines, tree_values};
 ghost use Rattle.bb_fill.specs.Inside.Levels.{HasValues, level_choice, level_words, value_word};
 ghost use Rattle.bb_fill.specs.Inside.TextBuffers.{Adds};
 
@@ -50,7 +52,8 @@ fn put_level_choice(
     requires pin { p < table.now.outputs }
     requires values { HasValues table.now values (2 * i + 2) }
     requires room { (first + i < 2 ^ 32) × (2 * i + 2 ≤ 2 ^ 32) }
-    ensures adds { Adds out.old out.new (line_text (replicate stem 95) (level_choice table.now p values (word_at flat.now pin) first i)) }
+    ensures adds { Adds out.old out.new (line_text (replicate stem 95) (level_choice table.now p values
+        (word_at flat.now pin) first i)) }
 {
     out.put(b"assign ");
     put_choice(out, stem, first + i);
@@ -78,7 +81,8 @@ fn put_level(
     requires pin { p < table.now.outputs }
     requires values { HasValues table.now values (2 * count) }
     requires room { (first + count ≤ 2 ^ 32) × (2 * count ≤ 2 ^ 32) }
-    ensures adds { Adds out.old out.new (flat_map (line_text (replicate stem 95)) (halved (word_at flat.now pin) first (level_words table.now p values (2 * count)))) }
+    ensures adds { Adds out.old out.new (flat_map (line_text (replicate stem 95)) (halved (word_at flat.now pin)
+        first (level_words table.now p values (2 * count)))) }
 {
     for i in 0..count {
         put_level_choice(out, flat, stem, pin, first, table, p, values, i);
@@ -102,8 +106,11 @@ fn put_levels(
     requires count { count ≡ 2 ^ length pins.now }
     requires values { HasValues table.now values count }
     requires room { first + count ≤ 2 ^ 32 }
-    ensures adds { Adds out.old out.new (flat_map (line_text (replicate stem 95)) (tree_lines (reverse (map (word_at flat.now) pins.now)) first (level_words table.now p values count))) }
-    ensures left { tree_values (reverse (map (word_at flat.now) pins.now)) first (level_words table.now p values count) ≡ level_words table.now p result 1 }
+    ensures adds { Adds out.old out.new (flat_map (line_text (replicate stem 95)) (tree_lines
+        (reverse (map (word_at flat.now) pins.now)) first (level_words table.now p values count))) }
+    ensures left { tree_values (reverse (map (word_at flat.now) pins.now)) first (level_words table.now p values
+        count)
+        ≡ level_words table.now p result 1 }
     ensures value { HasValues table.now result 1 }
 {
     let Some((last, rest)) = pins.split_last() else {
@@ -128,7 +135,8 @@ fn put_levels(
 fn put_root(out: &mut TextBuffer, table: &Table, p: u32, stem: usize, number: u32, values: Values)
     requires pin { p < table.now.outputs }
     requires value { HasValues table.now values 1 }
-    ensures adds { Adds out.old out.new (line_text (replicate stem 95) (Gate Buf (CellNet number) (level_words table.now p values 1))) }
+    ensures adds { Adds out.old out.new (line_text (replicate stem 95) (Gate Buf (CellNet number)
+        (level_words table.now p values 1))) }
 {
     out.put(b"buf(");
     put_net(out, stem, number);
@@ -163,8 +171,11 @@ pub(crate) fn put_pin(
     requires inputs { table.now.inputs ≡ length pins.now }
     requires pin { p < table.now.outputs }
     requires room { first + 2 ^ length pins.now ≤ 2 ^ 32 }
-    ensures adds { Adds out.old out.new (flat_map (line_text (replicate stem 95)) (tree_lines (reverse (map (word_at flat.now) pins.now)) first (map Bit (column table.now p))
-        ++ Gate Buf (CellNet number) (tree_values (reverse (map (word_at flat.now) pins.now)) first (map Bit (column table.now p))) ∷ [])) }
+    ensures adds { Adds out.old out.new (flat_map (line_text (replicate stem 95)) (tree_lines
+        (reverse (map (word_at flat.now) pins.now)) first (map Bit (column table.now p))
+        ++ Gate Buf (CellNet number) (tree_values (reverse (map (word_at flat.now) pins.now)) first
+        (map Bit (column table.now p)))
+        ∷ [])) }
 {
     let rows = row_count(table);
     let values = put_levels(out, flat, stem, pins, first, table, p, Values::Rows, rows);

@@ -4,7 +4,7 @@
 
 ghost use Rattle.std.specs.Prelude.{◌≡◌, ◌+◌, ◌<◌, ◌++◌, if◌then◌else◌, [], codes, decimal, length, map, replicate};
 ghost use Rattle.std.specs.List.{slice_index_or};
-ghost use Rattle.bb_net.specs.CutPoints.{register_texts};
+ghost use Rattle.bb_net.specs.CutPoints.{state_texts};
 ghost use Rattle.bb_fill.specs.Words.{printed, word_at, word_text};
 ghost use Rattle.bb_fill.specs.Inside.TextBuffers.{Adds};
 
@@ -50,7 +50,7 @@ pub(crate) fn put_choice(out: &mut TextBuffer, stem: usize, number: u32)
 // Inputs of the netlist are those of the top and then the registers.
 fn put_input(out: &mut TextBuffer, flat: &Flat, i: u32)
     requires there { i < length flat.now.ins + length flat.now.regs }
-    ensures adds { Adds out.old out.new (printed (slice_index_or (flat.now.ins ++ register_texts flat.now) i [])) }
+    ensures adds { Adds out.old out.new (printed (slice_index_or (flat.now.ins ++ state_texts flat.now) i [])) }
 {
     let ins = flat.ins();
     let i = i as usize;

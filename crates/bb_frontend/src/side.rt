@@ -3,7 +3,8 @@
 //! Each stage drops what it has used: the tokens when the source is read, the source when the netlist is made. So
 //! memory never holds all forms of a text at once.
 
-ghost use Rattle.std.specs.Prelude.{◌≡◌, ◌<◌, ◌⊎◌, ℕ, List, Option, map, length, IfOk, IfErr, MatchResult, option_copied};
+ghost use Rattle.std.specs.Prelude.{◌≡◌, ◌<◌, ◌⊎◌, ℕ, List, Option, map, length, IfOk, IfErr, MatchResult};
+ghost use Rattle.std.specs.Prelude.{option_copied};
 ghost use Rattle.bb_ast.specs.Inside.Views.{source_view};
 ghost use Rattle.bb_design.specs.Hierarchy.{Design};
 ghost use Rattle.bb_implements.specs.Implements.{Implements};
@@ -12,7 +13,8 @@ ghost use Rattle.bb_names.specs.Faults.{IsSound};
 ghost use Rattle.bb_parse.specs.Sources.{ReadsAs};
 ghost use Rattle.bb_frontend.specs.declared.limit.TheConstants.{READ_LIMIT};
 ghost use Rattle.bb_frontend.specs.declared.side_fault.SideFault.{SideFault};
-ghost use Rattle.bb_frontend.specs.TextDesigns.{IsDesignOf, IsSideFault, TextsReadAsOne, TextDesignsAreOne, SideFaultsAreOne, NotDesignAndFault, DesignOrFault};
+ghost use Rattle.bb_frontend.specs.TextDesigns.{IsDesignOf, IsSideFault, TextsReadAsOne, TextDesignsAreOne};
+ghost use Rattle.bb_frontend.specs.TextDesigns.{SideFaultsAreOne, NotDesignAndFault, DesignOrFault};
 
 use crate::side_fault::SideFault;
 use bb_ast::Source;
@@ -26,7 +28,8 @@ use std::alloc::Global;
 fn source_of(alloc: Global, text: &[u8]) -> Result<Source, SideFault>
     requires short { length text.now < READ_LIMIT }
     ensures ok { IfOk result (λ source. ReadsAs text.now (source_view source)) }
-    ensures fault { IfErr result (λ fault. (fault ≡ SideFault.NoMemory) ⊎ ((name : Option (List ℕ)) → IsSideFault name text.now fault)) }
+    ensures fault { IfErr result (λ fault.
+        (fault ≡ SideFault.NoMemory) ⊎ ((name : Option (List ℕ)) → IsSideFault name text.now fault)) }
 {
     let tokens = tokens(alloc, text)?;
     Ok(source(alloc, &tokens, text)?)
@@ -37,7 +40,8 @@ fn checked_of(alloc: Global, text: &[u8]) -> Result<Checked, SideFault>
     requires short { length text.now < READ_LIMIT }
     ensures ok { IfOk result (λ checked. ReadsAs text.now (map syntax checked)) }
     ensures sound { IfOk result (λ checked. IsSound (map syntax checked)) }
-    ensures fault { IfErr result (λ fault. (fault ≡ SideFault.NoMemory) ⊎ ((name : Option (List ℕ)) → IsSideFault name text.now fault)) }
+    ensures fault { IfErr result (λ fault.
+        (fault ≡ SideFault.NoMemory) ⊎ ((name : Option (List ℕ)) → IsSideFault name text.now fault)) }
 {
     bb_parse::laws::sources_are_formed();
     bb_parse::laws::texts_are_long();
@@ -52,11 +56,14 @@ pub fn flat_of(alloc: Global, text: &[u8], top: Option<&[u8]>) -> Result<Flat, S
     requires short { length text.now < READ_LIMIT }
 
     // The result implements the design of the text, or is the first fault.
-    ensures ok { IfOk result (λ flat. (d : Design) × IsDesignOf (option_copied top.entry) text.now d × Implements d flat) }
-    ensures fault { IfErr result (λ fault. (fault ≡ SideFault.NoMemory) ⊎ IsSideFault (option_copied top.entry) text.now fault) }
+    ensures ok { IfOk result (λ flat.
+        (d : Design) × IsDesignOf (option_copied top.entry) text.now d × Implements d flat) }
+    ensures fault { IfErr result (λ fault.
+        (fault ≡ SideFault.NoMemory) ⊎ IsSideFault (option_copied top.entry) text.now fault) }
 
     // A netlist where the text has a design, and otherwise the first fault, unless memory runs out.
-    ensures only_sound { (d : Design) → IsDesignOf (option_copied top.entry) text.now d → IfErr result (λ fault. fault ≡ SideFault.NoMemory) }
+    ensures only_sound { (d : Design) → IsDesignOf (option_copied top.entry) text.now d
+        → IfErr result (λ fault. fault ≡ SideFault.NoMemory) }
     ensures only_fault { (first : SideFault) → IsSideFault (option_copied top.entry) text.now first
         → MatchResult result (λ flat. ⊥) (λ fault. (fault ≡ first) ⊎ (fault ≡ SideFault.NoMemory)) }
 {

@@ -8,7 +8,7 @@ use Rattle.std.proofs.lemmas.List.FromFn.{get_or-enumerate_from, length-enumerat
 use Rattle.std.proofs.lemmas.Option.{get_or_from_slice_get, slice_get-get_or, slice_get_within}
 use Rattle.bb_net.specs.declared.loose.LooseCell.{LooseCell}
 use Rattle.bb_net.specs.declared.loose.LooseCell.TheVariants.{Const, Input, BoxOut}
-use Rattle.bb_net.specs.Loose.{loose_at, operands, IsLoose, Reaches}
+use Rattle.bb_net.specs.Loose.{loose_at, operand_places, IsLoose, Reaches}
 use Rattle.bb_net.specs.Netlists.{Pins, box_at, IsPinAt}
 use Rattle.bb_bits.specs.Closures.{Leads, One, More}
 use Rattle.bb_hier.specs.Inside.Recursions.{place_steps, ArePlacesThere, module_pins, module_list}
@@ -46,21 +46,21 @@ module _ (lists : List (List ℕ)) where
   pins_past : (k : ℕ) → length lists ≤ k → box_at (module_list lists).boxes k ≡ no_pins
   pins_past k past = get_or_past (module_list lists).boxes k no_pins (omega (arith, past, length-map (enumerate_from 0 lists) module_pins, length-enumerate_from 0 lists))
 
-  reads_at : (k : ℕ) → k < length lists → operands (module_list lists).boxes (loose_at (module_list lists) (k + 2)) ≡ map (λ j. j + 2) (called_at lists k)
-  reads_at k lt = ap (operands (module_list lists).boxes) (cell_at k lt) ∙ ap (λ (pins : Pins). pins.ins) (pins_at k lt)
+  reads_at : (k : ℕ) → k < length lists → operand_places (module_list lists).boxes (loose_at (module_list lists) (k + 2)) ≡ map (λ j. j + 2) (called_at lists k)
+  reads_at k lt = ap (operand_places (module_list lists).boxes) (cell_at k lt) ∙ ap (λ (pins : Pins). pins.ins) (pins_at k lt)
 
-  reads_past : (k : ℕ) → length lists ≤ k → operands (module_list lists).boxes (loose_at (module_list lists) (k + 2)) ≡ []
-  reads_past k past = ap (operands (module_list lists).boxes) (cell_past k past)
+  reads_past : (k : ℕ) → length lists ≤ k → operand_places (module_list lists).boxes (loose_at (module_list lists) (k + 2)) ≡ []
+  reads_past k past = ap (operand_places (module_list lists).boxes) (cell_past k past)
 
   -- what a cell reads
-  read_from : (k q : ℕ) → Contains (operands (module_list lists).boxes (loose_at (module_list lists) (k + 2))) q → (j : ℕ) × (q ≡ j + 2) × (k < length lists) × Contains (called_at lists k) j
+  read_from : (k q : ℕ) → Contains (operand_places (module_list lists).boxes (loose_at (module_list lists) (k + 2))) q → (j : ℕ) × (q ≡ j + 2) × (k < length lists) × Contains (called_at lists k) j
   read_from k q has = by (less_or_past k (length lists))
     where
       by : (k < length lists) ⊎ (length lists ≤ k) → (j : ℕ) × (q ≡ j + 2) × (k < length lists) × Contains (called_at lists k) j
       by (inl lt) = let m = from_map (λ j. j + 2) (called_at lists k) q (subst (λ xs. Contains xs q) (reads_at k lt) has) in (m.0, sym m.2, lt, m.1)
       by (inr past) = absurd (none_in_nil q (subst (λ xs. Contains xs q) (reads_past k past) has))
 
-  read_to : (k j : ℕ) → k < length lists → Contains (called_at lists k) j → Contains (operands (module_list lists).boxes (loose_at (module_list lists) (k + 2))) (j + 2)
+  read_to : (k j : ℕ) → k < length lists → Contains (called_at lists k) j → Contains (operand_places (module_list lists).boxes (loose_at (module_list lists) (k + 2))) (j + 2)
   read_to k j lt has = subst (λ xs. Contains xs (j + 2)) (sym (reads_at k lt)) (contains-map (λ i. i + 2) (called_at lists k) j has)
 
   -- the steps among the modules
@@ -80,7 +80,7 @@ module _ (lists : List (List ℕ)) where
 
   -- walks
 
-  next_from : (j q : ℕ) → Contains (operands (module_list lists).boxes (loose_at (module_list lists) (j + 2))) q → (k : ℕ) × (q ≡ k + 2) × Contains (place_steps lists) (j, k)
+  next_from : (j q : ℕ) → Contains (operand_places (module_list lists).boxes (loose_at (module_list lists) (j + 2))) q → (k : ℕ) × (q ≡ k + 2) × Contains (place_steps lists) (j, k)
   next_from j q has = let r = read_from j q has in (r.0, r.1, step_to j r.0 r.2 r.3)
 
   pub walk_from : (m j q : ℕ) → Reaches (suc m) (module_list lists) (j + 2) q → (k : ℕ) × (q ≡ k + 2) × Leads (place_steps lists) j k
@@ -106,10 +106,10 @@ module _ (lists : List (List ℕ)) where
           omega (arith, low, m.2, cells_long))
       by (inr past) = all_from (λ pin. pin < length (module_list lists).cells) _ (λ q has. absurd (none_in_nil q (subst (λ (pins : Pins). Contains pins.ins q) (pins_past b past) has)))
 
-  reads_there : ArePlacesThere lists → (place : ℕ) → All (λ k. k < length (module_list lists).cells) (operands (module_list lists).boxes (loose_at (module_list lists) place))
+  reads_there : ArePlacesThere lists → (place : ℕ) → All (λ k. k < length (module_list lists).cells) (operand_places (module_list lists).boxes (loose_at (module_list lists) place))
   reads_there there zero = all_from (λ k. k < length (module_list lists).cells) [] (λ q has. absurd (none_in_nil q has))
   reads_there there (suc zero) = all_from (λ k. k < length (module_list lists).cells) [] (λ q has. absurd (none_in_nil q has))
-  reads_there there (suc (suc j)) = subst (λ p. All (λ k. k < length (module_list lists).cells) (operands (module_list lists).boxes (loose_at (module_list lists) p))) (sym (two_after j))
+  reads_there there (suc (suc j)) = subst (λ p. All (λ k. k < length (module_list lists).cells) (operand_places (module_list lists).boxes (loose_at (module_list lists) p))) (sym (two_after j))
       (all_from (λ k. k < length (module_list lists).cells) _ (λ q has.
       let r = read_from j q has in
       let low = All-contains (λ k. k < length lists) (called_at lists j) r.0 (there.there j [] r.2) r.3 in

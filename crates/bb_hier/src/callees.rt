@@ -18,7 +18,8 @@ use std::alloc::Global;
 
 // A later module of the same name is a fault and changes nothing.
 fn places(alloc: Global, modules: &[CheckedModule]) -> Result<IndexMap<Name, usize>, NoMemory>
-    ensures ok { IfOk result (λ places. (n : List ℕ) → lookup (same_name n) places.entries ≡ place_named (map syntax (map module_facts modules.now)) n) }
+    ensures ok { IfOk result (λ places. (n : List ℕ)
+        → lookup (same_name n) places.entries ≡ place_named (map syntax (map module_facts modules.now)) n) }
 {
     let mut places = IndexMap::new(alloc);
     for k in 0..modules.len() {
@@ -50,7 +51,10 @@ fn add_callees(
     item: &Item,
     list: &mut Vec<usize>,
 ) -> Result<(), NoMemory>
-    ensures ok { OnOk result (list.new.items ≡ list.old.items ++ filter_map (λ i. lookup (same_name i.target) places.now.entries) (instances_in (body_view item.now.body))) }
+    ensures ok { OnOk result (list.new.items
+        ≡ list.old.items
+        ++ filter_map (λ i. lookup (same_name i.target) places.now.entries) (instances_in
+        (body_view item.now.body))) }
 {
     if let Body::Calls(target, calls) = &item.body {
         if let Some(place) = place_of(places, target) {
@@ -65,7 +69,9 @@ fn callees_in(
     places: &IndexMap<Name, usize>,
     items: &[Item],
 ) -> Result<Vec<usize>, NoMemory>
-    ensures ok { IfOk result (λ list. list.items ≡ filter_map (λ i. lookup (same_name i.target) places.now.entries) (flat_map (λ item. instances_in item.body) (map item_view items.now))) }
+    ensures ok { IfOk result (λ list. list.items
+        ≡ filter_map (λ i. lookup (same_name i.target) places.now.entries) (flat_map
+        (λ item. instances_in item.body) (map item_view items.now))) }
 {
     let mut list = Vec::new(alloc);
     for item in items {
@@ -80,7 +86,8 @@ fn all_callees(
     modules: &[CheckedModule],
 ) -> Result<Vec<Vec<usize>>, NoMemory>
     ensures ok { IfOk result (λ all. map (λ list. list.items) all.items
-        ≡ map (λ m. filter_map (λ i. lookup (same_name i.target) places.now.entries) (instances_of m)) (map syntax (map module_facts modules.now))) }
+        ≡ map (λ m. filter_map (λ i. lookup (same_name i.target) places.now.entries) (instances_of m))
+        (map syntax (map module_facts modules.now))) }
 {
     let mut all = Vec::new(alloc);
     for checked in modules {
@@ -91,7 +98,8 @@ fn all_callees(
 
 /// One place for each instance, in text order; `Call` items that list several instances give several.
 pub(crate) fn callees_of(alloc: Global, checked: &Checked) -> Result<Vec<Vec<usize>>, NoMemory>
-    ensures ok { IfOk result (λ all. map (λ list. list.items) all.items ≡ map (callees (map syntax checked.now)) (map syntax checked.now)) }
+    ensures ok { IfOk result (λ all.
+        map (λ list. list.items) all.items ≡ map (callees (map syntax checked.now)) (map syntax checked.now)) }
 {
     let modules = checked.modules();
     let places = places(alloc, modules)?;

@@ -4,13 +4,15 @@
 ghost use Rattle.std.specs.Prelude.{◌≡◌, ◌≤◌, ◌∷◌, [], map, min, sum_by, option_to_list, All, IfSome};
 ghost use Rattle.std.specs.List.{flat_map};
 ghost use Rattle.bb_ast.specs.Gates.{output_count};
-ghost use Rattle.bb_ast.specs.Inside.Views.{expression, optional_view, named_view, arm_view, gate_view, conns_view, call_view, body_view, item_view};
+ghost use Rattle.bb_ast.specs.Inside.Views.{expression, optional_view, named_view, arm_view, gate_view, conns_view};
+ghost use Rattle.bb_ast.specs.Inside.Views.{call_view, body_view, item_view};
 ghost use Rattle.bb_names.specs.Ranges.{range_width};
 ghost use Rattle.bb_names.specs.Widths.{own_width};
 ghost use Rattle.bb_expr.specs.Inside.Shares.{capped, own_cells};
 ghost use Rattle.bb_expr.specs.Inside.Occurrences.{OccursAt, ranges_at, conns_expressions, item_expressions};
 ghost use Rattle.bb_design.specs.GateFunctions.{inverts};
-ghost use Rattle.bb_hier.specs.Inside.Weights.{assigned_cells, initial_cells, assignment_cells, inputs_of, inversions, gate_weight, item_cells, IsNarrowNet, AreNarrowNets};
+ghost use Rattle.bb_hier.specs.Inside.Weights.{assigned_cells, initial_cells, assignment_cells, inputs_of, inversions};
+ghost use Rattle.bb_hier.specs.Inside.Weights.{gate_weight, item_cells, IsNarrowNet, AreNarrowNets};
 
 use crate::register_bits::width_of;
 use bb_ast::{Body, Call, Conns, Expr, Gate, GateCall, Item};
@@ -77,7 +79,8 @@ fn wire_cells(checked: &Checked, place: u32, nets: &[(Name, Option<Expr>)]) -> u
 fn assignment_cells(checked: &Checked, place: u32, left: &Expr, right: &Expr) -> u64
     requires left { OccursAt checked.now place (expression left.now) }
     requires right { OccursAt checked.now place (expression right.now) }
-    ensures cells { result ≡ capped (assignment_cells (ranges_at checked.now place) (expression left.now, expression right.now)) }
+    ensures cells { result
+        ≡ capped (assignment_cells (ranges_at checked.now place) (expression left.now, expression right.now)) }
 {
     occurrences_are_fit();
     let _modules = checked.modules();
@@ -150,7 +153,8 @@ fn gate_cells(checked: &Checked, place: u32, gate: Gate, terms: &[Expr]) -> u64
 
 fn gates_cells(checked: &Checked, place: u32, gate: Gate, all: &[GateCall]) -> u64
     requires occurs { All (OccursAt checked.now place) (flat_map (λ x. x.1) (map gate_view all.now)) }
-    ensures cells { result ≡ capped (sum_by (λ x. gate_weight (ranges_at checked.now place) gate x.1) (map gate_view all.now)) }
+    ensures cells { result
+        ≡ capped (sum_by (λ x. gate_weight (ranges_at checked.now place) gate x.1) (map gate_view all.now)) }
 {
     let mut total = 0u64;
     for call in all {
@@ -161,7 +165,8 @@ fn gates_cells(checked: &Checked, place: u32, gate: Gate, all: &[GateCall]) -> u
 
 fn connected_cells(checked: &Checked, place: u32, value: &Option<Expr>) -> u64
     requires occurs { All (OccursAt checked.now place) (option_to_list (optional_view value.now)) }
-    ensures cells { result ≡ capped (sum_by (own_cells (ranges_at checked.now place)) (option_to_list (optional_view value.now))) }
+    ensures cells { result
+        ≡ capped (sum_by (own_cells (ranges_at checked.now place)) (option_to_list (optional_view value.now))) }
 {
     match value {
         Some(value) => own_cells(checked, place, value),
@@ -171,7 +176,9 @@ fn connected_cells(checked: &Checked, place: u32, value: &Option<Expr>) -> u64
 
 fn ordered_cells(checked: &Checked, place: u32, all: &[Option<Expr>]) -> u64
     requires occurs { All (OccursAt checked.now place) (flat_map option_to_list (map optional_view all.now)) }
-    ensures cells { result ≡ capped (sum_by (own_cells (ranges_at checked.now place)) (flat_map option_to_list (map optional_view all.now))) }
+    ensures cells { result
+        ≡ capped (sum_by (own_cells (ranges_at checked.now place)) (flat_map option_to_list
+        (map optional_view all.now))) }
 {
     let mut total = 0u64;
     for value in all {
@@ -182,7 +189,9 @@ fn ordered_cells(checked: &Checked, place: u32, all: &[Option<Expr>]) -> u64
 
 fn named_cells(checked: &Checked, place: u32, all: &[(Name, Option<Expr>)]) -> u64
     requires occurs { All (OccursAt checked.now place) (flat_map (λ x. option_to_list x.1) (map named_view all.now)) }
-    ensures cells { result ≡ capped (sum_by (own_cells (ranges_at checked.now place)) (flat_map (λ x. option_to_list x.1) (map named_view all.now))) }
+    ensures cells { result
+        ≡ capped (sum_by (own_cells (ranges_at checked.now place)) (flat_map (λ x. option_to_list x.1)
+        (map named_view all.now))) }
 {
     let mut total = 0u64;
     for (_, value) in all {
@@ -194,7 +203,8 @@ fn named_cells(checked: &Checked, place: u32, all: &[(Name, Option<Expr>)]) -> u
 // An output port counts as what is connected to it, a left side, which makes no cell.
 fn connection_cells(checked: &Checked, place: u32, conns: &Conns) -> u64
     requires occurs { All (OccursAt checked.now place) (conns_expressions (conns_view conns.now)) }
-    ensures cells { result ≡ capped (sum_by (own_cells (ranges_at checked.now place)) (conns_expressions (conns_view conns.now))) }
+    ensures cells { result
+        ≡ capped (sum_by (own_cells (ranges_at checked.now place)) (conns_expressions (conns_view conns.now))) }
 {
     match conns {
         Conns::Order(all) => ordered_cells(checked, place, all),
@@ -203,8 +213,11 @@ fn connection_cells(checked: &Checked, place: u32, conns: &Conns) -> u64
 }
 
 fn call_cells(checked: &Checked, place: u32, calls: &[Call]) -> u64
-    requires occurs { All (OccursAt checked.now place) (flat_map (λ x. conns_expressions x.1) (map call_view calls.now)) }
-    ensures cells { result ≡ capped (sum_by (λ x. sum_by (own_cells (ranges_at checked.now place)) (conns_expressions x.1)) (map call_view calls.now)) }
+    requires occurs { All (OccursAt checked.now place) (flat_map (λ x. conns_expressions x.1)
+        (map call_view calls.now)) }
+    ensures cells { result
+        ≡ capped (sum_by (λ x. sum_by (own_cells (ranges_at checked.now place)) (conns_expressions x.1))
+        (map call_view calls.now)) }
 {
     let mut total = 0u64;
     for call in calls {
@@ -230,9 +243,11 @@ fn item_cells(checked: &Checked, place: u32, body: &Body) -> u64
 
 /// Saturates at 2^64 - 1.
 pub(crate) fn items_cells(checked: &Checked, place: u32, items: &[Item]) -> u64
-    requires occurs { All (OccursAt checked.now place) (flat_map (λ item. item_expressions item.body) (map item_view items.now)) }
+    requires occurs { All (OccursAt checked.now place) (flat_map (λ item. item_expressions item.body)
+        (map item_view items.now)) }
     requires narrow { All (λ item. AreNarrowNets checked.now place item.body) (map item_view items.now) }
-    ensures cells { result ≡ capped (sum_by (λ item. item_cells (ranges_at checked.now place) item.body) (map item_view items.now)) }
+    ensures cells { result
+        ≡ capped (sum_by (λ item. item_cells (ranges_at checked.now place) item.body) (map item_view items.now)) }
 {
     let mut total = 0u64;
     for item in items {

@@ -5,7 +5,8 @@
 //! down, by the first instance that is tall enough at each level, leads to the first instance in elaboration order that
 //! is too deep.
 
-ghost use Rattle.std.specs.Prelude.{◌≡◌, ◌+◌, ◌<◌, ◌≤◌, ◌++◌, ◌==◌, [], false, true, ℕ, All, Some, codes, length, map, nat_le, slice_get, if◌then◌else◌, IfOk, IfSome, IfNone, OnOk};
+ghost use Rattle.std.specs.Prelude.{◌≡◌, ◌+◌, ◌<◌, ◌≤◌, ◌++◌, ◌==◌, [], false, true, ℕ, All, Some, codes, length, map};
+ghost use Rattle.std.specs.Prelude.{nat_le, slice_get, if◌then◌else◌, IfOk, IfSome, IfNone, OnOk};
 ghost use Rattle.std.specs.List.{flat_map, list_any, slice_index_or};
 ghost use Rattle.bb_ast.specs.Syntax.{PlainModule};
 ghost use Rattle.bb_ast.specs.Inside.Views.{body_view, item_view};
@@ -37,7 +38,8 @@ fn height_over(called: &[usize], heights: &[u8]) -> u8
 fn next_heights(alloc: Global, callees: &[Vec<usize>], heights: &[u8]) -> Result<Vec<u8>, NoMemory>
     requires there { All (All (λ k. k < length heights.now)) (map (λ list. list.items) callees.now) }
     requires low { All (λ h. h < 64) heights.now }
-    ensures next { IfOk result (λ next. next.items ≡ map (height_over (λ k. slice_index_or heights.now k 0)) (map (λ list. list.items) callees.now)) }
+    ensures next { IfOk result (λ next.
+        next.items ≡ map (height_over (λ k. slice_index_or heights.now k 0)) (map (λ list. list.items) callees.now)) }
 {
     let mut next = Vec::with_capacity(alloc, callees.len())?;
     for called in callees {
@@ -50,7 +52,8 @@ fn next_heights(alloc: Global, callees: &[Vec<usize>], heights: &[u8]) -> Result
 fn heights_of(alloc: Global, callees: &[Vec<usize>]) -> Result<Vec<u8>, NoMemory>
     requires there { All (All (λ k. k < length callees.now)) (map (λ list. list.items) callees.now) }
     ensures long { IfOk result (λ heights. length heights.items ≡ length callees.now) }
-    ensures tall { IfOk result (λ heights. (k n : ℕ) → n ≤ 64 → nat_le n (slice_index_or heights.items k 0) ≡ is_tall (map (λ list. list.items) callees.now) n k) }
+    ensures tall { IfOk result (λ heights. (k n : ℕ) → n ≤ 64
+        → nat_le n (slice_index_or heights.items k 0) ≡ is_tall (map (λ list. list.items) callees.now) n k) }
 {
     let mut heights = vec![in alloc; 0u8; callees.len()]?;
     for _round in 0..64u8 {
@@ -65,7 +68,8 @@ fn first_tall(called: &[usize], heights: &[u8], least: u8) -> usize
     requires some { list_any (λ k. nat_le least (slice_index_or heights.now k 0)) called.now ≡ true }
     ensures within { result < length called.now }
     ensures tall { nat_le least (slice_index_or heights.now (slice_index_or called.now result 0) 0) ≡ true }
-    ensures first { (j : ℕ) → j < result → nat_le least (slice_index_or heights.now (slice_index_or called.now j 0) 0) ≡ false }
+    ensures first { (j : ℕ) → j < result
+        → nat_le least (slice_index_or heights.now (slice_index_or called.now j 0) 0) ≡ false }
 {
     let mut k = 0;
     while k + 1 < called.len() && heights[called[k]] < least {
@@ -86,7 +90,9 @@ pub(crate) fn calls_in(item: &Item) -> &[Call]
 
 // `place` counts the instances through all items.
 fn add_name(path: &mut Vec<u8>, items: &[Item], place: usize) -> Result<(), NoMemory>
-    ensures ok { OnOk result (IfSome (slice_get (flat_map (λ item. instances_in item.body) (map item_view items.now)) place) (λ i. path.new.items ≡ path.old.items ++ i.name)) }
+    ensures ok { OnOk result (IfSome
+        (slice_get (flat_map (λ item. instances_in item.body) (map item_view items.now)) place)
+        (λ i. path.new.items ≡ path.old.items ++ i.name)) }
 {
     let mut left = place;
     for item in items {
@@ -117,12 +123,15 @@ fn first_low(
     heights: &[u8],
     top: usize,
 ) -> Result<Name, NoMemory>
-    requires called { map (λ list. list.items) called.now ≡ map (callees (map syntax checked.now)) (map syntax checked.now) }
+    requires called { map (λ list. list.items) called.now
+        ≡ map (callees (map syntax checked.now)) (map syntax checked.now) }
     requires long { length heights.now ≡ length called.now }
-    requires tall { (k n : ℕ) → n ≤ 64 → nat_le n (slice_index_or heights.now k 0) ≡ is_tall (map (λ list. list.items) called.now) n k }
+    requires tall { (k n : ℕ) → n ≤ 64
+        → nat_le n (slice_index_or heights.now k 0) ≡ is_tall (map (λ list. list.items) called.now) n k }
     requires top { top < length checked.now }
     requires low { nat_le 64 (slice_index_or heights.now top 0) ≡ true }
-    ensures reported { IfOk result (λ n. (t : PlainModule) → slice_get (map syntax checked.now) top ≡ Some t → IsReportedOfDesign (design_on (map syntax checked.now) t) Depth n) }
+    ensures reported { IfOk result (λ n. (t : PlainModule) → slice_get (map syntax checked.now) top ≡ Some t
+        → IsReportedOfDesign (design_on (map syntax checked.now) t) Depth n) }
 {
     laws_of_designs();
     let modules = checked.modules();
@@ -144,10 +153,15 @@ pub(crate) fn low_instance(
     called: &[Vec<usize>],
     top: usize,
 ) -> Result<Option<Name>, NoMemory>
-    requires called { map (λ list. list.items) called.now ≡ map (callees (map syntax checked.now)) (map syntax checked.now) }
+    requires called { map (λ list. list.items) called.now
+        ≡ map (callees (map syntax checked.now)) (map syntax checked.now) }
     requires top { top < length checked.now }
-    ensures some { IfOk result (λ found. IfSome found (λ n. (t : PlainModule) → slice_get (map syntax checked.now) top ≡ Some t → IsReportedOfDesign (design_on (map syntax checked.now) t) Depth n)) }
-    ensures none { IfOk result (λ found. IfNone found ((t : PlainModule) → slice_get (map syntax checked.now) top ≡ Some t → IsAbsentInDesign (design_on (map syntax checked.now) t) Depth)) }
+    ensures some { IfOk result (λ found. IfSome found (λ n. (t : PlainModule)
+        → slice_get (map syntax checked.now) top ≡ Some t
+        → IsReportedOfDesign (design_on (map syntax checked.now) t) Depth n)) }
+    ensures none { IfOk result (λ found. IfNone found ((t : PlainModule)
+        → slice_get (map syntax checked.now) top ≡ Some t
+        → IsAbsentInDesign (design_on (map syntax checked.now) t) Depth)) }
 {
     laws_of_designs();
     // Gives the proof that checked modules have no faults.

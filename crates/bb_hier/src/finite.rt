@@ -20,9 +20,11 @@ use std::alloc::Global;
 /// For each module the places of its callees, one for each instance, in text order.
 pub fn hierarchy(alloc: Global, checked: &Checked, top: usize) -> Result<Vec<Vec<usize>>, ElabFault>
     requires top { top < length checked.now }
-    ensures called { IfOk result (λ called. map (λ list. list.items) called.items ≡ map (callees (map syntax checked.now)) (map syntax checked.now)) }
+    ensures called { IfOk result (λ called.
+        map (λ list. list.items) called.items ≡ map (callees (map syntax checked.now)) (map syntax checked.now)) }
     ensures finite { IfOk result (λ called. AtTop (map syntax checked.now) top IsFinite) }
-    ensures fault { IfErr result (λ fault. (fault ≡ NoMemory) ⊎ AtTop (map syntax checked.now) top (λ d. IsRefusalOf d fault)) }
+    ensures fault { IfErr result (λ fault.
+        (fault ≡ NoMemory) ⊎ AtTop (map syntax checked.now) top (λ d. IsRefusalOf d fault)) }
 {
     laws_of_designs();
     let _modules = checked.modules();

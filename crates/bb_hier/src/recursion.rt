@@ -4,7 +4,8 @@
 //! loop, and levelization (`bb_net::order`) finds it in linear time without a search of its own to prove. Each module
 //! has one box with one output.
 
-ghost use Rattle.std.specs.Prelude.{◌≡◌, ◌+◌, ◌<◌, ◌^◌, ◌||◌, ◌==◌, ◌∷◌, [], false, true, ℕ, All, Some, length, map, slice_get, if◌then◌else◌, IfOk, IfSome, IfNone};
+ghost use Rattle.std.specs.Prelude.{◌≡◌, ◌+◌, ◌<◌, ◌^◌, ◌||◌, ◌==◌, ◌∷◌, [], false, true, ℕ, All, Some, length, map};
+ghost use Rattle.std.specs.Prelude.{slice_get, if◌then◌else◌, IfOk, IfSome, IfNone};
 ghost use Rattle.std.specs.List.{enumerate_from, range_with_len};
 ghost use Rattle.bb_net.specs.declared.loose.LooseCell.TheVariants.{Const, BoxOut};
 ghost use Rattle.bb_net.specs.Values.{bit_of};
@@ -12,7 +13,8 @@ ghost use Rattle.bb_ast.specs.Syntax.{PlainModule};
 ghost use Rattle.bb_names.specs.Inside.Checked.{syntax};
 ghost use Rattle.bb_design.specs.Inside.Callees.{callees};
 ghost use Rattle.bb_design.specs.Refusals.{IsReportedOfDesign, IsAbsentInDesign, Recursion, design_on};
-ghost use Rattle.bb_hier.specs.Inside.Recursions.{module_pins, module_list, kept_lists, ArePlacesThere, IsRecursiveAt, IsFirstRecursive};
+ghost use Rattle.bb_hier.specs.Inside.Recursions.{module_pins, module_list, kept_lists, ArePlacesThere, IsRecursiveAt};
+ghost use Rattle.bb_hier.specs.Inside.Recursions.{IsFirstRecursive};
 
 use bb_bits::{Name, NoMemory};
 use bb_design::laws::laws_of_designs;
@@ -36,7 +38,8 @@ fn module_pins(alloc: Global, place: usize, called: &[usize]) -> Result<BoxPins,
 
 fn module_boxes(alloc: Global, callees: &[Vec<usize>]) -> Result<Vec<BoxPins>, NoMemory>
     requires there { ArePlacesThere (map (λ list. list.items) callees.now) }
-    ensures boxes { IfOk result (λ boxes. boxes.items ≡ map module_pins (enumerate_from 0 (map (λ list. list.items) callees.now))) }
+    ensures boxes { IfOk result (λ boxes.
+        boxes.items ≡ map module_pins (enumerate_from 0 (map (λ list. list.items) callees.now))) }
 {
     let mut boxes = Vec::with_capacity(alloc, callees.len())?;
     for (place, called) in callees.iter().enumerate() {
@@ -47,7 +50,8 @@ fn module_boxes(alloc: Global, callees: &[Vec<usize>]) -> Result<Vec<BoxPins>, N
 
 fn module_cells(alloc: Global, count: usize) -> Result<Vec<LooseCell>, NoMemory>
     requires few { count + 2 < 2 ^ 32 }
-    ensures cells { IfOk result (λ cells. cells.items ≡ Const false ∷ Const true ∷ map (λ k. BoxOut k 0) (range_with_len 0 count)) }
+    ensures cells { IfOk result (λ cells.
+        cells.items ≡ Const false ∷ Const true ∷ map (λ k. BoxOut k 0) (range_with_len 0 count)) }
 {
     let mut cells = Vec::with_capacity(alloc, count + 2)?;
     cells.push(LooseCell::Const(false))?;
@@ -85,7 +89,8 @@ fn keep_or_clear(list: &mut Vec<usize>, keep: bool)
 
 fn forget_unmarked(callees: &mut [Vec<usize>], top: usize, marks: &[bool])
     requires marks { length marks.now ≡ length callees.old + 2 }
-    ensures kept { map (λ list. list.items) callees.new ≡ kept_lists top marks.now (map (λ list. list.items) callees.old) }
+    ensures kept { map (λ list. list.items) callees.new
+        ≡ kept_lists top marks.now (map (λ list. list.items) callees.old) }
 {
     for k in 0..callees.len() {
         keep_or_clear(&mut callees[k], is_kept(k, top, marks));
@@ -102,7 +107,8 @@ pub(crate) fn first_recursive(
     requires there { ArePlacesThere (map (λ list. list.items) callees.old) }
     requires top { top < length callees.old }
     ensures some { IfOk result (λ found. IfSome found (IsFirstRecursive (map (λ list. list.items) callees.old) top)) }
-    ensures none { IfOk result (λ found. IfNone found ((k : ℕ) → IsRecursiveAt (map (λ list. list.items) callees.old) top k → ⊥)) }
+    ensures none { IfOk result (λ found.
+        IfNone found ((k : ℕ) → IsRecursiveAt (map (λ list. list.items) callees.old) top k → ⊥)) }
 {
     let marks = dependences(&modules_as_cells(alloc, callees)?, top as u32 + 2)?;
     forget_unmarked(callees, top, &marks);
@@ -124,10 +130,15 @@ pub(crate) fn recursive_module(
     called: &mut [Vec<usize>],
     top: usize,
 ) -> Result<Option<Name>, NoMemory>
-    requires called { map (λ list. list.items) called.old ≡ map (callees (map syntax checked.now)) (map syntax checked.now) }
+    requires called { map (λ list. list.items) called.old
+        ≡ map (callees (map syntax checked.now)) (map syntax checked.now) }
     requires top { top < length checked.now }
-    ensures some { IfOk result (λ found. IfSome found (λ n. (t : PlainModule) → slice_get (map syntax checked.now) top ≡ Some t → IsReportedOfDesign (design_on (map syntax checked.now) t) Recursion n)) }
-    ensures none { IfOk result (λ found. IfNone found ((t : PlainModule) → slice_get (map syntax checked.now) top ≡ Some t → IsAbsentInDesign (design_on (map syntax checked.now) t) Recursion)) }
+    ensures some { IfOk result (λ found. IfSome found (λ n. (t : PlainModule)
+        → slice_get (map syntax checked.now) top ≡ Some t
+        → IsReportedOfDesign (design_on (map syntax checked.now) t) Recursion n)) }
+    ensures none { IfOk result (λ found. IfNone found ((t : PlainModule)
+        → slice_get (map syntax checked.now) top ≡ Some t
+        → IsAbsentInDesign (design_on (map syntax checked.now) t) Recursion)) }
 {
     laws_of_designs();
     let modules = checked.modules();

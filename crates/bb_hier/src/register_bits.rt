@@ -3,7 +3,8 @@
 //! A bit may be stored to at several places, which is a fault found later, and counts once. So bits are marked, net by
 //! net; a net to which nothing stores takes no room.
 
-ghost use Rattle.std.specs.Prelude.{◌≡◌, ◌⊎◌, ◌+◌, ◌<◌, ◌≤◌, ◌&&◌, ◌||◌, ◌++◌, [], false, true, ℕ, Bool, List, map, length, filter, replicate, nat_le, nat_lt, sum_by, IfOk, OnOk, slice_index_or};
+ghost use Rattle.std.specs.Prelude.{◌≡◌, ◌⊎◌, ◌+◌, ◌<◌, ◌≤◌, ◌&&◌, ◌||◌, ◌++◌, [], false, true, ℕ, Bool, List, map};
+ghost use Rattle.std.specs.Prelude.{length, filter, replicate, nat_le, nat_lt, sum_by, IfOk, OnOk, slice_index_or};
 ghost use Rattle.std.specs.List.{flat_map};
 ghost use Rattle.std.specs.Map.{lookup};
 ghost use Rattle.bb_bits.specs.Names.{same_name};
@@ -44,7 +45,8 @@ fn first_place(range: Option<Range>, index: u32) -> usize
 fn make_room(alloc: Global, marks: &mut Vec<bool>, width: usize) -> Result<(), NoMemory>
     requires whole { (length marks.old.items ≡ 0) ⊎ (length marks.old.items ≡ width) }
     ensures whole { OnOk result (length marks.new.items ≡ width) }
-    ensures same { OnOk result ((p : ℕ) → slice_index_or marks.new.items p false ≡ slice_index_or marks.old.items p false) }
+    ensures same { OnOk result ((p : ℕ)
+        → slice_index_or marks.new.items p false ≡ slice_index_or marks.old.items p false) }
 {
     if marks.is_empty() {
         *marks = vec![in alloc; false; width]?;
@@ -55,7 +57,8 @@ fn make_room(alloc: Global, marks: &mut Vec<bool>, width: usize) -> Result<(), N
 fn mark_from(marks: &mut [bool], first: usize, end: usize)
     requires end { end ≤ length marks.old }
     ensures long { length marks.new ≡ length marks.old }
-    ensures marked { (p : ℕ) → slice_index_or marks.new p false ≡ (slice_index_or marks.old p false || (nat_le first p && nat_lt p end)) }
+    ensures marked { (p : ℕ)
+        → slice_index_or marks.new p false ≡ (slice_index_or marks.old p false || (nat_le first p && nat_lt p end)) }
 {
     for p in first..end {
         marks[p] = true;
@@ -103,7 +106,8 @@ fn mark_named(
     requires nets { HasNets (module_facts scope.now) }
     requires marks { (bits : List Bit) × AreMarks scope.now.nets.items (map (λ row. row.items) marks.old) bits }
     ensures marks { (bits : List Bit) → AreMarks scope.now.nets.items (map (λ row. row.items) marks.old) bits
-        → OnOk result (AreMarks scope.now.nets.items (map (λ row. row.items) marks.new) (bits ++ named_bits (syntax (module_facts scope.now)) name.now part)) }
+        → OnOk result (AreMarks scope.now.nets.items (map (λ row. row.items) marks.new) (bits
+        ++ named_bits (syntax (module_facts scope.now)) name.now part)) }
 {
     net_names_differ();
     let Some(place) = place_of(scope, name) else {
@@ -125,7 +129,8 @@ fn mark_written(
     requires nets { HasNets (module_facts scope.now) }
     requires marks { (bits : List Bit) × AreMarks scope.now.nets.items (map (λ row. row.items) marks.old) bits }
     ensures marks { (bits : List Bit) → AreMarks scope.now.nets.items (map (λ row. row.items) marks.old) bits
-        → OnOk result (AreMarks scope.now.nets.items (map (λ row. row.items) marks.new) (bits ++ written_bits (any_scope (syntax (module_facts scope.now))) (expression expr.now))) }
+        → OnOk result (AreMarks scope.now.nets.items (map (λ row. row.items) marks.new) (bits
+        ++ written_bits (any_scope (syntax (module_facts scope.now))) (expression expr.now))) }
 {
     match expr {
         Expr::Net(name) => mark_named(alloc, scope, marks, name, None),
@@ -148,7 +153,8 @@ fn mark_all(
     requires nets { HasNets (module_facts scope.now) }
     requires marks { (bits : List Bit) × AreMarks scope.now.nets.items (map (λ row. row.items) marks.old) bits }
     ensures marks { (bits : List Bit) → AreMarks scope.now.nets.items (map (λ row. row.items) marks.old) bits
-        → OnOk result (AreMarks scope.now.nets.items (map (λ row. row.items) marks.new) (bits ++ flat_map (written_bits (any_scope (syntax (module_facts scope.now)))) (map expression all.now))) }
+        → OnOk result (AreMarks scope.now.nets.items (map (λ row. row.items) marks.new) (bits
+        ++ flat_map (written_bits (any_scope (syntax (module_facts scope.now)))) (map expression all.now))) }
 {
     for part in all {
         mark_written(alloc, scope, marks, part)?;
@@ -165,7 +171,8 @@ fn mark_item(
     requires nets { HasNets (module_facts scope.now) }
     requires marks { (bits : List Bit) × AreMarks scope.now.nets.items (map (λ row. row.items) marks.old) bits }
     ensures marks { (bits : List Bit) → AreMarks scope.now.nets.items (map (λ row. row.items) marks.old) bits
-        → OnOk result (AreMarks scope.now.nets.items (map (λ row. row.items) marks.new) (bits ++ stored_by (any_scope (syntax (module_facts scope.now))) (body_view body.now))) }
+        → OnOk result (AreMarks scope.now.nets.items (map (λ row. row.items) marks.new) (bits
+        ++ stored_by (any_scope (syntax (module_facts scope.now))) (body_view body.now))) }
 {
     match body {
         Body::Always(register) => mark_written(alloc, scope, marks, &register.left),
@@ -182,7 +189,9 @@ fn mark_items(
     requires nets { HasNets (module_facts scope.now) }
     requires marks { (bits : List Bit) × AreMarks scope.now.nets.items (map (λ row. row.items) marks.old) bits }
     ensures marks { (bits : List Bit) → AreMarks scope.now.nets.items (map (λ row. row.items) marks.old) bits
-        → OnOk result (AreMarks scope.now.nets.items (map (λ row. row.items) marks.new) (bits ++ flat_map (λ item. stored_by (any_scope (syntax (module_facts scope.now))) item.body) (map item_view items.now))) }
+        → OnOk result (AreMarks scope.now.nets.items (map (λ row. row.items) marks.new) (bits
+        ++ flat_map (λ item. stored_by (any_scope (syntax (module_facts scope.now))) item.body)
+        (map item_view items.now))) }
 {
     for item in items {
         mark_item(alloc, scope, marks, &item.body)?;
@@ -197,7 +206,8 @@ fn count_marked(marks: &[bool]) -> u64
 }
 
 fn count_all(marks: &[Vec<bool>]) -> u64
-    ensures count { result ≡ capped (sum_by (λ row. length (filter (λ mark. mark) row)) (map (λ row. row.items) marks.now)) }
+    ensures count { result
+        ≡ capped (sum_by (λ row. length (filter (λ mark. mark) row)) (map (λ row. row.items) marks.now)) }
 {
     let mut total = 0u64;
     for row in marks {

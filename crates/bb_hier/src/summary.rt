@@ -1,5 +1,5 @@
-//! Module summaries (`ModuleSummary`): what all scopes of a module have in common, found once a module, so that a scope costs
-//! only the instances in it.
+//! Module summaries (`ModuleSummary`): what all scopes of a module have in common, found once a module, so that a scope
+//! costs only the instances in it.
 
 ghost use Rattle.std.specs.Prelude.{◌≡◌, ◌-◌, ◌^◌, ◌++◌, All, map, min, sum_by, IfOk, OnOk};
 ghost use Rattle.std.specs.List.{AllZip, flat_map};
@@ -45,7 +45,8 @@ fn bits_of(nets: &[NetInfo]) -> u64
 }
 
 fn add_names(item: &Item, names: &mut Vec<Name>) -> Result<(), NoMemory>
-    ensures ok { OnOk result (names.new.items ≡ names.old.items ++ map (λ i. i.name) (instances_in (body_view item.now.body))) }
+    ensures ok { OnOk result (names.new.items
+        ≡ names.old.items ++ map (λ i. i.name) (instances_in (body_view item.now.body))) }
 {
     for call in calls_in(item) {
         names.push(call.name.clone()?)?;
@@ -54,7 +55,8 @@ fn add_names(item: &Item, names: &mut Vec<Name>) -> Result<(), NoMemory>
 }
 
 fn names_in(alloc: Global, items: &[Item]) -> Result<Vec<Name>, NoMemory>
-    ensures ok { IfOk result (λ names. names.items ≡ map (λ i. i.name) (flat_map (λ item. instances_in item.body) (map item_view items.now))) }
+    ensures ok { IfOk result (λ names.
+        names.items ≡ map (λ i. i.name) (flat_map (λ item. instances_in item.body) (map item_view items.now))) }
 {
     let mut names = Vec::new(alloc);
     for item in items {
@@ -81,7 +83,8 @@ pub fn module_summaries(
     modules: &[CheckedModule],
 ) -> Result<Vec<ModuleSummary>, NoMemory>
     requires nets { All HasNets (map module_facts modules.now) }
-    ensures module_summaries { IfOk result (λ all. AllZip IsModuleSummary (map syntax (map module_facts modules.now)) all.items) }
+    ensures module_summaries { IfOk result (λ all.
+        AllZip IsModuleSummary (map syntax (map module_facts modules.now)) all.items) }
 {
     let mut all = Vec::with_capacity(alloc, modules.len())?;
     for of in modules {

@@ -1,7 +1,8 @@
 //! The top module: the named one, or the only module that no module instantiates. With several such modules there is no
 //! default, since any choice would silently leave a design unchecked.
 
-ghost use Rattle.std.specs.Prelude.{◌≡◌, ◌||◌, ◌<◌, ℕ, List, not, map, length, filter, slice_get, IfOk, IfSome, OnOk, option_copied};
+ghost use Rattle.std.specs.Prelude.{◌≡◌, ◌||◌, ◌<◌, ℕ, List, not, map, length, filter, slice_get, IfOk, IfSome, OnOk};
+ghost use Rattle.std.specs.Prelude.{option_copied};
 ghost use Rattle.std.specs.List.{list_any};
 ghost use Rattle.std.specs.Option.{option_and_then};
 ghost use Rattle.bb_bits.specs.Names.{same_name};
@@ -17,8 +18,10 @@ use indexmap::IndexSet;
 use std::alloc::Global;
 
 fn add_target(item: &Item, targets: &mut IndexSet<Name>) -> Result<(), NoMemory>
-    ensures ok { OnOk result ((n : List ℕ) → list_any (same_name n) targets.new.keys
-        ≡ (list_any (same_name n) targets.old.keys || list_any (λ i. same_name i.target n) (instances_in (body_view item.now.body)))) }
+    ensures ok { OnOk result ((n : List ℕ)
+        → list_any (same_name n) targets.new.keys
+        ≡ (list_any (same_name n) targets.old.keys
+        || list_any (λ i. same_name i.target n) (instances_in (body_view item.now.body)))) }
 {
     match &item.body {
         Body::Calls(target, calls) if !calls.is_empty() => {
@@ -30,8 +33,11 @@ fn add_target(item: &Item, targets: &mut IndexSet<Name>) -> Result<(), NoMemory>
 }
 
 fn add_targets(items: &[Item], targets: &mut IndexSet<Name>) -> Result<(), NoMemory>
-    ensures ok { OnOk result ((n : List ℕ) → list_any (same_name n) targets.new.keys
-        ≡ (list_any (same_name n) targets.old.keys || list_any (λ item. list_any (λ i. same_name i.target n) (instances_in item.body)) (map item_view items.now))) }
+    ensures ok { OnOk result ((n : List ℕ)
+        → list_any (same_name n) targets.new.keys
+        ≡ (list_any (same_name n) targets.old.keys
+        || list_any (λ item. list_any (λ i. same_name i.target n) (instances_in item.body))
+        (map item_view items.now))) }
 {
     for item in items {
         add_target(item, targets)?;
@@ -40,7 +46,8 @@ fn add_targets(items: &[Item], targets: &mut IndexSet<Name>) -> Result<(), NoMem
 }
 
 fn targets(alloc: Global, modules: &[CheckedModule]) -> Result<IndexSet<Name>, NoMemory>
-    ensures ok { IfOk result (λ targets. (n : List ℕ) → list_any (same_name n) targets.keys ≡ is_instantiated (map syntax (map module_facts modules.now)) n) }
+    ensures ok { IfOk result (λ targets. (n : List ℕ)
+        → list_any (same_name n) targets.keys ≡ is_instantiated (map syntax (map module_facts modules.now)) n) }
 {
     let mut targets = IndexSet::new(alloc);
     for checked in modules {
@@ -51,7 +58,8 @@ fn targets(alloc: Global, modules: &[CheckedModule]) -> Result<IndexSet<Name>, N
 
 fn place_named(modules: &[CheckedModule], name: &[u8]) -> Option<usize>
     ensures there { IfSome result (λ k. k < length modules.now) }
-    ensures place { option_and_then (slice_get (map syntax (map module_facts modules.now))) result ≡ module_named (map syntax (map module_facts modules.now)) name.now }
+    ensures place { option_and_then (slice_get (map syntax (map module_facts modules.now))) result
+        ≡ module_named (map syntax (map module_facts modules.now)) name.now }
 {
     for k in 0..modules.len() {
         if modules[k].module.name.bytes() == name {
@@ -65,7 +73,8 @@ fn place_named(modules: &[CheckedModule], name: &[u8]) -> Option<usize>
 fn place_outside(modules: &[CheckedModule], targets: &IndexSet<Name>) -> Option<usize>
     ensures there { IfSome result (λ k. k < length modules.now) }
     ensures place { option_and_then (slice_get (map syntax (map module_facts modules.now))) result
-        ≡ the_only (filter (λ m. not (list_any (same_name m.name) targets.now.keys)) (map syntax (map module_facts modules.now))) }
+        ≡ the_only (filter (λ m. not (list_any (same_name m.name) targets.now.keys)) (map syntax
+        (map module_facts modules.now))) }
 {
     let mut found = None;
     for k in 0..modules.len() {
@@ -81,7 +90,9 @@ fn place_outside(modules: &[CheckedModule], targets: &IndexSet<Name>) -> Option<
 
 fn root(alloc: Global, modules: &[CheckedModule]) -> Result<Option<usize>, NoMemory>
     ensures there { IfOk result (λ found. IfSome found (λ k. k < length modules.now)) }
-    ensures place { IfOk result (λ found. option_and_then (slice_get (map syntax (map module_facts modules.now))) found ≡ the_only (roots (map syntax (map module_facts modules.now)))) }
+    ensures place { IfOk result (λ found. option_and_then (slice_get (map syntax (map module_facts modules.now)))
+        found
+        ≡ the_only (roots (map syntax (map module_facts modules.now)))) }
 {
     let targets = targets(alloc, modules)?;
     Ok(place_outside(modules, &targets))
@@ -95,7 +106,8 @@ pub fn place_of_top(
     name: Option<&[u8]>,
 ) -> Result<Option<usize>, NoMemory>
     ensures there { IfOk result (λ found. IfSome found (λ k. k < length checked.now)) }
-    ensures place { IfOk result (λ found. option_and_then (slice_get (map syntax checked.now)) found ≡ top_of (map syntax checked.now) (option_copied name.entry)) }
+    ensures place { IfOk result (λ found. option_and_then (slice_get (map syntax checked.now)) found
+        ≡ top_of (map syntax checked.now) (option_copied name.entry)) }
 {
     match name {
         Some(name) => Ok(place_named(checked.modules(), name)),

@@ -5,7 +5,7 @@ use Rattle.std.specs.List.{enumerate_from}
 use Rattle.std.proofs.lemmas.List.{get_or_past, length-map}
 use Rattle.bb_net.specs.declared.loose.LooseCell.{LooseCell}
 use Rattle.bb_net.specs.declared.loose.LooseCell.TheVariants as cell
-use Rattle.bb_net.specs.Loose.{LooseList, loose_at, operands, Reaches, NeedsBox, IsLoose}
+use Rattle.bb_net.specs.Loose.{LooseList, loose_at, operand_places, Reaches, NeedsBox, IsLoose}
 use Rattle.bb_net.specs.Netlists.{Pins, box_at}
 use Rattle.bb_bits.specs.Closures.{Leads}
 use Rattle.bb_design.specs.Dependence.{dependences}
@@ -13,7 +13,7 @@ use Rattle.bb_design.specs.Hierarchy.{Design, Scope, root, boxes, scopes, is_box
 use Rattle.bb_design.specs.Inside.Allowed.{IsBounded}
 use Rattle.bb_implements.specs.Laws.NamingLaws.{BoxNeedsAreOne}
 use Rattle.bb_design.specs.NetBits.{Bit, net_order, input_bits, output_bits, scope_bits}
-use Rattle.bb_implements.specs.Places.{CellPlace, NetBit, BoxPin, Lowering, IsLowering, given, place_in, pins_of, IsListOf}
+use Rattle.bb_implements.specs.Places.{CellName, NetBit, BoxPin, Lowering, IsLowering, driving_places, place_in, pins_of, IsListOf}
 use Rattle.bb_design.specs.Refusals.{AreDrivenOnce}
 use Rattle.bb_implements.proofs.LooseLists.{lists_are_loose}
 use Rattle.bb_lemmas.proofs.Members.{from_map, contains-map, contains_here, contains_cases, none_in_nil, kept_from, into_flat}
@@ -34,13 +34,13 @@ module _ (of_designs : DesignLaws) (d : Design) (lowering : Lowering) (l : Loose
 
   -- a walk leads to a bit that is a copy of a pin
   abbrev pub Ends : Bit → ℕ → ℕ → Type 0
-  Ends x b p = (e : Bit) × (m : ℕ) × Contains (net_order d) e × Reaches m l (place x) (place e) × (place_in (given d lowering) e ≡ BoxPin b p)
+  Ends x b p = (e : Bit) × (m : ℕ) × Contains (net_order d) e × Reaches m l (place x) (place e) × (place_in (driving_places d lowering) e ≡ BoxPin b p)
 
   -- the first step from the place of a bit
-  first_step : (x : Bit) → Contains (net_order d) x → (k : ℕ) → Contains (operands l.boxes (loose_at l (place x))) k → list.number (place_in (given d lowering) x) ≡ k
+  first_step : (x : Bit) → Contains (net_order d) x → (k : ℕ) → Contains (operand_places l.boxes (loose_at l (place x))) k → list.number (place_in (driving_places d lowering) x) ≡ k
   first_step x has k reads =
-      let q = list.number (place_in (given d lowering) x) in
-      only q (subst (λ c. Contains (operands l.boxes c) k) (listed_cell d lowering l list (NetBit x) (cell.Copy q) (net_listed d lowering l list x has)) reads)
+      let q = list.number (place_in (driving_places d lowering) x) in
+      only q (subst (λ c. Contains (operand_places l.boxes c) k) (listed_cell d lowering l list (NetBit x) (cell.Copy q) (net_listed d lowering l list x has)) reads)
     where
       only : (q : ℕ) → Contains (q ∷ []) k → q ≡ k
       only q at = by (contains_cases q [] k at)
@@ -49,10 +49,10 @@ module _ (of_designs : DesignLaws) (d : Design) (lowering : Lowering) (l : Loose
           by (inl e) = e
           by (inr none) = absurd (none_in_nil k none)
 
-  pub copy_step : (x : Bit) → Contains (net_order d) x → Contains (operands l.boxes (loose_at l (place x))) (list.number (place_in (given d lowering) x))
+  pub copy_step : (x : Bit) → Contains (net_order d) x → Contains (operand_places l.boxes (loose_at l (place x))) (list.number (place_in (driving_places d lowering) x))
   copy_step x has =
-      let q = list.number (place_in (given d lowering) x) in
-      subst (λ c. Contains (operands l.boxes c) q) (sym (listed_cell d lowering l list (NetBit x) (cell.Copy q) (net_listed d lowering l list x has))) (contains_here q [])
+      let q = list.number (place_in (driving_places d lowering) x) in
+      subst (λ c. Contains (operand_places l.boxes c) q) (sym (listed_cell d lowering l list (NetBit x) (cell.Copy q) (net_listed d lowering l list x has))) (contains_here q [])
 
   module _ (b p : ℕ) (v : LooseCell) (pin : IsListed d lowering l list (BoxPin b p) v) where
     pub ends : (fuel n : ℕ) → n < fuel → (x : Bit) → Contains (net_order d) x → Reaches n l (place x) (list.number (BoxPin b p)) → Ends x b p
@@ -64,16 +64,16 @@ module _ (of_designs : DesignLaws) (d : Design) (lowering : Lowering) (l : Loose
         by at.0 at.3 at.4 (walk_falls of_designs d lowering l list lowered wired n at.0 at.1 at.2 (BoxPin b p) v pin (subst (λ k. Reaches n l k (list.number (BoxPin b p))) from walk.2)) (λ e j less kept back. ends fuel j (omega (arith, less, lt)) e kept back)
       where
         -- from a bit that the walk passes
-        on : (e : Bit) (i : ℕ) → Reaches i l (list.number (place_in (given d lowering) x)) (place e) → Ends e b p → Ends x b p
+        on : (e : Bit) (i : ℕ) → Reaches i l (list.number (place_in (driving_places d lowering) x)) (place e) → Ends e b p → Ends x b p
         on e i there (f, m, kept, further, is) =
-            (f, suc (i + m), kept, (list.number (place_in (given d lowering) x), copy_step x has, walk_joined of_designs d lowering l list lowered wired i m (i + m) _ (place e) (place f) refl there further), is)
+            (f, suc (i + m), kept, (list.number (place_in (driving_places d lowering) x), copy_step x has, walk_joined of_designs d lowering l list lowered wired i m (i + m) _ (place e) (place f) refl there further), is)
 
         -- where the walk passes no bit, the place gives the pin itself
-        last : (q : CellPlace) → (q ≡ place_in (given d lowering) x) ⊎ (is_pin q ≡ false) → q ≡ BoxPin b p → Ends x b p
+        last : (q : CellName) → (q ≡ place_in (driving_places d lowering) x) ⊎ (is_pin q ≡ false) → q ≡ BoxPin b p → Ends x b p
         last q (inl same) is = (x, 0, has, refl, sym same ∙ is)
         last q (inr off) is = absurd (no_pin q b p off is)
 
-        by : (q : CellPlace) → list.number (place_in (given d lowering) x) ≡ list.number q → (q ≡ place_in (given d lowering) x) ⊎ (is_pin q ≡ false)
+        by : (q : CellName) → list.number (place_in (driving_places d lowering) x) ≡ list.number q → (q ≡ place_in (driving_places d lowering) x) ⊎ (is_pin q ≡ false)
             → Passes of_designs d lowering l list lowered wired n (list.number q) (list.number (BoxPin b p)) ⊎ (((n ≡ 0) × (q ≡ BoxPin b p)) ⊎ Lower (BoxPin b p) q)
             → ((e : Bit) (j : ℕ) → j ≤ n → Contains (net_order d) e → Reaches j l (place e) (list.number (BoxPin b p)) → Ends e b p) → Ends x b p
         by q same kind (inl (e, i, j, sum, kept, there, back)) rest = on e i (subst (λ k. Reaches i l k (place e)) (sym same) there) (rest e j (omega (arith, sum)) kept back)
@@ -152,9 +152,9 @@ module _ (of_designs : DesignLaws) (d : Design) (bounded : IsBounded d) (once : 
       let e = ends of_designs d lowering l list lowered w b p _ listed (suc n) n (omega arith) x.0 known to_pin in
       let tail = (claims of_designs d lowering l list lowered w e.0 e.2 e.1).nets x.0 known e.3 in
       let over = across x.0 e.0 tail in
-      let gives : place_in (given d other) e.0 ≡ BoxPin b p = first_found e.0 b p _ _ (found_first d lowering e.0 b p e.4) in
+      let gives : place_in (driving_places d other) e.0 ≡ BoxPin b p = first_found e.0 b p _ _ (found_first d lowering e.0 b p e.4) in
       let there = pin_listed d other m more b out.0 out.1 p out.2 out.3 in
-      let last : Reaches 1 m (more.number (NetBit e.0)) (more.number (BoxPin b p)) = (more.number (place_in (given d other) e.0), copy_step of_designs d other m more also w e.0 e.2, ap more.number gives) in (
+      let last : Reaches 1 m (more.number (NetBit e.0)) (more.number (BoxPin b p)) = (more.number (place_in (driving_places d other) e.0), copy_step of_designs d other m more also w e.0 e.2, ap more.number gives) in (
         more.number (NetBit x.0),
         more.number (BoxPin b p),
         over.0 + 1,

@@ -20,7 +20,7 @@ use Rattle.bb_design.specs.Registers.{cut_bits}
 use Rattle.bb_design.specs.Texts.{path_text}
 use Rattle.bb_design.specs.Laws.Wired.{IsWired}
 use Rattle.bb_implements.specs.BoxOrders.{DependsOnBox}
-use Rattle.bb_implements.specs.Places.{CellPlace, Constant, Input, NetBit, BoxPin, Lowering, IsLowering, given_by_box, given, place_in, IsListOf}
+use Rattle.bb_implements.specs.Places.{CellName, Constant, Input, NetBit, BoxPin, Lowering, IsLowering, given_by_box, driving_places, place_in, IsListOf}
 use Rattle.bb_implements.specs.Implements.{box_number}
 use Rattle.bb_lemmas.proofs.Apart.{one_by}
 use Rattle.bb_lemmas.proofs.Members.{from_flat, from_map, from_find, contains-map, into_flat, find_there}
@@ -42,13 +42,13 @@ box_of (MadeOf path t) = None
 box_of (Box s pin) = Some s
 
 -- the number of the box at a pin
-abbrev pin_box : CellPlace → Option ℕ
+abbrev pin_box : CellName → Option ℕ
 pin_box (Constant b) = None
 pin_box (Input i) = None
 pin_box (NetBit b) = None
-pin_box (CellPlace.Step k x i) = None
-pin_box (CellPlace.Joined k x) = None
-pin_box (CellPlace.Inverted k) = None
+pin_box (CellName.Step k x i) = None
+pin_box (CellName.Joined k x) = None
+pin_box (CellName.Inverted k) = None
 pin_box (BoxPin b p) = Some b
 
 none_is_some : {A : Type 0} (x : A) → None ≡ Some x → ⊥
@@ -87,30 +87,30 @@ module _ (of_designs : DesignLaws) (d : Design) (bounded : IsBounded d) (once : 
   abbrev wired : IsWired d
   wired = of_designs.wired d bounded
 
-  abbrev inputs : List (Bit × CellPlace)
+  abbrev inputs : List (Bit × CellName)
   inputs = map (λ x. (x.1, Input x.0)) (enumerate_from 0 (cut_bits d))
 
-  abbrev pins : List (Bit × CellPlace)
+  abbrev pins : List (Bit × CellName)
   pins = flat_map given_by_box (enumerate_from 0 (boxes d))
 
-  abbrev test : Bit → Bit × CellPlace → Bool
+  abbrev test : Bit → Bit × CellName → Bool
   test b x = same_bit b x.0
 
   -- what gives a bit at a pin
-  record PinOf (b : ℕ) (x : Bit × CellPlace) : Type 0 where
+  record PinOf (b : ℕ) (x : Bit × CellName) : Type 0 where
     pub scope : Scope
     pub pin : ℕ
     pub number : numbered d b scope
     pub listed : Contains (enumerate_from 0 (output_bits scope)) (pin, x.0)
     pub is : x.1 ≡ BoxPin b pin
 
-  pin_of : (x : Bit × CellPlace) → Contains pins x → (b : ℕ) × PinOf b x
+  pin_of : (x : Bit × CellName) → Contains pins x → (b : ℕ) × PinOf b x
   pin_of x has =
       let b = from_flat given_by_box (enumerate_from 0 (boxes d)) x has in
-      let p = from_map {B = Bit × CellPlace} (λ (y : ℕ × Bit). (y.1, BoxPin b.0.0 y.0)) (enumerate_from 0 (output_bits b.0.1)) x b.2 in
-      let bit : p.0.1 ≡ x.0 = ap (λ (u : Bit × CellPlace). u.0) p.2 in (
+      let p = from_map {B = Bit × CellName} (λ (y : ℕ × Bit). (y.1, BoxPin b.0.0 y.0)) (enumerate_from 0 (output_bits b.0.1)) x b.2 in
+      let bit : p.0.1 ≡ x.0 = ap (λ (u : Bit × CellName). u.0) p.2 in (
         b.0.0,
-        record { scope = b.0.1; pin = p.0.0; number = b.1; listed = subst (λ y. Contains (enumerate_from 0 (output_bits b.0.1)) (p.0.0, y)) bit p.1; is = sym (ap (λ (u : Bit × CellPlace). u.1) p.2) },
+        record { scope = b.0.1; pin = p.0.0; number = b.1; listed = subst (λ y. Contains (enumerate_from 0 (output_bits b.0.1)) (p.0.0, y)) bit p.1; is = sym (ap (λ (u : Bit × CellName). u.1) p.2) },
       )
 
   -- the box drives the bits of its outputs
@@ -119,7 +119,7 @@ module _ (of_designs : DesignLaws) (d : Design) (bounded : IsBounded d) (once : 
       part_driven of_designs d (s, BoxContents) (box_part of_designs d s has) (driven (Box s p) y) (contains-map (λ (x : ℕ × Bit). driven (Box s x.0) x.1) (enumerate_from 0 (output_bits s)) (p, y) at)
 
   -- an output bit of a box is given by a pin of the box
-  pin_given : (b : ℕ) (t : Scope) → numbered d b t → (y : Bit) → Contains (output_bits t) y → (p : ℕ) × (place_in (given d lowering) y ≡ BoxPin b p) × Contains (enumerate_from 0 (output_bits t)) (p, y)
+  pin_given : (b : ℕ) (t : Scope) → numbered d b t → (y : Bit) → Contains (output_bits t) y → (p : ℕ) × (place_in (driving_places d lowering) y ≡ BoxPin b p) × Contains (enumerate_from 0 (output_bits t)) (p, y)
   pin_given b t has y at =
       by (Contains-append_cases inputs pins found.0 found.3)
     where
@@ -128,9 +128,9 @@ module _ (of_designs : DesignLaws) (d : Design) (bounded : IsBounded d) (once : 
 
       entry : Contains pins (y, BoxPin b at_pin.0)
       entry = into_flat given_by_box (enumerate_from 0 (boxes d)) (b, t) (y, BoxPin b at_pin.0) has
-          (contains-map {B = Bit × CellPlace} (λ (x : ℕ × Bit). (x.1, BoxPin b x.0)) (enumerate_from 0 (output_bits t)) (at_pin.0, y) at_pin.1)
+          (contains-map {B = Bit × CellName} (λ (x : ℕ × Bit). (x.1, BoxPin b x.0)) (enumerate_from 0 (output_bits t)) (at_pin.0, y) at_pin.1)
 
-      found : (x : Bit × CellPlace) × (find (test y) (inputs ++ pins) ≡ Some x) × (test y x ≡ true) × Contains (inputs ++ pins) x
+      found : (x : Bit × CellName) × (find (test y) (inputs ++ pins) ≡ Some x) × (test y x ≡ true) × Contains (inputs ++ pins) x
       found = find_there (test y) (inputs ++ pins) (y, BoxPin b at_pin.0) (Contains-append_right inputs pins (y, BoxPin b at_pin.0) entry) ((of_designs.distinguished y y).1 refl)
 
       bit : y ≡ found.0.0
@@ -143,13 +143,13 @@ module _ (of_designs : DesignLaws) (d : Design) (bounded : IsBounded d) (once : 
       also : (z : Drive) → Contains (drives d) z → z.bit ≡ y → Some t ≡ box_of z.source
       also z there same = ap (λ (u : Drive). box_of u.source) (one_by (λ (u : Drive). u.bit) (drives d) once (driven (Box t at_pin.0) y) z from_box there (sym same))
 
-      given_there : (p : ℕ) → found.0.1 ≡ BoxPin b p → place_in (given d lowering) y ≡ BoxPin b p
-      given_there p is = first_found y b p (inputs ++ pins) _ (ap (λ o. option_map_or (λ (x : Bit × CellPlace). x.1) o (Constant false)) found.1 ∙ is)
+      given_there : (p : ℕ) → found.0.1 ≡ BoxPin b p → place_in (driving_places d lowering) y ≡ BoxPin b p
+      given_there p is = first_found y b p (inputs ++ pins) _ (ap (λ o. option_map_or (λ (x : Bit × CellName). x.1) o (Constant false)) found.1 ∙ is)
 
-      by : Contains inputs found.0 ⊎ Contains pins found.0 → (p : ℕ) × (place_in (given d lowering) y ≡ BoxPin b p) × Contains (enumerate_from 0 (output_bits t)) (p, y)
+      by : Contains inputs found.0 ⊎ Contains pins found.0 → (p : ℕ) × (place_in (driving_places d lowering) y ≡ BoxPin b p) × Contains (enumerate_from 0 (output_bits t)) (p, y)
       by (inl h) =
-          let i = from_map {B = Bit × CellPlace} (λ x. (x.1, Input x.0)) (enumerate_from 0 (cut_bits d)) found.0 h in
-          let same : i.0.1 ≡ y = ap (λ (u : Bit × CellPlace). u.0) i.2 ∙ sym bit in
+          let i = from_map {B = Bit × CellName} (λ x. (x.1, Input x.0)) (enumerate_from 0 (cut_bits d)) found.0 h in
+          let same : i.0.1 ≡ y = ap (λ (u : Bit × CellName). u.0) i.2 ∙ sym bit in
           absurd (none_is_some t (sym (also (driven Free i.0.1) (cut_driven of_designs d i.0.1 (from_numbered 0 (cut_bits d) i.0 i.1)) same)))
       by (inr h) =
           let r = pin_of found.0 h in
@@ -160,19 +160,19 @@ module _ (of_designs : DesignLaws) (d : Design) (bounded : IsBounded d) (once : 
           (q.pin, given_there q.pin (q.is ∙ ap (λ k. BoxPin k q.pin) number), subst (λ u. Contains (enumerate_from 0 (output_bits t)) (q.pin, u)) (sym bit) (subst (λ s. Contains (enumerate_from 0 (output_bits s)) (q.pin, found.0.0)) (sym scope) q.listed))
 
   -- and what a pin of a box gives is an output bit of the box
-  given_pin : (e : Bit) (b p : ℕ) → place_in (given d lowering) e ≡ BoxPin b p → (t : Scope) × numbered d b t × Contains (output_bits t) e
+  given_pin : (e : Bit) (b p : ℕ) → place_in (driving_places d lowering) e ≡ BoxPin b p → (t : Scope) × numbered d b t × Contains (output_bits t) e
   given_pin e b p is = by (find (test e) (inputs ++ pins)) refl (found_first d lowering e b p is)
     where
-      at : (x : Bit × CellPlace) → (e ≡ x.0) → x.1 ≡ BoxPin b p → Contains inputs x ⊎ Contains pins x → (t : Scope) × numbered d b t × Contains (output_bits t) e
+      at : (x : Bit × CellName) → (e ≡ x.0) → x.1 ≡ BoxPin b p → Contains inputs x ⊎ Contains pins x → (t : Scope) × numbered d b t × Contains (output_bits t) e
       at x bit there (inl h) =
-          let i = from_map {B = Bit × CellPlace} (λ x. (x.1, Input x.0)) (enumerate_from 0 (cut_bits d)) x h in
-          absurd (none_is_some b (ap (λ (u : Bit × CellPlace). pin_box u.1) i.2 ∙ ap pin_box there))
+          let i = from_map {B = Bit × CellName} (λ x. (x.1, Input x.0)) (enumerate_from 0 (cut_bits d)) x h in
+          absurd (none_is_some b (ap (λ (u : Bit × CellName). pin_box u.1) i.2 ∙ ap pin_box there))
       at x bit there (inr h) =
           let r = pin_of x h in
           let number : r.0 ≡ b = cc (ap pin_box (sym r.1.is ∙ there)) in
           (r.1.scope, subst (λ k. numbered d k r.1.scope) number r.1.number, subst (Contains (output_bits r.1.scope)) (sym bit) (from_numbered 0 (output_bits r.1.scope) (r.1.pin, x.0) r.1.listed))
 
-      by : (o : Option (Bit × CellPlace)) → find (test e) (inputs ++ pins) ≡ o → option_map_or (λ (x : Bit × CellPlace). x.1) o (Constant false) ≡ BoxPin b p → (t : Scope) × numbered d b t × Contains (output_bits t) e
+      by : (o : Option (Bit × CellName)) → find (test e) (inputs ++ pins) ≡ o → option_map_or (λ (x : Bit × CellName). x.1) o (Constant false) ≡ BoxPin b p → (t : Scope) × numbered d b t × Contains (output_bits t) e
       by None same there = absurd (none_is_some b (ap pin_box there))
       by (Some x) same there = let f = from_find (test e) (inputs ++ pins) x same in at x ((of_designs.distinguished e x.0).0 f.1) there (Contains-append_cases inputs pins x f.0)
 
@@ -199,7 +199,7 @@ module _ (of_designs : DesignLaws) (d : Design) (bounded : IsBounded d) (once : 
       let known = output_known in
       let to_bit = across on.depends in
       let last : Reaches 1 l (list.number (NetBit on.output)) (list.number (BoxPin b pin.0)) =
-      (list.number (place_in (given d lowering) on.output), copy_step of_designs d lowering l list lowered wired on.output known, ap list.number pin.1) in (
+      (list.number (place_in (driving_places d lowering) on.output), copy_step of_designs d lowering l list lowered wired on.output known, ap list.number pin.1) in (
         list.number (NetBit on.input),
         list.number (BoxPin b pin.0),
         to_bit.0 + 1,

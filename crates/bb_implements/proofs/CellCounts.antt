@@ -32,7 +32,7 @@ use Rattle.bb_design.specs.Contexts.{made_in, width_of, context_width}
 use Rattle.bb_design.specs.Constructs.{Construct, Assignment, GateInstance, Register, SupplyNet, InputConnection, OutputConnection, BoxContents, body_constructs, constructs_at, parts}
 use Rattle.bb_design.specs.Drivers.{terminal_terms}
 use Rattle.bb_design.specs.GateFunctions.{inverts, joins, on_terms, joined_after, gate_gives, gate_cells}
-use Rattle.bb_implements.specs.Places.{Constant, Input, NetBit, Step, Inverted, BoxPin, Numbering, lowered_in, Lowering, IsLowering, step_cell, step_cells, joined_place, joining_places, inverting_place, gate_places, places_at, box_places, prefix_places, operator_places, places, given, place_in}
+use Rattle.bb_implements.specs.Places.{Constant, Input, NetBit, Step, Inverted, BoxPin, Numbering, lowered_in, Lowering, IsLowering, step_cell, step_cells, joined_place, joining_places, inverting_place, gate_places, places_at, box_places, prefix_places, operator_places, placed_cells, driving_places, place_in}
 use Rattle.bb_design.specs.Reading.{cells_at}
 use Rattle.bb_design.specs.Registers.{cut_bits}
 use Rattle.bb_design.specs.Sizes.{cell_count_at, cells_in}
@@ -264,18 +264,18 @@ module _ (d : Design) (lowering : Lowering) (number : Numbering) (lowered : IsLo
     scopes_count (scopes d),
   )
 
-  pub places_few : length (places d lowering number) ≤ cells_in d + length (net_order d)
+  pub places_few : length (placed_cells d lowering number) ≤ cells_in d + length (net_order d)
   places_few = omega (arith, length-append (prefix_places d lowering number) (operator_places d lowering number), prefix-length d lowering number, operators_few)
 
   abbrev inputs : List Entry
   inputs = map (λ i. (Input i, cell.Input i)) (range_with_len 0 (length (cut_bits d)))
 
   abbrev nets : List Bit → List Entry
-  nets bits = map (λ b. (NetBit b, cell.Copy (number (place_in (given d lowering) b)))) bits
+  nets bits = map (λ b. (NetBit b, cell.Copy (number (place_in (driving_places d lowering) b)))) bits
 
   nets_kept : (bits : List Bit) → kept (nets bits) ≡ 0
   nets_kept [] = refl
-  nets_kept (b ∷ bits) = omega (arith, sum_by-cons weight (NetBit b, cell.Copy (number (place_in (given d lowering) b))) (nets bits), nets_kept bits)
+  nets_kept (b ∷ bits) = omega (arith, sum_by-cons weight (NetBit b, cell.Copy (number (place_in (driving_places d lowering) b))) (nets bits), nets_kept bits)
 
   abbrev constants : List Entry
   constants = (Constant false, cell.Const false) ∷ (Constant true, cell.Const true) ∷ []
@@ -284,7 +284,7 @@ module _ (d : Design) (lowering : Lowering) (number : Numbering) (lowered : IsLo
   prefix_kept = omega (arith, sum_by-append weight (constants ++ inputs) (nets (net_order d)), sum_by-append weight constants inputs, kept-length constants, kept-length inputs, nets_kept (net_order d), length-map {B = Entry} (range_with_len 0 (length (cut_bits d))) (λ i. (Input i, cell.Input i)), length-range 0 (length (cut_bits d)))
 
   -- the kept cells of the list are at most those of the design
-  pub kept_within : kept (places d lowering number) ≤ cells_in d
+  pub kept_within : kept (placed_cells d lowering number) ≤ cells_in d
   kept_within = omega (arith, sum_by-append weight (prefix_places d lowering number) (operator_places d lowering number), prefix_kept, kept-length (operator_places d lowering number), operators_few)
 
 -- a list in which all numbers below n are is at least as long
@@ -302,7 +302,7 @@ module _ (of_designs : DesignLaws) (d : Design) (f : FlatNet) (bounded : IsBound
   number = occurs.listed.number
 
   abbrev all : List Entry
-  all = places d occurs.lowering number
+  all = placed_cells d occurs.lowering number
 
   abbrev kept_entries : List Entry
   kept_entries = filter (λ x. is_kept x.1) all

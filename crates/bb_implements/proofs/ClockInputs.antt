@@ -16,7 +16,7 @@ use Rattle.bb_design.specs.Inside.Allowed.{IsBounded}
 use Rattle.bb_design.specs.NetBits.{Bit, same_bit, net_order, top_inputs}
 use Rattle.bb_design.specs.Constructs.{parts}
 use Rattle.bb_design.specs.Drivers.{Free, Drive, driven, drives, driven_bits}
-use Rattle.bb_implements.specs.Places.{CellPlace, Constant, Input, NetBit, Lowering, IsLowering, IsListOf, given_at, given_by_box, given, place_in, prefix_places}
+use Rattle.bb_implements.specs.Places.{CellName, Constant, Input, NetBit, Lowering, IsLowering, IsListOf, given_at, given_by_box, driving_places, place_in, prefix_places}
 use Rattle.bb_implements.specs.Inside.ReadPlaces.{copy_steps, FollowsAt}
 use Rattle.bb_design.specs.Refusals.{AreDrivenOnce}
 use Rattle.bb_design.specs.Registers.{RegisterBit, registers, cut_bits}
@@ -37,22 +37,22 @@ range_at a (suc n) zero lt = let plus : a ≡ a + 0 = omega arith in ap Some plu
 range_at a (suc n) (suc i) lt = let plus : (a + 1) + i ≡ a + suc i = omega arith in range_at (a + 1) n i (omega (arith, lt)) ∙ ap Some plus
 
 module _ (of_designs : DesignLaws) (d : Design) (lowering : Lowering) (l : LooseList) (list : IsListOf d lowering l) where
-  abbrev prefix : List (CellPlace × LooseCell)
+  abbrev prefix : List (CellName × LooseCell)
   prefix = prefix_places d lowering list.number
 
   -- a place of the front has its place there as its number
-  prefix_number : (k : ℕ) (p : CellPlace) (u : LooseCell) → slice_get prefix k ≡ Some (p, u) → list.number p ≡ k
+  prefix_number : (k : ℕ) (p : CellName) (u : LooseCell) → slice_get prefix k ≡ Some (p, u) → list.number p ≡ k
   prefix_number k p u at =
       let g = got prefix k (p, u) (p, u) at in
-      let here : slice_get (range_with_len 0 (length prefix)) k ≡ Some (list.number p) = ap (λ l. slice_get l k) (sym list.prefix) ∙ got-map (λ (x : CellPlace × LooseCell). list.number x.0) prefix k (p, u) at in
+      let here : slice_get (range_with_len 0 (length prefix)) k ≡ Some (list.number p) = ap (λ l. slice_get l k) (sym list.prefix) ∙ got-map (λ (x : CellName × LooseCell). list.number x.0) prefix k (p, u) at in
       let both : Some (list.number p) ≡ Some (0 + k) = sym here ∙ range_at 0 (length prefix) k g.0 in
       let is : list.number p ≡ 0 + k = grind (arith, both) in omega (arith, is)
 
-  abbrev inputs : List (CellPlace × LooseCell)
+  abbrev inputs : List (CellName × LooseCell)
   inputs = map (λ i. (Input i, cell.Input i)) (range_with_len 0 (length (cut_bits d)))
 
-  abbrev nets : List (CellPlace × LooseCell)
-  nets = map (λ b. (NetBit b, cell.Copy (list.number (place_in (given d lowering) b)))) (net_order d)
+  abbrev nets : List (CellName × LooseCell)
+  nets = map (λ b. (NetBit b, cell.Copy (list.number (place_in (driving_places d lowering) b)))) (net_order d)
 
   long_inputs : length inputs ≡ length (cut_bits d)
   long_inputs = length-map (range_with_len 0 (length (cut_bits d))) _ ∙ length-range_with_len 0 (length (cut_bits d))
@@ -60,8 +60,8 @@ module _ (of_designs : DesignLaws) (d : Design) (lowering : Lowering) (l : Loose
   pub net_number : (k : ℕ) (b : Bit) → slice_get (net_order d) k ≡ Some b → list.number (NetBit b) ≡ (2 + length (cut_bits d)) + k
   net_number k b at =
       let place : (2 + length (cut_bits d)) + k ≡ length ((Constant false, cell.Const false) ∷ (Constant true, cell.Const true) ∷ inputs) + k = omega (arith, long_inputs) in
-      prefix_number ((2 + length (cut_bits d)) + k) (NetBit b) (cell.Copy (list.number (place_in (given d lowering) b)))
-      (ap (slice_get prefix) place ∙ got_right ((Constant false, cell.Const false) ∷ (Constant true, cell.Const true) ∷ inputs) nets k ∙ got-map {B = CellPlace × LooseCell} (λ b. (NetBit b, cell.Copy (list.number (place_in (given d lowering) b)))) (net_order d) k b at)
+      prefix_number ((2 + length (cut_bits d)) + k) (NetBit b) (cell.Copy (list.number (place_in (driving_places d lowering) b)))
+      (ap (slice_get prefix) place ∙ got_right ((Constant false, cell.Const false) ∷ (Constant true, cell.Const true) ∷ inputs) nets k ∙ got-map {B = CellName × LooseCell} (λ b. (NetBit b, cell.Copy (list.number (place_in (driving_places d lowering) b)))) (net_order d) k b at)
 
   -- the place of a bit is one of the list
   pub net_there : (k : ℕ) (b : Bit) → slice_get (net_order d) k ≡ Some b → (2 + length (cut_bits d)) + k < length l.cells
@@ -79,12 +79,12 @@ module _ (of_designs : DesignLaws) (d : Design) (lowering : Lowering) (l : Loose
   input_number k lt =
       let zero_plus : 0 + k ≡ k = omega arith in
       let two : k + 2 ≡ suc (suc k) = omega arith in
-      let at : slice_get inputs k ≡ Some (Input k, cell.Input k) = got-map {B = CellPlace × LooseCell} (λ i. (Input i, cell.Input i)) (range_with_len 0 (length (cut_bits d))) k (0 + k) (range_at 0 (length (cut_bits d)) k lt) ∙ ap (λ i. Some (Input i, cell.Input i)) zero_plus in
+      let at : slice_get inputs k ≡ Some (Input k, cell.Input k) = got-map {B = CellName × LooseCell} (λ i. (Input i, cell.Input i)) (range_with_len 0 (length (cut_bits d))) k (0 + k) (range_at 0 (length (cut_bits d)) k lt) ∙ ap (λ i. Some (Input i, cell.Input i)) zero_plus in
       prefix_number (k + 2) (Input k) (cell.Input k) (ap (slice_get prefix) two ∙ in_prefix inputs nets k (Input k, cell.Input k) at)
 
   -- the place that gives an input
-  first_input : (a : ℕ) (xs : List Bit) (rest : List (Bit × CellPlace)) (k : ℕ) (c : Bit) → slice_get xs k ≡ Some c
-      → (i : ℕ) × (y : Bit) × (i ≤ k) × (find (λ (x : Bit × CellPlace). same_bit c x.0) (map (λ x. (x.1, Input x.0)) (enumerate_from a xs) ++ rest) ≡ Some (y, Input (a + i)))
+  first_input : (a : ℕ) (xs : List Bit) (rest : List (Bit × CellName)) (k : ℕ) (c : Bit) → slice_get xs k ≡ Some c
+      → (i : ℕ) × (y : Bit) × (i ≤ k) × (find (λ (x : Bit × CellName). same_bit c x.0) (map (λ x. (x.1, Input x.0)) (enumerate_from a xs) ++ rest) ≡ Some (y, Input (a + i)))
   first_input a [] rest k c e = cc
   first_input a (x ∷ xs) rest k c e = by (same_bit c x) refl k e (first_input (a + 1) xs rest)
     where
@@ -94,15 +94,15 @@ module _ (of_designs : DesignLaws) (d : Design) (lowering : Lowering) (l : Loose
       next : (i : ℕ) → (a + 1) + i ≡ a + suc i
       next i = omega arith
 
-      tail : List (Bit × CellPlace)
+      tail : List (Bit × CellName)
       tail = map (λ x. (x.1, Input x.0)) (enumerate_from (a + 1) xs) ++ rest
 
-      chosen : (b : Bool) → same_bit c x ≡ b → find (λ (x : Bit × CellPlace). same_bit c x.0) ((x, Input a) ∷ tail) ≡ (if b then Some (x, Input a) else find (λ (x : Bit × CellPlace). same_bit c x.0) tail)
-      chosen b same = ap (λ t. if t then Some (x, Input a) else find (λ (x : Bit × CellPlace). same_bit c x.0) tail) same
+      chosen : (b : Bool) → same_bit c x ≡ b → find (λ (x : Bit × CellName). same_bit c x.0) ((x, Input a) ∷ tail) ≡ (if b then Some (x, Input a) else find (λ (x : Bit × CellName). same_bit c x.0) tail)
+      chosen b same = ap (λ t. if t then Some (x, Input a) else find (λ (x : Bit × CellName). same_bit c x.0) tail) same
 
       by : (b : Bool) → same_bit c x ≡ b → (k : ℕ) → slice_get (x ∷ xs) k ≡ Some c
-          → ((k : ℕ) (c : Bit) → slice_get xs k ≡ Some c → (i : ℕ) × (y : Bit) × (i ≤ k) × (find (λ (x : Bit × CellPlace). same_bit c x.0) tail ≡ Some (y, Input ((a + 1) + i))))
-          → (i : ℕ) × (y : Bit) × (i ≤ k) × (find (λ (x : Bit × CellPlace). same_bit c x.0) ((x, Input a) ∷ tail) ≡ Some (y, Input (a + i)))
+          → ((k : ℕ) (c : Bit) → slice_get xs k ≡ Some c → (i : ℕ) × (y : Bit) × (i ≤ k) × (find (λ (x : Bit × CellName). same_bit c x.0) tail ≡ Some (y, Input ((a + 1) + i))))
+          → (i : ℕ) × (y : Bit) × (i ≤ k) × (find (λ (x : Bit × CellName). same_bit c x.0) ((x, Input a) ∷ tail) ≡ Some (y, Input (a + i)))
       by true on k e more = (0, x, omega arith, chosen true on ∙ ap (λ i. Some (x, Input i)) plus)
       by false off zero e more = let same : x ≡ c = grind (arith, e) in absurd (true≢false (sym (((of_designs.distinguished c c).1 refl)) ∙ ap (same_bit c) (sym same) ∙ off))
       by false off (suc k) e more = let r = more k c e in (suc r.0, r.1, omega (arith, r.2), chosen false off ∙ r.3 ∙ ap (λ i. Some (r.1, Input i)) (next r.0))
@@ -125,18 +125,18 @@ module _ (of_designs : DesignLaws) (d : Design) (lowering : Lowering) (l : Loose
     to_input k c at =
         let cut = in_prefix (top_inputs d) (map (λ (r : RegisterBit). r.bit) (registers d)) k c at in
         let f = first_input 0 (cut_bits d) (flat_map given_by_box (enumerate_from 0 (boxes d)) ++ flat_map (given_at lowering) (enumerate_from 0 (parts d))) k c cut in
-        let same : given d lowering ≡ map (λ x. (x.1, Input x.0)) (enumerate_from 0 (cut_bits d)) ++ (flat_map given_by_box (enumerate_from 0 (boxes d)) ++ flat_map (given_at lowering) (enumerate_from 0 (parts d))) =
+        let same : driving_places d lowering ≡ map (λ x. (x.1, Input x.0)) (enumerate_from 0 (cut_bits d)) ++ (flat_map given_by_box (enumerate_from 0 (boxes d)) ++ flat_map (given_at lowering) (enumerate_from 0 (parts d))) =
         append_assoc (map (λ x. (x.1, Input x.0)) (enumerate_from 0 (cut_bits d))) (flat_map given_by_box (enumerate_from 0 (boxes d))) (flat_map (given_at lowering) (enumerate_from 0 (parts d))) in
         let zero_plus : 0 + f.0 ≡ f.0 = omega arith in
-        let place : place_in (given d lowering) c ≡ Input f.0 =
-        ap (λ all. option_map_or (λ (x : Bit × CellPlace). x.1) (find (λ (x : Bit × CellPlace). same_bit c x.0) all) (Constant false)) same ∙ ap (λ o. option_map_or (λ (x : Bit × CellPlace). x.1) o (Constant false)) f.3 ∙ ap Input zero_plus in
+        let place : place_in (driving_places d lowering) c ≡ Input f.0 =
+        ap (λ all. option_map_or (λ (x : Bit × CellName). x.1) (find (λ (x : Bit × CellName). same_bit c x.0) all) (Constant false)) same ∙ ap (λ o. option_map_or (λ (x : Bit × CellName). x.1) o (Constant false)) f.3 ∙ ap Input zero_plus in
         let small = got (cut_bits d) k c c cut in
-        let number : list.number (place_in (given d lowering) c) ≡ f.0 + 2 = ap list.number place ∙ input_number f.0 (omega (arith, f.2, small.0)) in
+        let number : list.number (place_in (driving_places d lowering) c) ≡ f.0 + 2 = ap list.number place ∙ input_number f.0 (omega (arith, f.2, small.0)) in
         let g = got (top_inputs d) k c c at in
         let listed = net_listed d lowering l list c (top_there c (k, g.0, g.1)) in (
           f.0,
           f.2,
-          inr (One (subst (λ q. Contains {X = ℕ × ℕ} (copy_steps l.cells) (list.number (NetBit c), q)) number (copy_to l.cells (list.number (NetBit c)) (list.number (place_in (given d lowering) c)) (cell.Const false)
+          inr (One (subst (λ q. Contains {X = ℕ × ℕ} (copy_steps l.cells) (list.number (NetBit c), q)) number (copy_to l.cells (list.number (NetBit c)) (list.number (place_in (driving_places d lowering) c)) (cell.Const false)
               (listed_below d lowering l list (NetBit c) _ listed) (listed_cell d lowering l list (NetBit c) _ listed)))),
         )
 

@@ -36,7 +36,7 @@ use Rattle.bb_design.specs.Laws.{BitsAreThere}
 use Rattle.bb_implements.proofs.CopyWalks.{follows_at}
 use Rattle.bb_design.specs.Drivers.{MadeOf, Drive, driven, driven_by, terminal_terms, drives_at, drives}
 use Rattle.bb_design.specs.GateFunctions.{on_terms, joins, joined, joined_after, joining_cells, gate_cells, inverts, gate_gives}
-use Rattle.bb_implements.specs.Places.{CellPlace, Constant, Input, NetBit, Step, Joined, Inverted, BoxPin, lowered_in, Lowering, IsLowering, step_places, given_at, given_by_box, given, place_in, terminal_place, joined_place, gate_place, step_cell, join_cell, places, pins_of, data_at, data_places, IsListOf}
+use Rattle.bb_implements.specs.Places.{CellName, Constant, Input, NetBit, Step, Joined, Inverted, BoxPin, lowered_in, Lowering, IsLowering, step_places, given_at, given_by_box, driving_places, place_in, terminal_place, joined_place, gate_place, step_cell, join_cell, placed_cells, pins_of, data_at, data_places, IsListOf}
 use Rattle.bb_design.specs.Registers.{RegisterBit, registers, cut_bits, data_terms}
 use Rattle.bb_lemmas.proofs.Numbered.{enumerated_from, numbered_at, from_numbered}
 use Rattle.bb_implements.proofs.GivenDrives.{term_of, box_part, part_driven, whole_terms, low_terms, pin_terms, sides_meet}
@@ -52,7 +52,7 @@ use Rattle.bb_implements.specs.Laws.CellLaws.{ReadPlacesAreReadBits}
 use Rattle.bb_design.specs.Laws.DesignLaws.{DesignLaws}
 
 -- whether a place is neither that of a bit of a net nor that of an input
-abbrev pub is_plain : CellPlace → Bool
+abbrev pub is_plain : CellName → Bool
 is_plain (NetBit b) = false
 is_plain (Input i) = false
 is_plain (Constant b) = true
@@ -61,10 +61,10 @@ is_plain (Joined k x) = true
 is_plain (Inverted k) = true
 is_plain (BoxPin b p) = true
 
-pub not_plain : (p q : CellPlace) → is_plain p ≡ true → is_plain q ≡ false → p ≡ q → ⊥
+pub not_plain : (p q : CellName) → is_plain p ≡ true → is_plain q ≡ false → p ≡ q → ⊥
 not_plain p q on off e = let same : true ≡ false = sym on ∙ ap is_plain e ∙ off in grind (arith, same)
 
-bit_at : CellPlace → Bit → Bit
+bit_at : CellName → Bit → Bit
 bit_at (NetBit b) c = b
 bit_at (Constant b) c = c
 bit_at (Input i) c = c
@@ -104,7 +104,7 @@ lowered_cell s BoxContents e w has t made = absurd (none_in_nil (e, w) has)
 
 -- copies that lead to a place, which is that of a bit or of an input, and the bits from which they lead there
 module _ (of_designs : DesignLaws) (d : Design) (lowering : Lowering) (l : LooseList) (list : IsListOf d lowering l) (lowered : IsLowering d lowering) (wired : IsWired d) (goal : ℕ) (Tail : Bit → Type 0)
-    (not_last : (p : CellPlace) (u : LooseCell) → IsListed d lowering l list p u → is_plain p ≡ true → list.number p ≡ goal → ⊥)
+    (not_last : (p : CellName) (u : LooseCell) → IsListed d lowering l list p u → is_plain p ≡ true → list.number p ≡ goal → ⊥)
     (at_net : (b : Bit) → Contains (net_order d) b → list.number (NetBit b) ≡ goal → Tail b)
     (at_input : (i : ℕ) (b : Bit) → Contains (enumerate_from 0 (cut_bits d)) (i, b) → list.number (Input i) ≡ goal → Tail b)
     (closed : (b c : Bit) → Contains (copied_bits d) (b, c) → Tail c → Tail b) where
@@ -120,10 +120,10 @@ module _ (of_designs : DesignLaws) (d : Design) (lowering : Lowering) (l : Loose
   Below low = (c : Bit) × Contains low c × Tail c
 
   -- the first step of a walk
-  first_step : (n : ℕ) (p : CellPlace) (u : LooseCell) → IsListed d lowering l list p u → Walk (suc n) (list.number p) → (q : ℕ) × (u ≡ cell.Copy q) × Walk n q
+  first_step : (n : ℕ) (p : CellName) (u : LooseCell) → IsListed d lowering l list p u → Walk (suc n) (list.number p) → (q : ℕ) × (u ≡ cell.Copy q) × Walk n q
   first_step n p u listed walk = let f = copy_from l.cells (list.number p) walk.0 (cell.Const false) walk.1 in (walk.0, sym (listed_cell d lowering l list p u listed) ∙ f.1, walk.2)
 
-  no_walk : (n : ℕ) (p : CellPlace) (u : LooseCell) → IsListed d lowering l list p u → is_plain p ≡ true → ((q : ℕ) → u ≡ cell.Copy q → ⊥) → Walk n (list.number p) → ⊥
+  no_walk : (n : ℕ) (p : CellName) (u : LooseCell) → IsListed d lowering l list p u → is_plain p ≡ true → ((q : ℕ) → u ≡ cell.Copy q → ⊥) → Walk n (list.number p) → ⊥
   no_walk zero p u listed off none walk = not_last p u listed off walk
   no_walk (suc n) p u listed off none walk = let f = first_step n p u listed walk in none f.0 f.1
 
@@ -242,21 +242,21 @@ module _ (of_designs : DesignLaws) (d : Design) (lowering : Lowering) (l : Loose
     pub joins : (k : ℕ) (s : Scope) (gate : Gate) (outs ins : List Expression) (has : Part k s (GateInstance gate outs ins)) → Joins k s gate outs ins has n
 
   -- a drive of the bit of an entry that is a copy of a bit that the walk passes
-  abbrev Passes : List Drive → Bit × CellPlace → Type 0
+  abbrev Passes : List Drive → Bit × CellName → Type 0
   Passes all y = (z : Drive) × Contains all z × ((z.bit ≡ y.0) × Below (copied z.source))
 
   module _ (n : ℕ) (claims : Claims n) where
-    sides : (k : ℕ) (s : Scope) (c : Construct) → Part k s c → (x : ℕ) (f : Expression) (w : ℕ) → Contains (enumerate_from 0 (lowered_in (s, c))) (x, (f, w)) → (all : List Bit) (places : List CellPlace) (terms : List Term) → map (term_of lowering s) places ≡ terms
-        → ((p : CellPlace) → Contains places p → Contains (step_places lowering k x) p) → (y : Bit × CellPlace) → Contains (zip all places) y → Walk n (list.number y.1) → Passes (driven_by s.path all terms) y
-    sides k s c has x f w at all places terms same sub y here walk =
+    sides : (k : ℕ) (s : Scope) (c : Construct) → Part k s c → (x : ℕ) (f : Expression) (w : ℕ) → Contains (enumerate_from 0 (lowered_in (s, c))) (x, (f, w)) → (all : List Bit) (placed_cells : List CellName) (terms : List Term) → map (term_of lowering s) placed_cells ≡ terms
+        → ((p : CellName) → Contains placed_cells p → Contains (step_places lowering k x) p) → (y : Bit × CellName) → Contains (zip all placed_cells) y → Walk n (list.number y.1) → Passes (driven_by s.path all terms) y
+    sides k s c has x f w at all placed_cells terms same sub y here walk =
         let lower = lowered_at d lowering lowered k s c has x f w at in
         let i = enumerated_from 0 (lowered_in (s, c)) x (f, w) at in
-        let j = from_map (Step k x) (lowering k x).bits y.1 (sub y.1 (zip_parts all places y here).1) in
+        let j = from_map (Step k x) (lowering k x).bits y.1 (sub y.1 (zip_parts all placed_cells y here).1) in
         let fits = All-contains (λ j. j < length (lowering k x).all) (lowering k x).bits j.0 lower.places j.1 in
         let low = claims.steps k s c has x (omega (arith, i.1, i.2)) j.0 fits (j.0 + 1) (omega arith) (subst (λ p. Walk n (list.number p)) (sym j.2) walk) in
-        (driven (MadeOf s.path (term_of lowering s y.1)) y.0, sides_meet of_designs d lowering lowered s s.path all places terms same y here, (refl, subst (λ p. Below (bit_itself s.path (term_of lowering s p))) j.2 low))
+        (driven (MadeOf s.path (term_of lowering s y.1)) y.0, sides_meet of_designs d lowering lowered s s.path all placed_cells terms same y here, (refl, subst (λ p. Below (bit_itself s.path (term_of lowering s p))) j.2 low))
 
-    pins_pass : (s : Scope) (path : List (List ℕ)) (pin : Pin) → ((b : Bit) → Contains (pin_bits path pin) b → Contains (net_order d) b) → (p : CellPlace) → Contains (map NetBit (pin_bits path pin)) p → Walk n (list.number p) → Below (bit_itself path (term_of lowering s p))
+    pins_pass : (s : Scope) (path : List (List ℕ)) (pin : Pin) → ((b : Bit) → Contains (pin_bits path pin) b → Contains (net_order d) b) → (p : CellName) → Contains (map NetBit (pin_bits path pin)) p → Walk n (list.number p) → Below (bit_itself path (term_of lowering s p))
     pins_pass s path pin inside p has walk =
         let q = from_map NetBit (pin_bits path pin) p has in
         let k = from_map (λ k. record { path = path; net = pin.name; place = k }) (range_with_len 0 pin.width) q.0 q.1 in
@@ -264,50 +264,50 @@ module _ (of_designs : DesignLaws) (d : Design) (lowering : Lowering) (l : Loose
         let bit : Bit = record { path = path; net = pin.name; place = k.0 } in
         subst (λ p. Below (bit_itself path (term_of lowering s p))) q.2 (subst (λ (u : Bit). Below (bit_itself path (term.Net u.net u.place))) k.2 (bit, contains_here bit [], subst Tail (sym k.2) tail))
 
-    part_passes : (k : ℕ) (s : Scope) (c : Construct) → Part k s c → (y : Bit × CellPlace) → Contains (given_at lowering (k, (s, c))) y → Walk n (list.number y.1) → Passes (drives_at (s, c)) y
+    part_passes : (k : ℕ) (s : Scope) (c : Construct) → Part k s c → (y : Bit × CellName) → Contains (given_at lowering (k, (s, c))) y → Walk n (list.number y.1) → Passes (drives_at (s, c)) y
     part_passes k s (Assignment left right) has y here walk =
         let m = length (written_bits s left) in
         let at = contains_here (0, (right, context_width s left right)) [] in
         sides k s (Assignment left right) has 0 right (context_width s left right) at (written_bits s left) (low_bits m (step_places lowering k 0)) _ (low_terms of_designs d lowering lowered k s (Assignment left right) has m 0 right (context_width s left right) at) (from_drop _ (step_places lowering k 0)) y here walk
     part_passes k s (GateInstance gate outs ins) has y here walk =
         let t = gate_gives on_terms gate (terminal_terms s ins) in
-        let b = from_map {B = Bit × CellPlace} (λ b. (b, gate_place lowering gate k (length ins))) (flat_map (written_bits s) outs) y here in
-        (driven (MadeOf s.path t) b.0, contains-map (driven (MadeOf s.path t)) (flat_map (written_bits s) outs) b.0 b.1, (ap (λ (u : Bit × CellPlace). u.0) b.2, gate_below k s gate outs ins has n (claims.joins k s gate outs ins has) (subst (λ (u : Bit × CellPlace). Walk n (list.number u.1)) (sym b.2) walk)))
+        let b = from_map {B = Bit × CellName} (λ b. (b, gate_place lowering gate k (length ins))) (flat_map (written_bits s) outs) y here in
+        (driven (MadeOf s.path t) b.0, contains-map (driven (MadeOf s.path t)) (flat_map (written_bits s) outs) b.0 b.1, (ap (λ (u : Bit × CellName). u.0) b.2, gate_below k s gate outs ins has n (claims.joins k s gate outs ins has) (subst (λ (u : Bit × CellName). Walk n (list.number u.1)) (sym b.2) walk)))
     part_passes k s (Register r) has y here walk = absurd (none_in_nil y here)
     part_passes k s (SupplyNet high m) has y here walk =
-        let b = from_map {B = Bit × CellPlace} (λ b. (b, Constant high)) (bits_named s m) y here in
-        absurd (constant_ends n high (subst (λ (u : Bit × CellPlace). Walk n (list.number u.1)) (sym b.2) walk))
+        let b = from_map {B = Bit × CellName} (λ b. (b, Constant high)) (bits_named s m) y here in
+        absurd (constant_ends n high (subst (λ (u : Bit × CellName). Walk n (list.number u.1)) (sym b.2) walk))
     part_passes k s (InputConnection i pin f) has y here walk =
         let at = contains_here (0, (f, width_of s f)) [] in
         sides k s (InputConnection i pin f) has 0 f (width_of s f) at (pin_bits (path_to s.path i) pin) (step_places lowering k 0) _ (whole_terms of_designs d lowering lowered k s (InputConnection i pin f) has 0 f (width_of s f) at) (λ p h. h) y here walk
     part_passes k s (OutputConnection i pin f) has y here walk =
         let path = path_to s.path i in
-        let all : List CellPlace = map NetBit (pin_bits path pin) in
+        let all : List CellName = map NetBit (pin_bits path pin) in
         let inside = wired.pins s i pin f (from_numbered 0 (parts d) (k, (s, OutputConnection i pin f)) has) in
         (driven (MadeOf path (term_of lowering s y.1)) y.0, sides_meet of_designs d lowering lowered s path (written_bits s f) all _ (pin_terms lowering s path pin) y here, (refl, pins_pass s path pin inside y.1 (zip_parts (written_bits s f) all y here).1 walk))
     part_passes k s BoxContents has y here walk = absurd (none_in_nil y here)
 
-    abbrev inputs : List (Bit × CellPlace)
+    abbrev inputs : List (Bit × CellName)
     inputs = map (λ x. (x.1, Input x.0)) (enumerate_from 0 (cut_bits d))
 
-    abbrev box_pins : List (Bit × CellPlace)
+    abbrev box_pins : List (Bit × CellName)
     box_pins = flat_map given_by_box (enumerate_from 0 (boxes d))
 
-    abbrev others : List (Bit × CellPlace)
+    abbrev others : List (Bit × CellName)
     others = flat_map (given_at lowering) (enumerate_from 0 (parts d))
 
-    passes : (y : Bit × CellPlace) → Contains (given d lowering) y → Walk n (list.number y.1) → Passes (drives d) y ⊎ Tail y.0
+    passes : (y : Bit × CellName) → Contains (driving_places d lowering) y → Walk n (list.number y.1) → Passes (drives d) y ⊎ Tail y.0
     passes y has walk = by (Contains-append_cases (inputs ++ box_pins) others y has)
       where
         first : Contains inputs y ⊎ Contains box_pins y → Passes (drives d) y ⊎ Tail y.0
         first (inl h) =
-            let i = from_map {B = Bit × CellPlace} (λ x. (x.1, Input x.0)) (enumerate_from 0 (cut_bits d)) y h in
-            inr (subst (λ (u : Bit × CellPlace). Tail u.0) i.2 (input_only n i.0.0 i.0.1 i.1 (subst (λ (u : Bit × CellPlace). Walk n (list.number u.1)) (sym i.2) walk)))
+            let i = from_map {B = Bit × CellName} (λ x. (x.1, Input x.0)) (enumerate_from 0 (cut_bits d)) y h in
+            inr (subst (λ (u : Bit × CellName). Tail u.0) i.2 (input_only n i.0.0 i.0.1 i.1 (subst (λ (u : Bit × CellName). Walk n (list.number u.1)) (sym i.2) walk)))
         first (inr h) =
             let b = from_flat given_by_box (enumerate_from 0 (boxes d)) y h in
             let s = b.0.1 in
-            let p = from_map {B = Bit × CellPlace} (λ (x : ℕ × Bit). (x.1, BoxPin b.0.0 x.0)) (enumerate_from 0 (output_bits s)) y b.2 in
-            absurd (pins_end n b.0.0 s b.1 p.0.0 p.0.1 p.1 (subst (λ (u : Bit × CellPlace). Walk n (list.number u.1)) (sym p.2) walk))
+            let p = from_map {B = Bit × CellName} (λ (x : ℕ × Bit). (x.1, BoxPin b.0.0 x.0)) (enumerate_from 0 (output_bits s)) y b.2 in
+            absurd (pins_end n b.0.0 s b.1 p.0.0 p.0.1 p.1 (subst (λ (u : Bit × CellName). Walk n (list.number u.1)) (sym p.2) walk))
 
         by : Contains (inputs ++ box_pins) y ⊎ Contains others y → Passes (drives d) y ⊎ Tail y.0
         by (inl h) = first (Contains-append_cases inputs box_pins y h)
@@ -319,13 +319,13 @@ module _ (of_designs : DesignLaws) (d : Design) (lowering : Lowering) (l : Loose
     -- a step or more from the place of a bit lead along copies
     net_leads : (b : Bit) → Contains (net_order d) b → Walk (suc n) (place b) → Tail b
     net_leads b has walk =
-        let f = first_step n (NetBit b) (cell.Copy (list.number (place_in (given d lowering) b))) (net_listed d lowering l list b has) walk in
-        found (find (λ (y : Bit × CellPlace). same_bit b y.0) (given d lowering)) refl (subst (Walk n) (sym (copies_one (list.number (place_in (given d lowering) b)) f.0 f.1)) f.2)
+        let f = first_step n (NetBit b) (cell.Copy (list.number (place_in (driving_places d lowering) b))) (net_listed d lowering l list b has) walk in
+        found (find (λ (y : Bit × CellName). same_bit b y.0) (driving_places d lowering)) refl (subst (Walk n) (sym (copies_one (list.number (place_in (driving_places d lowering) b)) f.0 f.1)) f.2)
       where
-        found : (o : Option (Bit × CellPlace)) → find (λ (y : Bit × CellPlace). same_bit b y.0) (given d lowering) ≡ o → Walk n (list.number (option_map_or (λ (u : Bit × CellPlace). u.1) o (Constant false))) → Tail b
+        found : (o : Option (Bit × CellName)) → find (λ (y : Bit × CellName). same_bit b y.0) (driving_places d lowering) ≡ o → Walk n (list.number (option_map_or (λ (u : Bit × CellName). u.1) o (Constant false))) → Tail b
         found None is walk = absurd (constant_ends n false walk)
         found (Some y) is walk =
-            let at = from_find (λ (y : Bit × CellPlace). same_bit b y.0) (given d lowering) y is in
+            let at = from_find (λ (y : Bit × CellName). same_bit b y.0) (driving_places d lowering) y is in
             from (passes y at.0 walk) ((of_designs.distinguished b y.0).0 at.1)
           where
             from : Passes (drives d) y ⊎ Tail y.0 → b ≡ y.0 → Tail b
@@ -513,7 +513,7 @@ module _ (of_designs : DesignLaws) (d : Design) (lowering : Lowering) (l : Loose
     abbrev ReadsOn : Entry → Type 0
     ReadsOn x = (q : ℕ) → Contains (read_by x.1) q → Walk n q → Below (read_directly d)
 
-    listed_read : (x : Entry) → Contains (places d lowering list.number) x → ReadsOn x
+    listed_read : (x : Entry) → Contains (placed_cells d lowering list.number) x → ReadsOn x
     listed_read = each_entry d lowering l list ReadsOn (record {
       constants = λ b q at walk. absurd (none_in_nil q at);
       inputs = λ i fits q at walk. absurd (none_in_nil q at);
@@ -544,7 +544,7 @@ module _ (of_designs : DesignLaws) (d : Design) (lowering : Lowering) (l : Loose
           let here = box_part of_designs d s (from_numbered 0 (boxes d) x.0 x.1) in
           bit_read y.0 (part_read s BoxContents here y.0 (Contains-append_right (flat_map (λ cell. flat_map (bit_itself s.path) (operand_terms cell)) (cells_at (s, BoxContents))) (input_bits s) y.0 y.1)) (subst (Walk n) (sym y.2) walk)
 
-      data_read : (y : Bit × CellPlace) → Contains (flat_map (data_at lowering) (enumerate_from 0 (parts d))) y → Walk n (list.number y.1) → Below (read_directly d)
+      data_read : (y : Bit × CellName) → Contains (flat_map (data_at lowering) (enumerate_from 0 (parts d))) y → Walk n (list.number y.1) → Below (read_directly d)
       data_read y at walk = let p = from_flat (data_at lowering) (enumerate_from 0 (parts d)) y at in by p.0.0 p.0.1.0 p.0.1.1 p.1 p.2
         where
           by : (k : ℕ) (s : Scope) (c : Construct) → Part k s c → Contains (data_at lowering (k, (s, c))) y → Below (read_directly d)
@@ -568,22 +568,22 @@ module _ (of_designs : DesignLaws) (d : Design) (lowering : Lowering) (l : Loose
           by k s (OutputConnection i pin f) has here = absurd (none_in_nil y here)
           by k s BoxContents has here = absurd (none_in_nil y here)
 
-      abbrev all_data : List (Bit × CellPlace)
+      abbrev all_data : List (Bit × CellName)
       all_data = flat_map (data_at lowering) (enumerate_from 0 (parts d))
 
       outs_read : (q : ℕ) → Contains l.outs q → Walk n q → Below (read_directly d)
       outs_read q at walk = by (Contains-append_cases (map (λ b. list.number (NetBit b)) (top_outputs d)) (map list.number (data_places d lowering)) q (subst (λ all. Contains all q) list.outs at))
         where
-          found : (o : Option (Bit × CellPlace)) (b : Bit) → find (λ (x : Bit × CellPlace). same_bit b x.0) all_data ≡ o → Walk n (list.number (option_map_or (λ (x : Bit × CellPlace). x.1) o (Constant false))) → Below (read_directly d)
+          found : (o : Option (Bit × CellName)) (b : Bit) → find (λ (x : Bit × CellName). same_bit b x.0) all_data ≡ o → Walk n (list.number (option_map_or (λ (x : Bit × CellName). x.1) o (Constant false))) → Below (read_directly d)
           found None b is w = absurd (constant_ends n false w)
-          found (Some y) b is w = data_read y (from_find (λ (x : Bit × CellPlace). same_bit b x.0) all_data y is).0 w
+          found (Some y) b is w = data_read y (from_find (λ (x : Bit × CellName). same_bit b x.0) all_data y is).0 w
 
           by : Contains (map (λ b. list.number (NetBit b)) (top_outputs d)) q ⊎ Contains (map list.number (data_places d lowering)) q → Below (read_directly d)
           by (inl h) = let b = from_map (λ b. list.number (NetBit b)) (top_outputs d) q h in bit_read b.0 (Contains-append_left (top_outputs d) (flat_map read_at (parts d)) b.0 b.1) (subst (Walk n) (sym b.2) walk)
           by (inr h) =
               let p = from_map list.number (data_places d lowering) q h in
               let r = from_map (λ (r : RegisterBit). place_in all_data r.bit) (registers d) p.0 p.1 in
-              found (find (λ (x : Bit × CellPlace). same_bit r.0.bit x.0) all_data) r.0.bit refl (subst (Walk n) (sym (ap list.number r.2 ∙ p.2)) walk)
+              found (find (λ (x : Bit × CellName). same_bit r.0.bit x.0) all_data) r.0.bit refl (subst (Walk n) (sym (ap list.number r.2 ∙ p.2)) walk)
 
       places_read : (clocks : List ℕ) → ((q : ℕ) → Contains clocks q → (b : Bit) × (list.number (NetBit b) ≡ q) × Contains (read_directly d) b) → (q : ℕ) → Contains (read_places l clocks) q → Walk n q → Below (read_directly d)
       places_read clocks timed q at walk = by (Contains-append_cases (flat_map read_by l.cells) (flat_map (λ (b : Pins). b.ins) l.boxes ++ (l.outs ++ clocks)) q at)

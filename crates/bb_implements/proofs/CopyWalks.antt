@@ -24,7 +24,7 @@ use Rattle.bb_design.specs.GateFunctions.{on_terms, joins, joined, inverts, gate
 use Rattle.bb_design.specs.Hierarchy.{Design, Scope, path_to, boxes}
 use Rattle.bb_design.specs.Laws.{BitsAreThere}
 use Rattle.bb_design.specs.NetBits.{Bit, same_bit, net_order, bits_named, pin_bits, output_bits, written_bits}
-use Rattle.bb_implements.specs.Places.{CellPlace, Constant, Input, NetBit, Step, Joined, Inverted, BoxPin, lowered_in, Lowering, IsLowering, step_places, terminal_place, joined_place, gate_place, given_at, given_by_box, given, place_in, join_cell, IsListOf}
+use Rattle.bb_implements.specs.Places.{CellName, Constant, Input, NetBit, Step, Joined, Inverted, BoxPin, lowered_in, Lowering, IsLowering, step_places, terminal_place, joined_place, gate_place, given_at, given_by_box, driving_places, place_in, join_cell, IsListOf}
 use Rattle.bb_design.specs.Reading.{bit_itself, copied, copied_bits}
 use Rattle.bb_implements.specs.Inside.ReadPlaces.{copy_steps, FollowsAt}
 use Rattle.bb_design.specs.Refusals.{AreDrivenOnce}
@@ -55,10 +55,10 @@ no_bit path gates.Not t u b has = (has, refl, λ p q. refl)
 
 module _ (of_designs : DesignLaws) (d : Design) (lowering : Lowering) (l : LooseList) (list : IsListOf d lowering l) (lowered : IsLowering d lowering) (wired : IsWired d) where
   -- copies lead from a place to that of a bit
-  abbrev pub To : CellPlace → Bit → Type 0
+  abbrev pub To : CellName → Bit → Type 0
   To p b = FollowsAt l.cells (list.number p) (list.number (NetBit b))
 
-  pub copy_on : (p q : CellPlace) → IsListed d lowering l list p (cell.Copy (list.number q)) → (b : Bit) → To q b → To p b
+  pub copy_on : (p q : CellName) → IsListed d lowering l list p (cell.Copy (list.number q)) → (b : Bit) → To q b → To p b
   copy_on p q listed b (inl same) = inr (One (subst (λ k. Contains {X = ℕ × ℕ} (copy_steps l.cells) (list.number p, k)) same (copy_to l.cells (list.number p) (list.number q) (cell.Const false) (listed_below d lowering l list p _ listed) (listed_cell d lowering l list p _ listed))))
   copy_on p q listed b (inr leads) = inr (More (copy_to l.cells (list.number p) (list.number q) (cell.Const false) (listed_below d lowering l list p _ listed) (listed_cell d lowering l list p _ listed)) leads)
 
@@ -134,12 +134,12 @@ module _ (of_designs : DesignLaws) (d : Design) (lowering : Lowering) (l : Loose
         by false e h = all_copies (length ins) refl shape.0 b h
 
   -- a drive of the bit of an entry, from whose place copies lead to the bit of which it is a copy
-  abbrev Given : List Drive → Bit × CellPlace → Type 0
+  abbrev Given : List Drive → Bit × CellName → Type 0
   Given all y = (z : Drive) × Contains all z × ((z.bit ≡ y.0) × ((b : Bit) → Contains (copied z.source) b → To y.1 b))
 
   sides : (k : ℕ) (s : Scope) (c : Construct) → Contains (enumerate_from 0 (parts d)) (k, (s, c)) → (n : ℕ) (e : Expression) (w : ℕ) → Contains (enumerate_from 0 (lowered_in (s, c))) (n, (e, w))
-      → (all : List Bit) (places : List CellPlace) (terms : List Term) → map (term_of lowering s) places ≡ terms → ((p : CellPlace) → Contains places p → Contains (step_places lowering k n) p)
-      → (y : Bit × CellPlace) → Contains (zip all places) y → Given (driven_by s.path all terms) y
+      → (all : List Bit) (places : List CellName) (terms : List Term) → map (term_of lowering s) places ≡ terms → ((p : CellName) → Contains places p → Contains (step_places lowering k n) p)
+      → (y : Bit × CellName) → Contains (zip all places) y → Given (driven_by s.path all terms) y
   sides k s c has n e w at all places terms same sub y here =
       let lower = lowered_at d lowering lowered k s c has n e w at in
       let i = enumerated_from 0 (lowered_in (s, c)) n (e, w) at in
@@ -151,7 +151,7 @@ module _ (of_designs : DesignLaws) (d : Design) (lowering : Lowering) (l : Loose
       )
 
   -- the pins of an output connection are bits of nets themselves
-  pins_copies : (s : Scope) (path : List (List ℕ)) (pin : Pin) (p : CellPlace) → Contains (map NetBit (pin_bits path pin)) p → (b : Bit) → Contains (bit_itself path (term_of lowering s p)) b → To p b
+  pins_copies : (s : Scope) (path : List (List ℕ)) (pin : Pin) (p : CellName) → Contains (map NetBit (pin_bits path pin)) p → (b : Bit) → Contains (bit_itself path (term_of lowering s p)) b → To p b
   pins_copies s path pin p has =
       let q = from_map NetBit (pin_bits path pin) p has in
       let k = from_map (λ k. record { path = path; net = pin.name; place = k }) (range_with_len 0 pin.width) q.0 q.1 in
@@ -162,57 +162,57 @@ module _ (of_designs : DesignLaws) (d : Design) (lowering : Lowering) (l : Loose
       by b k (inl e) = inl (ap (λ u. list.number (NetBit u)) e)
       by b k (inr none) = absurd (none_in_nil b none)
 
-  part_given : (k : ℕ) (s : Scope) (c : Construct) → Contains (enumerate_from 0 (parts d)) (k, (s, c)) → (y : Bit × CellPlace) → Contains (given_at lowering (k, (s, c))) y → Given (drives_at (s, c)) y
+  part_given : (k : ℕ) (s : Scope) (c : Construct) → Contains (enumerate_from 0 (parts d)) (k, (s, c)) → (y : Bit × CellName) → Contains (given_at lowering (k, (s, c))) y → Given (drives_at (s, c)) y
   part_given k s (Assignment left right) has y here =
       let n = length (written_bits s left) in
       let at = contains_here (0, (right, context_width s left right)) [] in
       sides k s (Assignment left right) has 0 right (context_width s left right) at (written_bits s left) (low_bits n (step_places lowering k 0)) _ (low_terms of_designs d lowering lowered k s (Assignment left right) has n 0 right (context_width s left right) at) (from_drop _ (step_places lowering k 0)) y here
   part_given k s (GateInstance gate outs ins) has y here =
       let t = gate_gives on_terms gate (terminal_terms s ins) in
-      let b = from_map {B = Bit × CellPlace} (λ b. (b, gate_place lowering gate k (length ins))) (flat_map (written_bits s) outs) y here in (
+      let b = from_map {B = Bit × CellName} (λ b. (b, gate_place lowering gate k (length ins))) (flat_map (written_bits s) outs) y here in (
         driven (MadeOf s.path t) b.0,
         contains-map (driven (MadeOf s.path t)) (flat_map (written_bits s) outs) b.0 b.1,
-        (ap (λ (u : Bit × CellPlace). u.0) b.2, λ c low. subst (λ (u : Bit × CellPlace). To u.1 c) b.2 (gate_copies k s gate outs ins has c low)),
+        (ap (λ (u : Bit × CellName). u.0) b.2, λ c low. subst (λ (u : Bit × CellName). To u.1 c) b.2 (gate_copies k s gate outs ins has c low)),
       )
   part_given k s (Register r) has y here = absurd (none_in_nil y here)
   part_given k s (SupplyNet high n) has y here =
-      let b = from_map {B = Bit × CellPlace} (λ b. (b, Constant high)) (bits_named s n) y here in
-      (driven (MadeOf s.path (term.Const high)) b.0, contains-map (driven (MadeOf s.path (term.Const high))) (bits_named s n) b.0 b.1, (ap (λ (u : Bit × CellPlace). u.0) b.2, λ c low. absurd (none_in_nil c low)))
+      let b = from_map {B = Bit × CellName} (λ b. (b, Constant high)) (bits_named s n) y here in
+      (driven (MadeOf s.path (term.Const high)) b.0, contains-map (driven (MadeOf s.path (term.Const high))) (bits_named s n) b.0 b.1, (ap (λ (u : Bit × CellName). u.0) b.2, λ c low. absurd (none_in_nil c low)))
   part_given k s (InputConnection i pin e) has y here =
       let at = contains_here (0, (e, width_of s e)) [] in
       sides k s (InputConnection i pin e) has 0 e (width_of s e) at (pin_bits (path_to s.path i) pin) (step_places lowering k 0) _ (whole_terms of_designs d lowering lowered k s (InputConnection i pin e) has 0 e (width_of s e) at) (λ p h. h) y here
   part_given k s (OutputConnection i pin e) has y here =
       let path = path_to s.path i in
-      let pins : List CellPlace = map NetBit (pin_bits path pin) in (
+      let pins : List CellName = map NetBit (pin_bits path pin) in (
         driven (MadeOf path (term_of lowering s y.1)) y.0,
         sides_meet of_designs d lowering lowered s path (written_bits s e) pins _ (pin_terms lowering s path pin) y here,
         (refl, pins_copies s path pin y.1 (zip_parts (written_bits s e) pins y here).1),
       )
   part_given k s BoxContents has y here = absurd (none_in_nil y here)
 
-  abbrev inputs : List (Bit × CellPlace)
+  abbrev inputs : List (Bit × CellName)
   inputs = map (λ x. (x.1, Input x.0)) (enumerate_from 0 (cut_bits d))
 
-  abbrev pins : List (Bit × CellPlace)
+  abbrev pins : List (Bit × CellName)
   pins = flat_map given_by_box (enumerate_from 0 (boxes d))
 
-  abbrev others : List (Bit × CellPlace)
+  abbrev others : List (Bit × CellName)
   others = flat_map (given_at lowering) (enumerate_from 0 (parts d))
 
-  each_given : (y : Bit × CellPlace) → Contains (given d lowering) y → Given (drives d) y
+  each_given : (y : Bit × CellName) → Contains (driving_places d lowering) y → Given (drives d) y
   each_given y has = by (Contains-append_cases (inputs ++ pins) others y has)
     where
       first : Contains inputs y ⊎ Contains pins y → Given (drives d) y
       first (inl h) =
-          let i = from_map {B = Bit × CellPlace} (λ x. (x.1, Input x.0)) (enumerate_from 0 (cut_bits d)) y h in
-          (driven Free i.0.1, cut_driven of_designs d i.0.1 (from_numbered 0 (cut_bits d) i.0 i.1), (ap (λ (u : Bit × CellPlace). u.0) i.2, λ c low. absurd (none_in_nil c low)))
+          let i = from_map {B = Bit × CellName} (λ x. (x.1, Input x.0)) (enumerate_from 0 (cut_bits d)) y h in
+          (driven Free i.0.1, cut_driven of_designs d i.0.1 (from_numbered 0 (cut_bits d) i.0 i.1), (ap (λ (u : Bit × CellName). u.0) i.2, λ c low. absurd (none_in_nil c low)))
       first (inr h) =
           let b = from_flat given_by_box (enumerate_from 0 (boxes d)) y h in
           let s = b.0.1 in
-          let p = from_map {B = Bit × CellPlace} (λ (x : ℕ × Bit). (x.1, BoxPin b.0.0 x.0)) (enumerate_from 0 (output_bits s)) y b.2 in (
+          let p = from_map {B = Bit × CellName} (λ (x : ℕ × Bit). (x.1, BoxPin b.0.0 x.0)) (enumerate_from 0 (output_bits s)) y b.2 in (
             driven (Box s p.0.0) p.0.1,
             part_driven of_designs d (s, BoxContents) (box_part of_designs d s (from_numbered 0 (boxes d) b.0 b.1)) (driven (Box s p.0.0) p.0.1) (contains-map (λ (x : ℕ × Bit). driven (Box s x.0) x.1) (enumerate_from 0 (output_bits s)) p.0 p.1),
-            (ap (λ (u : Bit × CellPlace). u.0) p.2, λ c low. absurd (none_in_nil c low)),
+            (ap (λ (u : Bit × CellName). u.0) p.2, λ c low. absurd (none_in_nil c low)),
           )
 
       by : Contains (inputs ++ pins) y ⊎ Contains others y → Given (drives d) y
@@ -240,12 +240,12 @@ module _ (of_designs : DesignLaws) (d : Design) (lowering : Lowering) (l : Loose
         let low : Contains (copied x.0.source) c = subst (Contains (copied x.0.source)) (ap (λ (z : Bit × Bit). z.1) e.2) e.1 in
         let y = found of_designs d lowering lowered wired there x.0 x.1 in
         let test : same_bit b y.0.0 ≡ true = ap (same_bit b) (y.2 ∙ bit) ∙ ((of_designs.distinguished b b).1 refl) in
-        let f = find_there (λ (u : Bit × CellPlace). same_bit b u.0) (given d lowering) y.0 y.1 test in
+        let f = find_there (λ (u : Bit × CellName). same_bit b u.0) (driving_places d lowering) y.0 y.1 test in
         let z = each_given f.0 f.3 in
         let same : x.0 ≡ z.0 = one_by (λ (u : Drive). u.bit) (drives d) once x.0 z.0 x.1 z.1 (bit ∙ (of_designs.distinguished b f.0.0).0 f.2 ∙ sym z.2.0) in
         let walk = z.2.1 c (subst (λ (u : Drive). Contains (copied u.source) c) same low) in
-        let from : place_in (given d lowering) b ≡ f.0.1 = ap (λ o. option_map_or (λ (u : Bit × CellPlace). u.1) o (Constant false)) f.1 in
-        let q = place_in (given d lowering) b in
+        let from : place_in (driving_places d lowering) b ≡ f.0.1 = ap (λ o. option_map_or (λ (u : Bit × CellName). u.1) o (Constant false)) f.1 in
+        let q = place_in (driving_places d lowering) b in
         let listed = net_listed d lowering l list b (bit_there b c has) in
         let step : Contains {X = ℕ × ℕ} (copy_steps l.cells) (place b, list.number q) = copy_to l.cells (place b) (list.number q) (cell.Const false) (listed_below d lowering l list (NetBit b) _ listed) (listed_cell d lowering l list (NetBit b) _ listed) in
         on (list.number q) step (subst (λ p. To p c) (sym from) walk)

@@ -9,7 +9,7 @@ use Rattle.bb_bits.specs.Bits.{low_bits}
 use Rattle.bb_design.specs.Drivers.{Free, Drive, driven, drives_at}
 use Rattle.bb_design.specs.Hierarchy.{Design, Scope}
 use Rattle.bb_design.specs.NetBits.{Bit, same_bit, top_inputs, written_bits}
-use Rattle.bb_implements.specs.Places.{CellPlace, Constant, Lowering, step_places, data_at, place_in}
+use Rattle.bb_implements.specs.Places.{CellName, Constant, Lowering, step_places, data_at, place_in}
 use Rattle.bb_design.specs.Refusals.{AreDrivenOnce}
 use Rattle.bb_lemmas.proofs.Members.{from_flat, from_map, contains-map, into_flat, contains_here, contains_there, contains_cases, none_in_nil}
 use Rattle.bb_lemmas.proofs.Zips.{zip_parts}
@@ -28,30 +28,30 @@ module _ {A : Type 0} where
   apart_head : (x : A) (xs : List A) → AllPairs ◌≢◌ (x ∷ xs) → (y : A) → Contains xs y → x ≡ y → ⊥
   apart_head x xs apart y has same = apart 0 (suc has.0) y (omega arith) (omega (arith, has.1)) (same ∙ sym has.2)
 
-abbrev test : Bit → Bit × CellPlace → Bool
+abbrev test : Bit → Bit × CellName → Bool
 test b x = same_bit b x.0
 
 module _ (of_designs : DesignLaws) where
-  found_here : (b : Bit) (x : Bit × CellPlace) (rest : List (Bit × CellPlace)) → x.0 ≡ b → find (test b) (x ∷ rest) ≡ Some x
+  found_here : (b : Bit) (x : Bit × CellName) (rest : List (Bit × CellName)) → x.0 ≡ b → find (test b) (x ∷ rest) ≡ Some x
   found_here b x rest same = ap (λ t. if t then Some x else find (test b) rest) (ap (same_bit b) same ∙ ((of_designs.distinguished b b).1 refl))
 
-  not_here : (b : Bit) (x : Bit × CellPlace) (rest : List (Bit × CellPlace)) → (x.0 ≡ b → ⊥) → find (test b) (x ∷ rest) ≡ find (test b) rest
+  not_here : (b : Bit) (x : Bit × CellName) (rest : List (Bit × CellName)) → (x.0 ≡ b → ⊥) → find (test b) (x ∷ rest) ≡ find (test b) rest
   not_here b x rest other = ap (λ t. if t then Some x else find (test b) rest) (by (same_bit b x.0) refl)
     where
       by : (t : Bool) → same_bit b x.0 ≡ t → same_bit b x.0 ≡ false
       by true on = absurd (other (sym ((of_designs.distinguished b x.0).0 on)))
       by false off = off
 
-  found_zip : (b : Bit) (p : CellPlace) (xs : List Bit) (ys : List CellPlace) (rest : List (Bit × CellPlace)) → AllPairs ◌≢◌ xs → Contains (zip xs ys) (b, p) → find (test b) (zip xs ys ++ rest) ≡ Some (b, p)
-  found_zip b p [] ys rest apart has = absurd (none_in_nil {A = Bit × CellPlace} (b, p) has)
-  found_zip b p (x ∷ xs) [] rest apart has = absurd (none_in_nil {A = Bit × CellPlace} (b, p) has)
-  found_zip b p (x ∷ xs) (y ∷ ys) rest apart has = by (contains_cases {A = Bit × CellPlace} (x, y) (zip xs ys) (b, p) has) (found_zip b p xs ys rest (apart_tail x xs apart))
+  found_zip : (b : Bit) (p : CellName) (xs : List Bit) (ys : List CellName) (rest : List (Bit × CellName)) → AllPairs ◌≢◌ xs → Contains (zip xs ys) (b, p) → find (test b) (zip xs ys ++ rest) ≡ Some (b, p)
+  found_zip b p [] ys rest apart has = absurd (none_in_nil {A = Bit × CellName} (b, p) has)
+  found_zip b p (x ∷ xs) [] rest apart has = absurd (none_in_nil {A = Bit × CellName} (b, p) has)
+  found_zip b p (x ∷ xs) (y ∷ ys) rest apart has = by (contains_cases {A = Bit × CellName} (x, y) (zip xs ys) (b, p) has) (found_zip b p xs ys rest (apart_tail x xs apart))
     where
-      by : (◌≡◌ {A = Bit × CellPlace} (x, y) (b, p)) ⊎ Contains (zip xs ys) (b, p) → (Contains (zip xs ys) (b, p) → find (test b) (zip xs ys ++ rest) ≡ Some (b, p)) → find (test b) ((x, y) ∷ (zip xs ys ++ rest)) ≡ Some (b, p)
-      by (inl same) more = found_here b (x, y) (zip xs ys ++ rest) (ap (λ (z : Bit × CellPlace). z.0) same) ∙ ap Some same
+      by : (◌≡◌ {A = Bit × CellName} (x, y) (b, p)) ⊎ Contains (zip xs ys) (b, p) → (Contains (zip xs ys) (b, p) → find (test b) (zip xs ys ++ rest) ≡ Some (b, p)) → find (test b) ((x, y) ∷ (zip xs ys ++ rest)) ≡ Some (b, p)
+      by (inl same) more = found_here b (x, y) (zip xs ys ++ rest) (ap (λ (z : Bit × CellName). z.0) same) ∙ ap Some same
       by (inr h) more = not_here b (x, y) (zip xs ys ++ rest) (apart_head x xs apart b (zip_parts xs ys (b, p) h).0) ∙ more h
 
-  skipped : (b : Bit) (xs rest : List (Bit × CellPlace)) → ((y : Bit × CellPlace) → Contains xs y → y.0 ≡ b → ⊥) → find (test b) (xs ++ rest) ≡ find (test b) rest
+  skipped : (b : Bit) (xs rest : List (Bit × CellName)) → ((y : Bit × CellName) → Contains xs y → y.0 ≡ b → ⊥) → find (test b) (xs ++ rest) ≡ find (test b) rest
   skipped b [] rest none = refl
   skipped b (x ∷ xs) rest none = not_here b x (xs ++ rest) (none x (contains_here x xs)) ∙ skipped b xs rest (λ y has. none y (contains_there x xs y has))
 
@@ -60,7 +60,7 @@ module _ (of_designs : DesignLaws) (lowering : Lowering) where
   bits_of ps = map (λ (x : Drive). x.bit) (flat_map drives_at ps)
 
   -- the bits of data are driven
-  data_driven : (k : ℕ) (q : Scope × Construct) (y : Bit × CellPlace) → Contains (data_at lowering (k, q)) y → Contains (map (λ (x : Drive). x.bit) (drives_at q)) y.0
+  data_driven : (k : ℕ) (q : Scope × Construct) (y : Bit × CellName) → Contains (data_at lowering (k, q)) y → Contains (map (λ (x : Drive). x.bit) (drives_at q)) y.0
   data_driven k (s, Register r) y has = contains-map (λ (x : Drive). x.bit) (map (driven Free) (written_bits s r.left)) (driven Free y.0) (contains-map (driven Free) (written_bits s r.left) y.0 (zip_parts (written_bits s r.left) _ y has).0)
   data_driven k (s, Assignment left right) y has = absurd (none_in_nil y has)
   data_driven k (s, GateInstance gate outs ins) y has = absurd (none_in_nil y has)
@@ -74,20 +74,20 @@ module _ (of_designs : DesignLaws) (lowering : Lowering) where
   same_bits (x ∷ xs) = ap (λ l. x ∷ l) (same_bits xs)
 
   -- an entry of one construct
-  here_found : (k : ℕ) (q : Scope × Construct) (rest : List (Bit × CellPlace)) (b : Bit) (p : CellPlace) → AllPairs ◌≢◌ (map (λ (x : Drive). x.bit) (drives_at q)) → Contains (data_at lowering (k, q)) (b, p) → find (test b) (data_at lowering (k, q) ++ rest) ≡ Some (b, p)
+  here_found : (k : ℕ) (q : Scope × Construct) (rest : List (Bit × CellName)) (b : Bit) (p : CellName) → AllPairs ◌≢◌ (map (λ (x : Drive). x.bit) (drives_at q)) → Contains (data_at lowering (k, q)) (b, p) → find (test b) (data_at lowering (k, q) ++ rest) ≡ Some (b, p)
   here_found k (s, Register r) rest b p apart has = found_zip of_designs b p (written_bits s r.left) (low_bits (length (written_bits s r.left)) (step_places lowering k 0)) rest (subst (AllPairs ◌≢◌) (same_bits (written_bits s r.left)) apart) has
-  here_found k (s, Assignment left right) rest b p apart has = absurd (none_in_nil {A = Bit × CellPlace} (b, p) has)
-  here_found k (s, GateInstance gate outs ins) rest b p apart has = absurd (none_in_nil {A = Bit × CellPlace} (b, p) has)
-  here_found k (s, SupplyNet high m) rest b p apart has = absurd (none_in_nil {A = Bit × CellPlace} (b, p) has)
-  here_found k (s, InputConnection i pin f) rest b p apart has = absurd (none_in_nil {A = Bit × CellPlace} (b, p) has)
-  here_found k (s, OutputConnection i pin f) rest b p apart has = absurd (none_in_nil {A = Bit × CellPlace} (b, p) has)
-  here_found k (s, BoxContents) rest b p apart has = absurd (none_in_nil {A = Bit × CellPlace} (b, p) has)
+  here_found k (s, Assignment left right) rest b p apart has = absurd (none_in_nil {A = Bit × CellName} (b, p) has)
+  here_found k (s, GateInstance gate outs ins) rest b p apart has = absurd (none_in_nil {A = Bit × CellName} (b, p) has)
+  here_found k (s, SupplyNet high m) rest b p apart has = absurd (none_in_nil {A = Bit × CellName} (b, p) has)
+  here_found k (s, InputConnection i pin f) rest b p apart has = absurd (none_in_nil {A = Bit × CellName} (b, p) has)
+  here_found k (s, OutputConnection i pin f) rest b p apart has = absurd (none_in_nil {A = Bit × CellName} (b, p) has)
+  here_found k (s, BoxContents) rest b p apart has = absurd (none_in_nil {A = Bit × CellName} (b, p) has)
 
-  data_found : (k : ℕ) (ps : List (Scope × Construct)) (b : Bit) (p : CellPlace) → AllPairs ◌≢◌ (bits_of ps) → Contains (flat_map (data_at lowering) (enumerate_from k ps)) (b, p) → find (test b) (flat_map (data_at lowering) (enumerate_from k ps)) ≡ Some (b, p)
-  data_found k [] b p apart has = absurd (none_in_nil {A = Bit × CellPlace} (b, p) has)
+  data_found : (k : ℕ) (ps : List (Scope × Construct)) (b : Bit) (p : CellName) → AllPairs ◌≢◌ (bits_of ps) → Contains (flat_map (data_at lowering) (enumerate_from k ps)) (b, p) → find (test b) (flat_map (data_at lowering) (enumerate_from k ps)) ≡ Some (b, p)
+  data_found k [] b p apart has = absurd (none_in_nil {A = Bit × CellName} (b, p) has)
   data_found k (q ∷ ps) b p apart has = by (Contains-append_cases (data_at lowering (k, q)) rest (b, p) has) (data_found (k + 1) ps b p (apart_right first (bits_of ps) split))
     where
-      rest : List (Bit × CellPlace)
+      rest : List (Bit × CellName)
       rest = flat_map (data_at lowering) (enumerate_from (k + 1) ps)
 
       first : List Bit
@@ -107,7 +107,7 @@ module _ (of_designs : DesignLaws) (lowering : Lowering) where
       by (inr h) more = skipped of_designs b (data_at lowering (k, q)) rest (λ y at same. apart_append first (bits_of ps) b split (subst (Contains first) same (data_driven k q y at)) (later h)) ∙ more h
 
   -- the place of the data of a bit is the one at which it is
-  pub data_place : (d : Design) → AreDrivenOnce d → (b : Bit) (p : CellPlace) → Contains (flat_map (data_at lowering) (enumerate_from 0 (parts d))) (b, p) → place_in (flat_map (data_at lowering) (enumerate_from 0 (parts d))) b ≡ p
+  pub data_place : (d : Design) → AreDrivenOnce d → (b : Bit) (p : CellName) → Contains (flat_map (data_at lowering) (enumerate_from 0 (parts d))) (b, p) → place_in (flat_map (data_at lowering) (enumerate_from 0 (parts d))) b ≡ p
   data_place d once b p has =
       let apart = apart_right (map (λ (x : Drive). x.bit) (map (driven Free) (top_inputs d))) (bits_of (parts d)) (subst (AllPairs ◌≢◌) (map-append (λ (x : Drive). x.bit) (map (driven Free) (top_inputs d)) (flat_map drives_at (parts d))) once) in
-      ap (λ o. option_map_or (λ (x : Bit × CellPlace). x.1) o (Constant false)) (data_found 0 (parts d) b p apart has)
+      ap (λ o. option_map_or (λ (x : Bit × CellName). x.1) o (Constant false)) (data_found 0 (parts d) b p apart has)

@@ -6,11 +6,11 @@ use Rattle.std.proofs.lemmas.List.Elements.{Contains-get_or, Contains-append_lef
 use Rattle.std.proofs.lemmas.List.FromFn.{get_or-range_with_len}
 use Rattle.std.proofs.lemmas.Option.{slice_get-get_or}
 use Rattle.bb_net.specs.declared.loose.LooseCell.TheVariants as cell
-use Rattle.bb_net.specs.Loose.{LooseList, loose_at, operands, IsOnClosedWalk}
+use Rattle.bb_net.specs.Loose.{LooseList, loose_at, operand_places, IsOnClosedWalk}
 use Rattle.bb_design.specs.Hierarchy.{Design}
 use Rattle.bb_implements.specs.Laws.LoopLaws.{LeastWalksAreFirstLoops}
 use Rattle.bb_design.specs.NetBits.{Bit, net_order}
-use Rattle.bb_implements.specs.Places.{Constant, Input, NetBit, Lowering, given, place_in, operator_places, IsListOf}
+use Rattle.bb_implements.specs.Places.{Constant, Input, NetBit, Lowering, driving_places, place_in, operator_places, IsListOf}
 use Rattle.bb_design.specs.Registers.{cut_bits}
 use Rattle.bb_lemmas.proofs.Places.{got, got-map, there_at, some_at, split, taken}
 use Rattle.bb_lemmas.proofs.Members.{from_map, contains_cases, none_in_nil}
@@ -30,7 +30,7 @@ module _ (d : Design) (lowering : Lowering) (l : LooseList) (list : IsListOf d l
   first = (Constant false, cell.Const false) ∷ (Constant true, cell.Const true) ∷ map (λ i. (Input i, cell.Input i)) (range_with_len 0 (length (cut_bits d)))
 
   abbrev net_entry : Bit → Entry
-  net_entry b = (NetBit b, cell.Copy (list.number (place_in (given d lowering) b)))
+  net_entry b = (NetBit b, cell.Copy (list.number (place_in (driving_places d lowering) b)))
 
   abbrev nets : List Entry
   nets = map net_entry (net_order d)
@@ -55,18 +55,18 @@ module _ (d : Design) (lowering : Lowering) (l : LooseList) (list : IsListOf d l
   pub net_number : (n : ℕ) (b : Bit) → slice_get (net_order d) n ≡ Some b → list.number (NetBit b) ≡ l.inputs + 2 + n
   net_number n b at = prefix_number (length first + n) (net_entry b) (net_at n b at) ∙ ap (λ m. m + n) first_length
 
-  quiet : (x : Entry) → Contains first x → operands l.boxes x.1 ≡ []
+  quiet : (x : Entry) → Contains first x → operand_places l.boxes x.1 ≡ []
   quiet x has = zero_one (contains_cases (Constant false, cell.Const false) ((Constant true, cell.Const true) ∷ map (λ i. (Input i, cell.Input i)) (range_with_len 0 (length (cut_bits d)))) x has)
     where
-      input : Contains (map (λ i. (Input i, cell.Input i)) (range_with_len 0 (length (cut_bits d)))) x → operands l.boxes x.1 ≡ []
-      input h = let i = from_map {B = Entry} (λ i. (Input i, cell.Input i)) (range_with_len 0 (length (cut_bits d))) x h in subst (λ (y : Entry). operands l.boxes y.1 ≡ []) i.2 refl
+      input : Contains (map (λ i. (Input i, cell.Input i)) (range_with_len 0 (length (cut_bits d)))) x → operand_places l.boxes x.1 ≡ []
+      input h = let i = from_map {B = Entry} (λ i. (Input i, cell.Input i)) (range_with_len 0 (length (cut_bits d))) x h in subst (λ (y : Entry). operand_places l.boxes y.1 ≡ []) i.2 refl
 
-      one : ((Constant true, cell.Const true) ≡ x) ⊎ Contains (map (λ i. (Input i, cell.Input i)) (range_with_len 0 (length (cut_bits d)))) x → operands l.boxes x.1 ≡ []
-      one (inl e) = subst (λ (y : Entry). operands l.boxes y.1 ≡ []) e refl
+      one : ((Constant true, cell.Const true) ≡ x) ⊎ Contains (map (λ i. (Input i, cell.Input i)) (range_with_len 0 (length (cut_bits d)))) x → operand_places l.boxes x.1 ≡ []
+      one (inl e) = subst (λ (y : Entry). operand_places l.boxes y.1 ≡ []) e refl
       one (inr h) = input h
 
-      zero_one : ((Constant false, cell.Const false) ≡ x) ⊎ Contains ((Constant true, cell.Const true) ∷ map (λ i. (Input i, cell.Input i)) (range_with_len 0 (length (cut_bits d)))) x → operands l.boxes x.1 ≡ []
-      zero_one (inl e) = subst (λ (y : Entry). operands l.boxes y.1 ≡ []) e refl
+      zero_one : ((Constant false, cell.Const false) ≡ x) ⊎ Contains ((Constant true, cell.Const true) ∷ map (λ i. (Input i, cell.Input i)) (range_with_len 0 (length (cut_bits d)))) x → operand_places l.boxes x.1 ≡ []
+      zero_one (inl e) = subst (λ (y : Entry). operand_places l.boxes y.1 ≡ []) e refl
       zero_one (inr h) = one (contains_cases (Constant true, cell.Const true) (map (λ i. (Input i, cell.Input i)) (range_with_len 0 (length (cut_bits d)))) x h)
 
   -- the constants and the inputs are on no closed walk
@@ -78,7 +78,7 @@ module _ (d : Design) (lowering : Lowering) (l : LooseList) (list : IsListOf d l
       let there : Contains first x = Contains-get_or first k none inside in
       let at : slice_get (first ++ nets) k ≡ Some x = slice_get-get_or (first ++ nets) k none (omega (arith, inside, length-append first nets)) ∙ ap Some (get_or_append_left first nets none k inside) in
       let is = ap (loose_at l) (sym (prefix_number k x at)) ∙ listed_cell d lowering l list x.0 x.1 (Contains-append_left (first ++ nets) (operator_places d lowering list.number) x (Contains-append_left first nets x there)) in
-      none_in_nil to (subst (λ os. Contains os to) (ap (operands l.boxes) is ∙ quiet x there) has)
+      none_in_nil to (subst (λ os. Contains os to) (ap (operand_places l.boxes) is ∙ quiet x there) has)
 
 module _ (of_designs : DesignLaws) where
   pub least_walks_are_first_loops : LeastWalksAreFirstLoops

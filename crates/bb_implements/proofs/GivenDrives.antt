@@ -17,7 +17,7 @@ use Rattle.bb_design.specs.Constructs.{Construct, Assignment, GateInstance, Regi
 use Rattle.bb_design.specs.Drivers.{Free, MadeOf, Box, Drive, driven, driven_by, terminal_terms, drives_at, drives, driven_bits}
 use Rattle.bb_design.specs.GateFunctions.{on_terms, gate_gives}
 use Rattle.bb_design.specs.Laws.{BitsAreThere}
-use Rattle.bb_implements.specs.Places.{CellPlace, Constant, Input, NetBit, Step, Joined, Inverted, BoxPin, lowered_in, Lowering, IsLowering, step_places, gate_place, given_at, given_by_box, given}
+use Rattle.bb_implements.specs.Places.{CellName, Constant, Input, NetBit, Step, Joined, Inverted, BoxPin, lowered_in, Lowering, IsLowering, step_places, gate_place, given_at, given_by_box, driving_places}
 use Rattle.bb_design.specs.Registers.{RegisterBit, stored_at, stored, registers, cut_bits}
 use Rattle.bb_lemmas.proofs.LowBits.{low-map}
 use Rattle.bb_lemmas.proofs.Members.{from_flat, from_map, contains-map, into_flat, contains_here, kept_from, from_find, from_filter_map}
@@ -28,7 +28,7 @@ use Rattle.bb_lemmas.proofs.Numbered.{numbered_there}
 use Rattle.bb_design.specs.Laws.DesignLaws.{DesignLaws}
 
 -- what the place of a step or of a net's bit is made of in a scope
-abbrev pub term_of : Lowering → Scope → CellPlace → Term
+abbrev pub term_of : Lowering → Scope → CellName → Term
 term_of lowering s (Constant b) = term.Const b
 term_of lowering s (Input i) = term.Const false
 term_of lowering s (NetBit b) = term.Net b.net b.place
@@ -91,14 +91,14 @@ module _ (of_designs : DesignLaws) (d : Design) (lowering : Lowering) (lowered :
     low_terms m n e width there = low-map (term_of lowering s) m (step_places lowering k n) ∙ ap (low_bits m) (whole_terms n e width there)
 
   -- bits side by side with places and with what these are made of
-  pub sides_meet : (s : Scope) (path : List (List ℕ)) (all : List Bit) (places : List CellPlace) (terms : List Term) → map (term_of lowering s) places ≡ terms → (y : Bit × CellPlace) → Contains (zip all places) y
+  pub sides_meet : (s : Scope) (path : List (List ℕ)) (all : List Bit) (places : List CellName) (terms : List Term) → map (term_of lowering s) places ≡ terms → (y : Bit × CellName) → Contains (zip all places) y
       → Contains (driven_by path all terms) (driven (MadeOf path (term_of lowering s y.1)) y.0)
   sides_meet s path all places terms same y here =
       let t = zip_across (term_of lowering s) (λ (u : Term). u) all places terms (same ∙ sym (map-id terms)) y.0 y.1 here in
       contains-map {B = Drive} (λ (x : Bit × Term). driven (MadeOf path x.1) x.0) (zip all terms) (y.0, term_of lowering s y.1) (subst (λ (u : Term). Contains (zip all terms) (y.0, u)) (sym t.2) t.1)
 
-  sides_found : (s : Scope) (path : List (List ℕ)) (all : List Bit) (places : List CellPlace) (terms : List Term) → map (term_of lowering s) places ≡ terms → (z : Drive) → Contains (driven_by path all terms) z
-      → (y : Bit × CellPlace) × Contains (zip all places) y × (y.0 ≡ z.bit)
+  sides_found : (s : Scope) (path : List (List ℕ)) (all : List Bit) (places : List CellName) (terms : List Term) → map (term_of lowering s) places ≡ terms → (z : Drive) → Contains (driven_by path all terms) z
+      → (y : Bit × CellName) × Contains (zip all places) y × (y.0 ≡ z.bit)
   sides_found s path all places terms same z here =
       let t = from_map {B = Drive} (λ (x : Bit × Term). driven (MadeOf path x.1) x.0) (zip all terms) z here in
       let p = zip_across (λ (u : Term). u) (term_of lowering s) all terms places (map-id terms ∙ sym same) t.0.0 t.0.1 t.1 in
@@ -106,47 +106,47 @@ module _ (of_designs : DesignLaws) (d : Design) (lowering : Lowering) (lowered :
 
   -- what a construct drives is given, but for registers and boxes
   given_found : (k : ℕ) (s : Scope) (c : Construct) → Contains (enumerate_from 0 (parts d)) (k, (s, c)) → (z : Drive) → Contains (drives_at (s, c)) z
-      → ((y : Bit × CellPlace) × Contains (given_at lowering (k, (s, c))) y × (y.0 ≡ z.bit)) ⊎ ((z.source ≡ Free) ⊎ (c ≡ BoxContents))
+      → ((y : Bit × CellName) × Contains (given_at lowering (k, (s, c))) y × (y.0 ≡ z.bit)) ⊎ ((z.source ≡ Free) ⊎ (c ≡ BoxContents))
   given_found k s (Assignment left right) has z here = inl (sides_found s s.path (written_bits s left) _ _
       (low_terms k s (Assignment left right) has (length (written_bits s left)) 0 right (context_width s left right) (contains_here (0, (right, context_width s left right)) [])) z here)
   given_found k s (GateInstance gate outs ins) has z here =
       let place = gate_place lowering gate k (length ins) in
       let b = from_map (driven (MadeOf s.path (gate_gives on_terms gate (terminal_terms s ins)))) (flat_map (written_bits s) outs) z here in
-      inl ((b.0, place), contains-map {B = Bit × CellPlace} (λ b. (b, place)) (flat_map (written_bits s) outs) b.0 b.1, ap (λ (u : Drive). u.bit) b.2)
+      inl ((b.0, place), contains-map {B = Bit × CellName} (λ b. (b, place)) (flat_map (written_bits s) outs) b.0 b.1, ap (λ (u : Drive). u.bit) b.2)
   given_found k s (Register r) has z here = let b = from_map (driven Free) (written_bits s r.left) z here in inr (inl (ap (λ (u : Drive). u.source) (sym b.2)))
   given_found k s (SupplyNet high n) has z here =
       let b = from_map (driven (MadeOf s.path (term.Const high))) (bits_named s n) z here in
-      inl ((b.0, Constant high), contains-map {B = Bit × CellPlace} (λ b. (b, Constant high)) (bits_named s n) b.0 b.1, ap (λ (u : Drive). u.bit) b.2)
+      inl ((b.0, Constant high), contains-map {B = Bit × CellName} (λ b. (b, Constant high)) (bits_named s n) b.0 b.1, ap (λ (u : Drive). u.bit) b.2)
   given_found k s (InputConnection i pin e) has z here = inl (sides_found s s.path (pin_bits (path_to s.path i) pin) _ _
       (whole_terms k s (InputConnection i pin e) has 0 e (width_of s e) (contains_here (0, (e, width_of s e)) [])) z here)
   given_found k s (OutputConnection i pin e) has z here = inl (sides_found s (path_to s.path i) (written_bits s e) _ _ (pin_terms lowering s (path_to s.path i) pin) z here)
   given_found k s BoxContents has z here = inr (inr refl)
 
-  abbrev inputs : List (Bit × CellPlace)
+  abbrev inputs : List (Bit × CellName)
   inputs = map (λ x. (x.1, Input x.0)) (enumerate_from 0 (cut_bits d))
 
-  abbrev pins : List (Bit × CellPlace)
+  abbrev pins : List (Bit × CellName)
   pins = flat_map given_by_box (enumerate_from 0 (boxes d))
 
-  abbrev others : List (Bit × CellPlace)
+  abbrev others : List (Bit × CellName)
   others = flat_map (given_at lowering) (enumerate_from 0 (parts d))
 
   abbrev IsFound : Bit → Type 0
-  IsFound b = (y : Bit × CellPlace) × Contains (given d lowering) y × (y.0 ≡ b)
+  IsFound b = (y : Bit × CellName) × Contains (driving_places d lowering) y × (y.0 ≡ b)
 
   cut_found : (b : Bit) → Contains (cut_bits d) b → IsFound b
   cut_found b has =
       let k = numbered_there 0 (cut_bits d) b has in
-      ((b, Input k.0), Contains-append_left (inputs ++ pins) others (b, Input k.0) (Contains-append_left inputs pins (b, Input k.0) (contains-map {B = Bit × CellPlace} (λ x. (x.1, Input x.0)) (enumerate_from 0 (cut_bits d)) (k.0, b) k.1)), refl)
+      ((b, Input k.0), Contains-append_left (inputs ++ pins) others (b, Input k.0) (Contains-append_left inputs pins (b, Input k.0) (contains-map {B = Bit × CellName} (λ x. (x.1, Input x.0)) (enumerate_from 0 (cut_bits d)) (k.0, b) k.1)), refl)
 
   box_found : (s : Scope) → Contains (boxes d) s → (z : Drive) → Contains (drives_at (s, BoxContents)) z → IsFound z.bit
   box_found s has z here =
       let p = from_map (λ (x : ℕ × Bit). driven (Box s x.0) x.1) (enumerate_from 0 (output_bits s)) z here in
       let k = numbered_there 0 (boxes d) s has in
-      let entry : Bit × CellPlace = (p.0.1, BoxPin k.0 p.0.0) in (
+      let entry : Bit × CellName = (p.0.1, BoxPin k.0 p.0.0) in (
         entry,
         Contains-append_left (inputs ++ pins) others entry (Contains-append_right inputs pins entry (into_flat given_by_box (enumerate_from 0 (boxes d)) (k.0, s) entry k.1
-            (contains-map {B = Bit × CellPlace} (λ (x : ℕ × Bit). (x.1, BoxPin k.0 x.0)) (enumerate_from 0 (output_bits s)) p.0 p.1))),
+            (contains-map {B = Bit × CellName} (λ (x : ℕ × Bit). (x.1, BoxPin k.0 x.0)) (enumerate_from 0 (output_bits s)) p.0 p.1))),
         ap (λ (u : Drive). u.bit) p.2,
       )
 
@@ -155,7 +155,7 @@ module _ (of_designs : DesignLaws) (d : Design) (lowering : Lowering) (lowered :
   found wired there z has = by (Contains-append_cases (map (driven Free) (top_inputs d)) (flat_map drives_at (parts d)) z has)
     where
       in_part : (k : ℕ) (s : Scope) (c : Construct) → Contains (enumerate_from 0 (parts d)) (k, (s, c)) → Contains (parts d) (s, c) → Contains (drives_at (s, c)) z
-          → ((y : Bit × CellPlace) × Contains (given_at lowering (k, (s, c))) y × (y.0 ≡ z.bit)) ⊎ ((z.source ≡ Free) ⊎ (c ≡ BoxContents)) → IsFound z.bit
+          → ((y : Bit × CellName) × Contains (given_at lowering (k, (s, c))) y × (y.0 ≡ z.bit)) ⊎ ((z.source ≡ Free) ⊎ (c ≡ BoxContents)) → IsFound z.bit
       in_part k s c there_k there_p here (inl y) = (y.0, Contains-append_right (inputs ++ pins) others y.0 (into_flat (given_at lowering) (enumerate_from 0 (parts d)) (k, (s, c)) y.0 there_k y.1), y.2)
       in_part k s c there_k there_p here (inr (inl free)) =
           let r = (of_designs.stores (s, c)).stored z here free in

@@ -23,7 +23,7 @@ use Rattle.bb_design.specs.NetBits.{Bit, output_bits}
 use Rattle.bb_design.specs.Contexts.{made_in}
 use Rattle.bb_design.specs.Constructs.{Construct, Assignment, GateInstance, Register, SupplyNet, InputConnection, OutputConnection, BoxContents, parts}
 use Rattle.bb_design.specs.GateFunctions.{inverts}
-use Rattle.bb_implements.specs.Places.{CellPlace, Step, Joined, Inverted, BoxPin, Numbering, lowered_in, Lowering, IsLowering, terminal_place, joined_place, step_cells, join_cell, joining_places, inverting_place, gate_places, places_at, box_places, operator_places, IsListOf}
+use Rattle.bb_implements.specs.Places.{CellName, Step, Joined, Inverted, BoxPin, Numbering, lowered_in, Lowering, IsLowering, terminal_place, joined_place, step_cells, join_cell, joining_places, inverting_place, gate_places, places_at, box_places, operator_places, IsListOf}
 use Rattle.bb_implements.proofs.IsomorphicPlaces.{there, here, step_here}
 use Rattle.bb_implements.proofs.CellCounts.{is_kept, operator_entries, operators_from}
 use Rattle.bb_lemmas.proofs.Numbered.{numbered_at}
@@ -35,15 +35,15 @@ use Rattle.bb_implements.proofs.TermFormulas.{term_formula, formulas_in, step_fo
 use Rattle.bb_lemmas.proofs.Members.{contains_here, contains_there}
 
 -- the formulas at the places of those that are no copies
-abbrev pub kept_formulas : (CellPlace → Formula) → List Entry → List Formula
+abbrev pub kept_formulas : (CellName → Formula) → List Entry → List Formula
 kept_formulas v xs = map (λ (x : Entry). v x.0) (filter (λ x. is_kept x.1) xs)
 
 -- piece by piece
 
-kept-append : (v : CellPlace → Formula) (xs ys : List Entry) → kept_formulas v (xs ++ ys) ≡ kept_formulas v xs ++ kept_formulas v ys
+kept-append : (v : CellName → Formula) (xs ys : List Entry) → kept_formulas v (xs ++ ys) ≡ kept_formulas v xs ++ kept_formulas v ys
 kept-append v xs ys = ap (map (λ (x : Entry). v x.0)) (filter-append (λ x. is_kept x.1) xs ys) ∙ map-append (λ (x : Entry). v x.0) (filter (λ x. is_kept x.1) xs) (filter (λ x. is_kept x.1) ys)
 
-module _ (v w : CellPlace → Formula) where
+module _ (v w : CellName → Formula) where
   -- the one entries have the formulas of the others
   abbrev Isomorphism : List Entry → List Entry → Type 0
   Isomorphism xs ys = IsPermutation (kept_formulas v xs) (kept_formulas w ys)
@@ -73,7 +73,7 @@ module _ (v w : CellPlace → Formula) where
 
 -- the operators among the steps of an expression
 
-module _ (number : Numbering) (v : CellPlace → Formula) (at : List ℕ → ℕ → Formula) (term : ℕ → Term) (k x : ℕ) where
+module _ (number : Numbering) (v : CellName → Formula) (at : List ℕ → ℕ → Formula) (term : ℕ → Term) (k x : ℕ) where
   kept_steps : (a : ℕ) (all : List BitStep) → ((j : ℕ) → a ≤ j → j < a + length all → v (Step k x j) ≡ term_formula at (term j)) → kept_formulas v (operator_entries number k x a all) ≡ map (term_formula at) (operators_from term a all)
   kept_steps a [] each = refl
   kept_steps a (b ∷ all) each = by b (each a (omega arith) (omega arith)) (kept_steps (a + 1) all (λ j low high. each j (omega (arith, low)) (omega (arith, high))))
@@ -90,10 +90,10 @@ module _ (number : Numbering) (v : CellPlace → Formula) (at : List ℕ → ℕ
 
 module _ (d : Design) (one other : Lowering) (l m : LooseList) (list : IsListOf d one l) (more : IsListOf d other m) (lowered : IsLowering d one) (also : IsLowering d other) (wired : IsWired d)
     (numbers : List ℕ) (at : ℕ → Formula) (meets : AreLooseFormulas m numbers at) where
-  abbrev v : CellPlace → Formula
+  abbrev v : CellName → Formula
   v = here d one other m more lowered also wired numbers at meets
 
-  abbrev u : CellPlace → Formula
+  abbrev u : CellName → Formula
   u = there d one other m more lowered also wired numbers at meets
 
   module _ (k : ℕ) (s : Scope) (c : Construct) (has : Contains (enumerate_from 0 (parts d)) (k, (s, c))) where

@@ -22,7 +22,7 @@ use Rattle.bb_design.specs.NetBits.{Bit, net_order}
 use Rattle.bb_design.specs.Contexts.{width_of}
 use Rattle.bb_design.specs.Constructs.{Construct, GateInstance, parts}
 use Rattle.bb_design.specs.GateFunctions.{inverts}
-use Rattle.bb_implements.specs.Places.{CellPlace, Constant, Input, NetBit, Step, Joined, Inverted, BoxPin, lowered_in, Lowering, IsLowering, terminal_place, joined_place, given, data_at, place_in, step_cell, net_place, join_cell, places, IsListOf}
+use Rattle.bb_implements.specs.Places.{CellName, Constant, Input, NetBit, Step, Joined, Inverted, BoxPin, lowered_in, Lowering, IsLowering, terminal_place, joined_place, driving_places, data_at, place_in, step_cell, net_place, join_cell, placed_cells, IsListOf}
 use Rattle.bb_lemmas.proofs.Orders.{less_or_not}
 use Rattle.bb_lemmas.proofs.Numbered.{enumerated_from, numbered_at, from_numbered}
 use Rattle.bb_implements.proofs.ListedEntries.{Entry, each_entry}
@@ -37,13 +37,13 @@ use Rattle.bb_design.specs.Laws.DesignLaws.{DesignLaws}
 module _ (of_designs : DesignLaws) (d : Design) (one other : Lowering) (l m : LooseList) (list : IsListOf d one l) (more : IsListOf d other m) (lowered : IsLowering d one) (also : IsLowering d other) (wired : IsWired d)
     (numbers : List ℕ) (at : ℕ → Formula) (meets : AreLooseFormulas m numbers at) where
   -- the formula at a place of the list, and that of the same place of the other
-  abbrev pub v : CellPlace → Formula
+  abbrev pub v : CellName → Formula
   v = here d one other m more lowered also wired numbers at meets
 
-  abbrev u : CellPlace → Formula
+  abbrev u : CellName → Formula
   u = there d one other m more lowered also wired numbers at meets
 
-  abbrev pub Listed : CellPlace → LooseCell → Type 0
+  abbrev pub Listed : CellName → LooseCell → Type 0
   Listed = IsListed d one l list
 
   -- the formulas by the numbers of the list
@@ -54,14 +54,14 @@ module _ (of_designs : DesignLaws) (d : Design) (one other : Lowering) (l m : Lo
   abbrev pub formulas : ℕ → Formula
   formulas k = chosen k (less_or_not k (length l.cells))
 
-  pub formula_is : (p : CellPlace) (c : LooseCell) → Listed p c → formulas (list.number p) ≡ v p
+  pub formula_is : (p : CellName) (c : LooseCell) → Listed p c → formulas (list.number p) ≡ v p
   formula_is p c has = by (less_or_not (list.number p) (length l.cells))
     where
       by : (o : (list.number p < length l.cells) ⊎ (length l.cells ≤ list.number p)) → chosen (list.number p) o ≡ v p
       by (inl fits) = let q = listed_at d one l list (list.number p) fits in ap v (one_place_listed d one l list q.0 p q.1 c q.2 has q.3)
       by (inr past) = absurd (omega (arith, past, listed_below d one l list p c has))
 
-  theirs : (p : CellPlace) (c : LooseCell) → IsListed d other m more p c → IsFormulaOf numbers at c (u p)
+  theirs : (p : CellName) (c : LooseCell) → IsListed d other m more p c → IsFormulaOf numbers at c (u p)
   theirs = equation d other m more also numbers at meets
 
   module _ (k : ℕ) (s : Scope) (c : Construct) (has : Contains (enumerate_from 0 (parts d)) (k, (s, c))) (x : ℕ) (fits : x < length (lowered_in (s, c))) where
@@ -145,25 +145,25 @@ module _ (of_designs : DesignLaws) (d : Design) (one other : Lowering) (l m : Lo
     inverter_meets on = theirs (Inverted k) _ (inverted_listed d other m more k s gate outs ins has on) ∙ ap formula.Not (joined_is (length ins - 1) (omega (arith, shape.0)))
 
   -- where something is that gives a bit, there is its formula
-  abbrev IsThere : CellPlace → Type 0
+  abbrev IsThere : CellName → Type 0
   IsThere p = formulas (list.number p) ≡ v p
 
-  given_is : (b : Bit) → IsThere (place_in (given d one) b)
-  given_is = found_holds d one l list lowered wired IsThere formula_is step_is (given d one) (given_holds d one l list lowered wired IsThere formula_is step_is)
+  given_is : (b : Bit) → IsThere (place_in (driving_places d one) b)
+  given_is = found_holds d one l list lowered wired IsThere formula_is step_is (driving_places d one) (given_holds d one l list lowered wired IsThere formula_is step_is)
 
   pub data_is : (b : Bit) → IsThere (place_in (flat_map (data_at one) (enumerate_from 0 (parts d))) b)
   data_is = found_holds d one l list lowered wired IsThere formula_is step_is (flat_map (data_at one) (enumerate_from 0 (parts d))) (data_holds d one l list lowered wired IsThere formula_is step_is)
 
-  net_meets : (b : Bit) → Contains (net_order d) b → v (NetBit b) ≡ formulas (list.number (place_in (given d one) b))
+  net_meets : (b : Bit) → Contains (net_order d) b → v (NetBit b) ≡ formulas (list.number (place_in (driving_places d one) b))
   net_meets b has =
       theirs (NetBit b) _ (net_listed d other m more b has)
-      ∙ sym (given_is b ∙ place_same d one other m more lowered also wired numbers at meets b (given d one) (given d other) (given_same d one other m more lowered also wired numbers at meets))
+      ∙ sym (given_is b ∙ place_same d one other m more lowered also wired numbers at meets b (driving_places d one) (driving_places d other) (given_same d one other m more lowered also wired numbers at meets))
 
   -- an entry meets its equation
   abbrev Meets : Entry → Type 0
   Meets x = IsFormulaOf numbers formulas x.1 (v x.0)
 
-  entry_meets : (x : Entry) → Contains (places d one list.number) x → Meets x
+  entry_meets : (x : Entry) → Contains (placed_cells d one list.number) x → Meets x
   entry_meets = each_entry d one l list Meets (record {
     constants = λ b. theirs (Constant b) (cell.Const b) (constant_listed d other m more b);
     inputs = λ i fits. theirs (Input i) (cell.Input i) (input_listed d other m more i fits);

@@ -15,7 +15,7 @@ use Rattle.bb_net.specs.Flats.{FlatNet}
 use Rattle.bb_design.specs.Hierarchy.{Design, Scope, root, scopes, is_box, boxes}
 use Rattle.bb_design.specs.Inside.Allowed.{IsAllowed}
 use Rattle.bb_design.specs.NetBits.{Bit, net_order, input_bits, output_bits, top_outputs, scope_bits}
-use Rattle.bb_implements.specs.Places.{CellPlace, NetBit, BoxPin, data_at, data_places, place_in, operator_places, places, pins_of}
+use Rattle.bb_implements.specs.Places.{CellName, NetBit, BoxPin, data_at, data_places, place_in, operator_places, placed_cells, pins_of}
 use Rattle.bb_design.specs.Registers.{RegisterBit, registers}
 use Rattle.bb_implements.specs.Implements.{Implements}
 use Rattle.bb_implements.proofs.IsomorphicCells.{kept_formulas, operators_isomorphic}
@@ -51,10 +51,10 @@ module _ (of_designs : DesignLaws) (keeps : OrderKeepsFormulas) (d : Design) (f 
   meets = subst (λ n. AreLooseFormulas t.cells n second) (sym (box_order of_designs d f g allowed s t))
       ((keeps t.cells g.net t.numbers (lists_are_loose of_designs d t.lowering t.cells allowed.bounded t.lowered t.listed) t.netlist t.ordered second).1 (λ k fits. refl))
 
-  abbrev v : CellPlace → Formula
+  abbrev v : CellName → Formula
   v = here d s.lowering t.lowering t.cells t.listed s.lowered t.lowered wires s.numbers second meets
 
-  abbrev u : CellPlace → Formula
+  abbrev u : CellName → Formula
   u = there d s.lowering t.lowering t.cells t.listed s.lowered t.lowered wires s.numbers second meets
 
   -- those for the places of the one list, by its numbers
@@ -62,13 +62,13 @@ module _ (of_designs : DesignLaws) (keeps : OrderKeepsFormulas) (d : Design) (f 
   chosen = formulas of_designs d s.lowering t.lowering s.cells t.cells s.listed t.listed s.lowered t.lowered wires s.numbers second meets
 
   -- what is at a place of the list has in its netlist the formula that comes from the other
-  occurs_is : (p : CellPlace) → s.listed.number p < length s.cells.cells → chosen (s.listed.number p) ≡ v p → first (s.listed.number p) ≡ v p
+  occurs_is : (p : CellName) → s.listed.number p < length s.cells.cells → chosen (s.listed.number p) ≡ v p → first (s.listed.number p) ≡ v p
   occurs_is p fits is =
       let same = (keeps s.cells f.net s.numbers (lists_are_loose of_designs d s.lowering s.cells allowed.bounded s.lowered s.listed) s.netlist s.ordered chosen).0
       (formulas_meet of_designs d s.lowering t.lowering s.cells t.cells s.listed t.listed s.lowered t.lowered wires s.numbers second meets) in
       sym (same (s.listed.number p) fits) ∙ is
 
-  here_is : (p : CellPlace) (c : LooseCell) → IsListed d s.lowering s.cells s.listed p c → first (s.listed.number p) ≡ v p
+  here_is : (p : CellName) (c : LooseCell) → IsListed d s.lowering s.cells s.listed p c → first (s.listed.number p) ≡ v p
   here_is p c has = occurs_is p (listed_below d s.lowering s.cells s.listed p c has) (formula_is of_designs d s.lowering t.lowering s.cells t.cells s.listed t.listed s.lowered t.lowered wires s.numbers second meets p c has)
 
   nets_isomorphic : (all : List Bit) → ((b : Bit) → Contains all b → Contains (net_order d) b) → map first (map (λ b. s.listed.number (NetBit b)) all) ≡ map second (map (λ b. t.listed.number (NetBit b)) all)
@@ -83,10 +83,10 @@ module _ (of_designs : DesignLaws) (keeps : OrderKeepsFormulas) (d : Design) (f 
 
   -- the outputs of the top, and the data of registers
 
-  abbrev data_one : List (Bit × CellPlace)
+  abbrev data_one : List (Bit × CellName)
   data_one = flat_map (data_at s.lowering) (enumerate_from 0 (parts d))
 
-  abbrev data_other : List (Bit × CellPlace)
+  abbrev data_other : List (Bit × CellName)
   data_other = flat_map (data_at t.lowering) (enumerate_from 0 (parts d))
 
   data_isomorphic : (rs : List RegisterBit) → map first (map s.listed.number (map (λ r. place_in data_one r.bit) rs)) ≡ map second (map t.listed.number (map (λ r. place_in data_other r.bit) rs))
@@ -137,7 +137,7 @@ module _ (of_designs : DesignLaws) (keeps : OrderKeepsFormulas) (d : Design) (f 
 
   -- cells
 
-  kept_same : (xs : List Entry) → ((x : Entry) → Contains xs x → Contains (places d s.lowering s.listed.number) x) → map (λ (x : Entry). first (s.listed.number x.0)) xs ≡ map (λ (x : Entry). v x.0) xs
+  kept_same : (xs : List Entry) → ((x : Entry) → Contains xs x → Contains (placed_cells d s.lowering s.listed.number) x) → map (λ (x : Entry). first (s.listed.number x.0)) xs ≡ map (λ (x : Entry). v x.0) xs
   kept_same [] sub = refl
   kept_same (x ∷ xs) sub = ap₂ ◌∷◌ (here_is x.0 x.1 (sub x (contains_here x xs))) (kept_same xs (λ y has. sub y (contains_there x xs y has)))
 

@@ -17,7 +17,7 @@ use Rattle.bb_design.specs.Contexts.{width_of, context_width}
 use Rattle.bb_bits.specs.Bits.{low_bits}
 use Rattle.bb_design.specs.Constructs.{Construct, Assignment, GateInstance, Register, SupplyNet, InputConnection, OutputConnection, BoxContents, parts}
 use Rattle.bb_design.specs.GateFunctions.{inverts}
-use Rattle.bb_implements.specs.Places.{CellPlace, Constant, Input, NetBit, Step, Joined, Inverted, BoxPin, lowered_in, Lowering, IsLowering, step_places, terminal_place, joined_place, gate_place, given_at, given_by_box, given, data_at, place_in, IsListOf}
+use Rattle.bb_implements.specs.Places.{CellName, Constant, Input, NetBit, Step, Joined, Inverted, BoxPin, lowered_in, Lowering, IsLowering, step_places, terminal_place, joined_place, gate_place, given_at, given_by_box, driving_places, data_at, place_in, IsListOf}
 use Rattle.bb_design.specs.Registers.{cut_bits}
 use Rattle.bb_lemmas.proofs.LowBits.{low-map}
 use Rattle.bb_lemmas.proofs.Numbered.{enumerated_from, from_numbered}
@@ -32,7 +32,7 @@ use Rattle.bb_lemmas.proofs.Members.{contains_here, contains_there}
 module _ (d : Design) (one other : Lowering) (m : LooseList) (more : IsListOf d other m) (lowered : IsLowering d one) (also : IsLowering d other) (wired : IsWired d)
     (numbers : List ℕ) (at : ℕ → Formula) (meets : AreLooseFormulas m numbers at) where
   -- the formulas of the other list
-  abbrev pub there : CellPlace → Formula
+  abbrev pub there : CellName → Formula
   there = formula_of d other m more also numbers at meets
 
   -- the scope of a construct
@@ -40,7 +40,7 @@ module _ (d : Design) (one other : Lowering) (m : LooseList) (more : IsListOf d 
   scope_at k = (get_or (parts d) k (root d, BoxContents)).0
 
   -- and those for the places of the one
-  abbrev pub here : CellPlace → Formula
+  abbrev pub here : CellName → Formula
   here (Step k x j) = term_formula (formulas_in there (scope_at k)) (term_at (nets_of (scope_at k).source) (one k x).all j)
   here (Constant b) = there (Constant b)
   here (Input i) = there (Input i)
@@ -99,21 +99,21 @@ module _ (d : Design) (one other : Lowering) (m : LooseList) (more : IsListOf d 
   -- bits with the places that give them
 
   -- one bit, and places of one formula
-  abbrev Same : Bit × CellPlace → Bit × CellPlace → Type 0
+  abbrev Same : Bit × CellName → Bit × CellName → Type 0
   Same y z = (y.0 ≡ z.0) × (here y.1 ≡ there z.1)
 
-  zipped : (bits : List Bit) (xs ys : List CellPlace) → map here xs ≡ map there ys → AllZip Same (zip bits xs) (zip bits ys)
+  zipped : (bits : List Bit) (xs ys : List CellName) → map here xs ≡ map there ys → AllZip Same (zip bits xs) (zip bits ys)
   zipped [] xs ys e = tt
   zipped (b ∷ bits) [] [] e = tt
   zipped (b ∷ bits) [] (y ∷ ys) e = absurd (grind (arith, e))
   zipped (b ∷ bits) (x ∷ xs) [] e = absurd (grind (arith, e))
   zipped (b ∷ bits) (x ∷ xs) (y ∷ ys) e = ((refl, ap (λ l. get_or l 0 (here x)) e), zipped bits xs ys (ap (drop 1) e))
 
-  mapped : {X : Type 0} (f g : X → Bit × CellPlace) → ((x : X) → Same (f x) (g x)) → (xs : List X) → AllZip Same (map f xs) (map g xs)
+  mapped : {X : Type 0} (f g : X → Bit × CellName) → ((x : X) → Same (f x) (g x)) → (xs : List X) → AllZip Same (map f xs) (map g xs)
   mapped f g each [] = tt
   mapped f g each (x ∷ xs) = (each x, mapped f g each xs)
 
-  flattened : {X : Type 0} (f g : X → List (Bit × CellPlace)) (xs : List X) → ((x : X) → Contains xs x → AllZip Same (f x) (g x)) → AllZip Same (flat_map f xs) (flat_map g xs)
+  flattened : {X : Type 0} (f g : X → List (Bit × CellName)) (xs : List X) → ((x : X) → Contains xs x → AllZip Same (f x) (g x)) → AllZip Same (flat_map f xs) (flat_map g xs)
   flattened f g [] each = tt
   flattened f g (x ∷ xs) each = zip_append Same (f x) (g x) (flat_map f xs) (flat_map g xs) (each x (contains_here x xs)) (flattened f g xs (λ y has. each y (contains_there x xs y has)))
 
@@ -132,10 +132,10 @@ module _ (d : Design) (one other : Lowering) (m : LooseList) (more : IsListOf d 
   given_at_same k s (OutputConnection i pin e) has = zipped (written_bits s e) _ _ (nets_same (pin_bits (path_to s.path i) pin))
   given_at_same k s BoxContents has = tt
 
-  abbrev inputs : List (Bit × CellPlace)
+  abbrev inputs : List (Bit × CellName)
   inputs = map (λ x. (x.1, Input x.0)) (enumerate_from 0 (cut_bits d))
 
-  abbrev pins : List (Bit × CellPlace)
+  abbrev pins : List (Bit × CellName)
   pins = flat_map given_by_box (enumerate_from 0 (boxes d))
 
   inputs_same : AllZip Same inputs inputs
@@ -144,7 +144,7 @@ module _ (d : Design) (one other : Lowering) (m : LooseList) (more : IsListOf d 
   pins_same : (b : ℕ × Scope) → AllZip Same (given_by_box b) (given_by_box b)
   pins_same (b, s) = mapped (λ (x : ℕ × Bit). (x.1, BoxPin b x.0)) (λ (x : ℕ × Bit). (x.1, BoxPin b x.0)) (λ x. (refl, refl)) (enumerate_from 0 (output_bits s))
 
-  pub given_same : AllZip Same (given d one) (given d other)
+  pub given_same : AllZip Same (driving_places d one) (driving_places d other)
   given_same = zip_append Same (inputs ++ pins) (inputs ++ pins) (flat_map (given_at one) (enumerate_from 0 (parts d))) (flat_map (given_at other) (enumerate_from 0 (parts d)))
       (zip_append Same inputs inputs pins pins inputs_same (flattened given_by_box given_by_box (enumerate_from 0 (boxes d)) (λ b has. pins_same b)))
       (flattened (given_at one) (given_at other) (enumerate_from 0 (parts d)) (λ p has. given_at_same p.0 p.1.0 p.1.1 has))
@@ -162,15 +162,15 @@ module _ (d : Design) (one other : Lowering) (m : LooseList) (more : IsListOf d 
   data_same = flattened (data_at one) (data_at other) (enumerate_from 0 (parts d)) (λ p has. data_at_same p.0 p.1.0 p.1.1 has)
 
   -- a bit has places of one formula in both
-  pub place_same : (b : Bit) (xs ys : List (Bit × CellPlace)) → AllZip Same xs ys → here (place_in xs b) ≡ there (place_in ys b)
+  pub place_same : (b : Bit) (xs ys : List (Bit × CellName)) → AllZip Same xs ys → here (place_in xs b) ≡ there (place_in ys b)
   place_same b [] [] all = refl
   place_same b [] (y ∷ ys) all = absurd all
   place_same b (x ∷ xs) [] all = absurd all
   place_same b (x ∷ xs) (y ∷ ys) all =
-      subst (λ t. here (option_map_or (λ (u : Bit × CellPlace). u.1) (if same_bit b x.0 then Some x else find (λ (u : Bit × CellPlace). same_bit b u.0) xs) (Constant false)) ≡ there (option_map_or (λ (u : Bit × CellPlace). u.1) (if t then Some y else find (λ (u : Bit × CellPlace). same_bit b u.0) ys) (Constant false)))
+      subst (λ t. here (option_map_or (λ (u : Bit × CellName). u.1) (if same_bit b x.0 then Some x else find (λ (u : Bit × CellName). same_bit b u.0) xs) (Constant false)) ≡ there (option_map_or (λ (u : Bit × CellName). u.1) (if t then Some y else find (λ (u : Bit × CellName). same_bit b u.0) ys) (Constant false)))
       (ap (same_bit b) all.0.0) (by (same_bit b x.0) (place_same b xs ys all.1))
     where
       by : (t : Bool) → here (place_in xs b) ≡ there (place_in ys b)
-          → here (option_map_or (λ (u : Bit × CellPlace). u.1) (if t then Some x else find (λ (u : Bit × CellPlace). same_bit b u.0) xs) (Constant false)) ≡ there (option_map_or (λ (u : Bit × CellPlace). u.1) (if t then Some y else find (λ (u : Bit × CellPlace). same_bit b u.0) ys) (Constant false))
+          → here (option_map_or (λ (u : Bit × CellName). u.1) (if t then Some x else find (λ (u : Bit × CellName). same_bit b u.0) xs) (Constant false)) ≡ there (option_map_or (λ (u : Bit × CellName). u.1) (if t then Some y else find (λ (u : Bit × CellName). same_bit b u.0) ys) (Constant false))
       by true rest = all.0.1
       by false rest = rest

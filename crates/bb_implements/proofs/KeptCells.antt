@@ -17,7 +17,7 @@ use Rattle.bb_net.specs.Netlists.{Netlist}
 use Rattle.bb_net.specs.Orders.{IsNoCopy, IsOrderOf}
 use Rattle.bb_design.specs.Hierarchy.{Design}
 use Rattle.bb_design.specs.NetBits.{net_order}
-use Rattle.bb_implements.specs.Places.{Constant, Input, NetBit, Lowering, given, place_in, prefix_places, operator_places, places, IsListOf}
+use Rattle.bb_implements.specs.Places.{Constant, Input, NetBit, Lowering, driving_places, place_in, prefix_places, operator_places, placed_cells, IsListOf}
 use Rattle.bb_design.specs.Registers.{cut_bits}
 use Rattle.bb_lemmas.proofs.Members.{each_of, all_from, from_map, contains-map, contains_here, contains_there, contains_cases, none_in_nil, kept_from, keeps}
 use Rattle.bb_lemmas.proofs.Orders.{less_or_not}
@@ -102,7 +102,7 @@ module _ (d : Design) (lowering : Lowering) (l : LooseList) (list : IsListOf d l
   first = (Constant false, cell.Const false) ∷ (Constant true, cell.Const true) ∷ inputs
 
   abbrev nets : List Entry
-  nets = map (λ b. (NetBit b, cell.Copy (list.number (place_in (given d lowering) b)))) (net_order d)
+  nets = map (λ b. (NetBit b, cell.Copy (list.number (place_in (driving_places d lowering) b)))) (net_order d)
 
   abbrev operators : List Entry
   operators = operator_places d lowering list.number
@@ -141,19 +141,19 @@ module _ (d : Design) (lowering : Lowering) (l : LooseList) (list : IsListOf d l
 
   nets_copied : (x : Entry) → Contains nets x → is_kept x.1 ≡ false
   nets_copied x has =
-      let b = from_map {B = Entry} (λ b. (NetBit b, cell.Copy (list.number (place_in (given d lowering) b)))) (net_order d) x has in
+      let b = from_map {B = Entry} (λ b. (NetBit b, cell.Copy (list.number (place_in (driving_places d lowering) b)))) (net_order d) x has in
       subst (λ (y : Entry). is_kept y.1 ≡ false) b.2 refl
 
   abbrev prefix_numbers : List ℕ
   prefix_numbers = map number (prefix_places d lowering list.number)
 
   apart : AllPairs ◌≢◌ (prefix_numbers ++ map number operators)
-  apart = subst (AllPairs ◌≢◌) (map-append number (prefix_places d lowering list.number) operators) (AllPairs-from_IsDistinct Decides-eqb (map number (places d lowering list.number)) (numbers_apart d lowering l list))
+  apart = subst (AllPairs ◌≢◌) (map-append number (prefix_places d lowering list.number) operators) (AllPairs-from_IsDistinct Decides-eqb (map number (placed_cells d lowering list.number)) (numbers_apart d lowering l list))
 
-  operator_listed : (x : Entry) → Contains operators x → Contains (places d lowering list.number) x
+  operator_listed : (x : Entry) → Contains operators x → Contains (placed_cells d lowering list.number) x
   operator_listed x has = Contains-append_right (prefix_places d lowering list.number) operators x has
 
-  kept_at : (x : Entry) → Contains (places d lowering list.number) x → is_kept x.1 ≡ true → IsNoCopy (loose_at l (number x))
+  kept_at : (x : Entry) → Contains (placed_cells d lowering list.number) x → is_kept x.1 ≡ true → IsNoCopy (loose_at l (number x))
   kept_at x has on = subst IsNoCopy (sym (listed_cell d lowering l list x.0 x.1 has)) (is_no_copy x.1 on)
 
   -- no operator is among the constants and the inputs of the netlist
@@ -168,7 +168,7 @@ module _ (d : Design) (lowering : Lowering) (l : LooseList) (list : IsListOf d l
           let at : number y ≡ moved x = first_number (moved x) x fits in
           let in_first : Contains first y = Contains-get_or first (moved x) x fits in
           let in_prefix : Contains (prefix_places d lowering list.number) y = Contains-append_left first nets y in_first in
-          let listed : Contains (places d lowering list.number) y = Contains-append_left (prefix_places d lowering list.number) operators y in_prefix in
+          let listed : Contains (placed_cells d lowering list.number) y = Contains-append_left (prefix_places d lowering list.number) operators y in_prefix in
           let same : number y ≡ number x =
           order.apart (number y) (number x) (listed_below d lowering l list y.0 y.1 listed) (listed_below d lowering l list x.0 x.1 (operator_listed x has))
           (subst IsNoCopy (sym (listed_cell d lowering l list y.0 y.1 listed)) (first_kept y in_first)) (kept_at x (operator_listed x has) on) (order.prefix (number y) (omega (arith, at, low)) ∙ at) in
@@ -210,5 +210,5 @@ module _ (d : Design) (lowering : Lowering) (l : LooseList) (list : IsListOf d l
       (λ x y p q on also same. order.apart (number x) (number y) (listed_below d lowering l list x.0 x.1 (operator_listed x p)) (listed_below d lowering l list y.0 y.1 (operator_listed y q)) (kept_at x (operator_listed x p) on) (kept_at y (operator_listed y q) also) same))
       reached stays
 
-  pub kept_listed : (x : Entry) → Contains kept_operators x → Contains (places d lowering list.number) x
+  pub kept_listed : (x : Entry) → Contains kept_operators x → Contains (placed_cells d lowering list.number) x
   kept_listed x has = operator_listed x (kept_from (λ x. is_kept x.1) operators x has).0

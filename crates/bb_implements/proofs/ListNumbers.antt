@@ -6,7 +6,7 @@ use Rattle.std.proofs.lemmas.Map.Keys.{IsDistinct-IsPermutation}
 use Rattle.bb_net.specs.declared.loose.LooseCell.{LooseCell}
 use Rattle.bb_net.specs.Loose.{LooseList}
 use Rattle.bb_design.specs.Hierarchy.{Design}
-use Rattle.bb_implements.specs.Places.{CellPlace, Lowering, places, IsListOf}
+use Rattle.bb_implements.specs.Places.{CellName, Lowering, placed_cells, IsListOf}
 use Rattle.bb_lemmas.proofs.Members.{each_of, contains-map, contains_cases, none_in_nil}
 use Rattle.bb_implements.proofs.ListedPlaces.{IsListed}
 
@@ -41,15 +41,15 @@ one_element number (z ∷ zs) apart x y p q same = by (contains_cases z zs x p) 
     by (inr a) (inr b) rest = rest a b
 
 module _ (d : Design) (lowering : Lowering) (l : LooseList) (list : IsListOf d lowering l) where
-  abbrev number_of : CellPlace × LooseCell → ℕ
+  abbrev number_of : CellName × LooseCell → ℕ
   number_of x = list.number x.0
 
   -- no two places have one number
-  pub numbers_apart : IsDistinct ◌==◌ (map number_of (places d lowering list.number))
+  pub numbers_apart : IsDistinct ◌==◌ (map number_of (placed_cells d lowering list.number))
   numbers_apart =
-      let all = map number_of (places d lowering list.number) in
+      let all = map number_of (placed_cells d lowering list.number) in
       let range = range_with_len 0 (length l.cells) in
       IsDistinct-IsPermutation ◌==◌ flips range all (IsPermutation-sym all range list.numbers) (range_distinct 0 (length l.cells))
 
-  pub one_place_listed : (p q : CellPlace) (u v : LooseCell) → IsListed d lowering l list p u → IsListed d lowering l list q v → list.number p ≡ list.number q → p ≡ q
-  one_place_listed p q u v a b same = ap (λ (x : CellPlace × LooseCell). x.0) (one_element number_of (places d lowering list.number) numbers_apart (p, u) (q, v) a b same)
+  pub one_place_listed : (p q : CellName) (u v : LooseCell) → IsListed d lowering l list p u → IsListed d lowering l list q v → list.number p ≡ list.number q → p ≡ q
+  one_place_listed p q u v a b same = ap (λ (x : CellName × LooseCell). x.0) (one_element number_of (placed_cells d lowering list.number) numbers_apart (p, u) (q, v) a b same)

@@ -26,7 +26,7 @@ use Rattle.bb_design.specs.Constructs.{Construct, GateInstance, parts}
 use Rattle.bb_design.specs.Drivers.{terminal_terms}
 use Rattle.bb_design.specs.GateFunctions.{on_bits, joins, joined, inverts, gate_gives}
 use Rattle.bb_implements.specs.Laws.ListLaws.{vector_bits, given_by_contents, world_at}
-use Rattle.bb_implements.specs.Places.{CellPlace, Constant, Input, NetBit, Step, Joined, Inverted, BoxPin, lowered_in, Lowering, IsLowering, step_places, terminal_place, joined_place, gate_place, given, place_in, join_cell, IsListOf}
+use Rattle.bb_implements.specs.Places.{CellName, Constant, Input, NetBit, Step, Joined, Inverted, BoxPin, lowered_in, Lowering, IsLowering, step_places, terminal_place, joined_place, gate_place, driving_places, place_in, join_cell, IsListOf}
 use Rattle.bb_design.specs.Registers.{cut_bits}
 use Rattle.bb_implements.specs.Implements.{box_number}
 use Rattle.bb_design.specs.Texts.{path_text}
@@ -41,7 +41,7 @@ use Rattle.bb_lemmas.proofs.Places.{only_one}
 module _ (d : Design) (lowering : Lowering) (l : LooseList) (list : IsListOf d lowering l) (lowered : IsLowering d lowering) (wired : IsWired d)
     (contents : Contents) (x : Vector) (bits : List Bool) (value : IsLooseValue l (vector_bits d x) (given_by_contents d contents) bits) where
   -- the bit at a place
-  abbrev pub at : CellPlace → Bool
+  abbrev pub at : CellName → Bool
   at p = bit_of bits (list.number p)
 
   abbrev pub world : World
@@ -50,7 +50,7 @@ module _ (d : Design) (lowering : Lowering) (l : LooseList) (list : IsListOf d l
   abbrev gives : LooseCell → Bool
   gives c = loose_gate l.boxes (vector_bits d x) (given_by_contents d contents) (bit_of bits) c
 
-  equation : (p : CellPlace) (c : LooseCell) → IsListed d lowering l list p c → at p ≡ gives c
+  equation : (p : CellName) (c : LooseCell) → IsListed d lowering l list p c → at p ≡ gives c
   equation p c has = value.each (list.number p) (listed_below d lowering l list p c has) ∙ ap gives (listed_cell d lowering l list p c has)
 
   pub constant_value : (b : Bool) → at (Constant b) ≡ b
@@ -59,7 +59,7 @@ module _ (d : Design) (lowering : Lowering) (l : LooseList) (list : IsListOf d l
   pub input_value : (i : ℕ) → i < length (cut_bits d) → at (Input i) ≡ get_or (vector_bits d x) i false
   input_value i fits = equation (Input i) (cell.Input i) (input_listed d lowering l list i fits)
 
-  pub net_value : (b : Bit) → Contains (net_order d) b → at (NetBit b) ≡ at (place_in (given d lowering) b)
+  pub net_value : (b : Bit) → Contains (net_order d) b → at (NetBit b) ≡ at (place_in (driving_places d lowering) b)
   net_value b has = equation (NetBit b) _ (net_listed d lowering l list b has)
 
   net_bits : (all : List Bit) → map (bit_of bits) (map (λ b. list.number (NetBit b)) all) ≡ bits_in world all

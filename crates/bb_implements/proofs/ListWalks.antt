@@ -13,7 +13,7 @@ use Rattle.bb_expr.specs.Terms.{Term}
 use Rattle.bb_expr.specs.Terms as term
 use Rattle.bb_net.specs.declared.loose.LooseCell.{LooseCell}
 use Rattle.bb_net.specs.declared.loose.LooseCell.TheVariants as cell
-use Rattle.bb_net.specs.Loose.{LooseList, operands, Reaches}
+use Rattle.bb_net.specs.Loose.{LooseList, operand_places, Reaches}
 use Rattle.bb_net.specs.Netlists.{Pins}
 use Rattle.bb_design.specs.Hierarchy.{Design, Scope, boxes}
 use Rattle.bb_design.specs.NetBits.{Bit, input_bits, output_bits}
@@ -22,7 +22,7 @@ use Rattle.bb_design.specs.Constructs.{Construct, GateInstance, parts}
 use Rattle.bb_design.specs.Dependence.{bits_below}
 use Rattle.bb_design.specs.Drivers.{terminal_terms}
 use Rattle.bb_design.specs.GateFunctions.{on_terms, joins, joined, inverts, gate_gives}
-use Rattle.bb_implements.specs.Places.{CellPlace, NetBit, Step, Joined, Inverted, BoxPin, lowered_in, Lowering, IsLowering, terminal_place, joined_place, gate_place, join_cell, IsListOf}
+use Rattle.bb_implements.specs.Places.{CellName, NetBit, Step, Joined, Inverted, BoxPin, lowered_in, Lowering, IsLowering, terminal_place, joined_place, gate_place, join_cell, IsListOf}
 use Rattle.bb_lemmas.proofs.Numbered.{enumerated_from, from_numbered}
 use Rattle.bb_lemmas.proofs.Members.{contains-map, contains_here, contains_cases, none_in_nil}
 use Rattle.bb_implements.proofs.ListedPlaces.{IsListed, Occurs, lowered_at, reads_there, listed_cell, pin_listed, step_occurs, joined_listed, inverted_listed, box_is}
@@ -32,13 +32,13 @@ use Rattle.bb_design.specs.Laws.Wired.{IsWired}
 
 module _ (d : Design) (lowering : Lowering) (l : LooseList) (list : IsListOf d lowering l) (lowered : IsLowering d lowering) (wired : IsWired d) where
   -- some steps of the list lead from a place to that of a bit
-  abbrev pub WalkTo : CellPlace → Bit → Type 0
+  abbrev pub WalkTo : CellName → Bit → Type 0
   WalkTo p b = (m : ℕ) × Reaches m l (list.number p) (list.number (NetBit b))
 
-  pub walk_on : (p q : CellPlace) (u : LooseCell) → IsListed d lowering l list p u → Contains (operands l.boxes u) (list.number q) → (b : Bit) → WalkTo q b → WalkTo p b
-  walk_on p q u has reads b walk = (suc walk.0, (list.number q, subst (λ x. Contains (operands l.boxes x) (list.number q)) (sym (listed_cell d lowering l list p u has)) reads, walk.1))
+  pub walk_on : (p q : CellName) (u : LooseCell) → IsListed d lowering l list p u → Contains (operand_places l.boxes u) (list.number q) → (b : Bit) → WalkTo q b → WalkTo p b
+  walk_on p q u has reads b walk = (suc walk.0, (list.number q, subst (λ x. Contains (operand_places l.boxes x) (list.number q)) (sym (listed_cell d lowering l list p u has)) reads, walk.1))
 
-  pub arrived : (p : CellPlace) (b : Bit) → p ≡ NetBit b → WalkTo p b
+  pub arrived : (p : CellName) (b : Bit) → p ≡ NetBit b → WalkTo p b
   arrived p b e = (0, ap list.number e)
 
   module _ (k : ℕ) (s : Scope) (c : Construct) (has : Contains (enumerate_from 0 (parts d)) (k, (s, c))) (n : ℕ) (fits : n < length (lowered_in (s, c))) where
@@ -110,7 +110,7 @@ module _ (d : Design) (lowering : Lowering) (l : LooseList) (list : IsListOf d l
         steps_walk k s (GateInstance gate outs ins) has n (omega (arith, y.1, y.2)) (get_or (lowering k n).bits 0 0) there b low
 
     -- from an operator of the gate to what it joins
-    two_walk : (x : ℕ) (p q : CellPlace) (t u : Term) (b : Bit) (joins : LooseCell) → operands l.boxes joins ≡ list.number p ∷ list.number q ∷ [] → IsListed d lowering l list (Joined k x) joins
+    two_walk : (x : ℕ) (p q : CellName) (t u : Term) (b : Bit) (joins : LooseCell) → operand_places l.boxes joins ≡ list.number p ∷ list.number q ∷ [] → IsListed d lowering l list (Joined k x) joins
         → (Contains (bits_below s.path t) b → WalkTo p b) → (Contains (bits_below s.path u) b → WalkTo q b) → Contains (bits_below s.path t ++ bits_below s.path u) b → WalkTo (Joined k x) b
     two_walk x p q t u b joins reads listed first second low = by (Contains-append_cases (bits_below s.path t) (bits_below s.path u) b low)
       where
@@ -118,7 +118,7 @@ module _ (d : Design) (lowering : Lowering) (l : LooseList) (list : IsListOf d l
         by (inl h) = walk_on (Joined k x) p joins listed (subst (λ r. Contains r (list.number p)) (sym reads) (0, omega arith, refl)) b (first h)
         by (inr h) = walk_on (Joined k x) q joins listed (subst (λ r. Contains r (list.number q)) (sym reads) (1, omega arith, refl)) b (second h)
 
-    join_walk : (g : Gate) (x : ℕ) (p q : CellPlace) (t u : Term) (b : Bit) → IsListed d lowering l list (Joined k x) (join_cell g (list.number p) (list.number q)) → (Contains (bits_below s.path t) b → WalkTo p b)
+    join_walk : (g : Gate) (x : ℕ) (p q : CellName) (t u : Term) (b : Bit) → IsListed d lowering l list (Joined k x) (join_cell g (list.number p) (list.number q)) → (Contains (bits_below s.path t) b → WalkTo p b)
         → (Contains (bits_below s.path u) b → WalkTo q b) → Contains (bits_below s.path (joins on_terms g t u)) b → WalkTo (Joined k x) b
     join_walk gates.And x p q t u b listed first second low = two_walk x p q t u b (cell.And (list.number p) (list.number q)) refl listed first second low
     join_walk gates.Nand x p q t u b listed first second low = two_walk x p q t u b (cell.And (list.number p) (list.number q)) refl listed first second low

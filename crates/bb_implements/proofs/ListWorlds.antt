@@ -19,7 +19,7 @@ use Rattle.bb_design.specs.Laws.DrivenWorlds.{Gives, IsGiven, IsDrivenWorld, Con
 use Rattle.bb_design.specs.GateFunctions.{on_terms, gate_gives}
 use Rattle.bb_design.specs.Laws.{BitsAreThere}
 use Rattle.bb_implements.specs.Laws.ListLaws.{vector_bits, given_by_contents, ListsGiveWorlds}
-use Rattle.bb_implements.specs.Places.{CellPlace, Constant, Input, BoxPin, lowered_in, Lowering, IsLowering, step_places, gate_place, given_at, given_by_box, given, IsListOf}
+use Rattle.bb_implements.specs.Places.{CellName, Constant, Input, BoxPin, lowered_in, Lowering, IsLowering, step_places, gate_place, given_at, given_by_box, driving_places, IsListOf}
 use Rattle.bb_design.specs.Refusals.{TwoDrivers, Cycle, AreDrivenOnce, IsAcyclic}
 use Rattle.bb_design.specs.Registers.{RegisterBit, registers, cut_bits}
 use Rattle.bb_design.specs.Texts.{path_text, bit_text}
@@ -37,7 +37,7 @@ use Rattle.bb_design.specs.Laws.DesignLaws.{DesignLaws}
 
 module _ (of_designs : DesignLaws) (d : Design) (lowering : Lowering) (l : LooseList) (list : IsListOf d lowering l) (lowered : IsLowering d lowering) (wired : IsWired d)
     (contents : Contents) (x : Vector) (bits : List Bool) (value : IsLooseValue l (vector_bits d x) (given_by_contents d contents) bits) where
-  abbrev v : CellPlace → Bool
+  abbrev v : CellName → Bool
   v = at d lowering l list lowered wired contents x bits value
 
   abbrev pub w : World
@@ -54,12 +54,12 @@ module _ (of_designs : DesignLaws) (d : Design) (lowering : Lowering) (l : Loose
   SourceGives (Box s pin) b bit = bit ≡ output_bit (contents (path_text s.path)) (bits_in w (input_bits s)) pin
 
   -- a place that gives a bit is that of a drive
-  abbrev Meets : Bit × CellPlace → Drive → Type 0
+  abbrev Meets : Bit × CellName → Drive → Type 0
   Meets y z = (z.bit ≡ y.0) × SourceGives z.source y.0 (v y.1)
 
   module _ (k : ℕ) (s : Scope) (c : Construct) (has : Contains (enumerate_from 0 (parts d)) (k, (s, c))) where
     -- bits side by side with places and with terms of the same bits
-    sides_meet : (path : List (List ℕ)) (all : List Bit) (places : List CellPlace) (terms : List Term) → map v places ≡ map (term_bit (w path)) terms → (y : Bit × CellPlace) → Contains (zip all places) y
+    sides_meet : (path : List (List ℕ)) (all : List Bit) (places : List CellName) (terms : List Term) → map v places ≡ map (term_bit (w path)) terms → (y : Bit × CellName) → Contains (zip all places) y
         → (z : Drive) × Contains (driven_by path all terms) z × Meets y z
     unfolding SourceGives
     sides_meet path all places terms same y here =
@@ -74,20 +74,20 @@ module _ (of_designs : DesignLaws) (d : Design) (lowering : Lowering) (l : Loose
     low_same m n e width there = low-map v m (step_places lowering k n) ∙ ap (low_bits m) (whole_same n e width there) ∙ sym (low-map (term_bit (w s.path)) m (made_in s e width).bits)
 
   -- what gives a bit of a construct is what drives it
-  given_meets : (k : ℕ) (s : Scope) (c : Construct) → Contains (enumerate_from 0 (parts d)) (k, (s, c)) → (y : Bit × CellPlace) → Contains (given_at lowering (k, (s, c))) y → (z : Drive) × Contains (drives_at (s, c)) z × Meets y z
+  given_meets : (k : ℕ) (s : Scope) (c : Construct) → Contains (enumerate_from 0 (parts d)) (k, (s, c)) → (y : Bit × CellName) → Contains (given_at lowering (k, (s, c))) y → (z : Drive) × Contains (drives_at (s, c)) z × Meets y z
   unfolding SourceGives
   given_meets k s (Assignment left right) has y here = sides_meet k s (Assignment left right) has s.path (written_bits s left) _ _
       (low_same k s (Assignment left right) has (length (written_bits s left)) 0 right (context_width s left right) (contains_here (0, (right, context_width s left right)) [])) y here
   given_meets k s (GateInstance gate outs ins) has y here =
       let place = gate_place lowering gate k (length ins) in
       let t = gate_gives on_terms gate (terminal_terms s ins) in
-      let b = from_map {B = Bit × CellPlace} (λ b. (b, place)) (flat_map (written_bits s) outs) y here in
+      let b = from_map {B = Bit × CellName} (λ b. (b, place)) (flat_map (written_bits s) outs) y here in
       let same : v place ≡ term_bit (w s.path) t = gate_value d lowering l list lowered wired contents x bits value k s gate outs ins has ∙ sym (of_designs.gates (w s.path) gate (terminal_terms s ins)) in
-      (driven (MadeOf s.path t) b.0, contains-map (driven (MadeOf s.path t)) (flat_map (written_bits s) outs) b.0 b.1, (ap (λ (u : Bit × CellPlace). u.0) b.2, ap (λ (u : Bit × CellPlace). v u.1) (sym b.2) ∙ same))
+      (driven (MadeOf s.path t) b.0, contains-map (driven (MadeOf s.path t)) (flat_map (written_bits s) outs) b.0 b.1, (ap (λ (u : Bit × CellName). u.0) b.2, ap (λ (u : Bit × CellName). v u.1) (sym b.2) ∙ same))
   given_meets k s (Register r) has y here = absurd (none_in_nil y here)
   given_meets k s (SupplyNet high n) has y here =
-      let b = from_map {B = Bit × CellPlace} (λ b. (b, Constant high)) (bits_named s n) y here in
-      (driven (MadeOf s.path (term.Const high)) b.0, contains-map (driven (MadeOf s.path (term.Const high))) (bits_named s n) b.0 b.1, (ap (λ (u : Bit × CellPlace). u.0) b.2, ap (λ (u : Bit × CellPlace). v u.1) (sym b.2) ∙ constant_value d lowering l list lowered wired contents x bits value high))
+      let b = from_map {B = Bit × CellName} (λ b. (b, Constant high)) (bits_named s n) y here in
+      (driven (MadeOf s.path (term.Const high)) b.0, contains-map (driven (MadeOf s.path (term.Const high))) (bits_named s n) b.0 b.1, (ap (λ (u : Bit × CellName). u.0) b.2, ap (λ (u : Bit × CellName). v u.1) (sym b.2) ∙ constant_value d lowering l list lowered wired contents x bits value high))
   given_meets k s (InputConnection i pin e) has y here = sides_meet k s (InputConnection i pin e) has s.path (pin_bits (path_to s.path i) pin) _ _
       (whole_same k s (InputConnection i pin e) has 0 e (width_of s e) (contains_here (0, (e, width_of s e)) [])) y here
   given_meets k s (OutputConnection i pin e) has y here = sides_meet k s (OutputConnection i pin e) has (path_to s.path i) (written_bits s e) _ _ (pins_same d lowering l list lowered wired contents x bits value (path_to s.path i) pin) y here
@@ -123,39 +123,39 @@ module _ (of_designs : DesignLaws) (d : Design) (lowering : Lowering) (l : Loose
         states [] sub = refl
         states (r ∷ all) sub = ap₂ ◌∷◌ (sym (state_value r (sub r (contains_here r all)))) (states all (λ c has. sub c (contains_there r all c has)))
 
-    abbrev inputs : List (Bit × CellPlace)
+    abbrev inputs : List (Bit × CellName)
     inputs = map (λ x. (x.1, Input x.0)) (enumerate_from 0 (cut_bits d))
 
-    abbrev pins : List (Bit × CellPlace)
+    abbrev pins : List (Bit × CellName)
     pins = flat_map given_by_box (enumerate_from 0 (boxes d))
 
-    abbrev others : List (Bit × CellPlace)
+    abbrev others : List (Bit × CellName)
     others = flat_map (given_at lowering) (enumerate_from 0 (parts d))
 
     -- what gives a bit of the list is what drives it in the design
-    meets : (y : Bit × CellPlace) → Contains (given d lowering) y → (z : Drive) × Contains (drives d) z × Meets y z
+    meets : (y : Bit × CellName) → Contains (driving_places d lowering) y → (z : Drive) × Contains (drives d) z × Meets y z
     unfolding SourceGives
     meets y has = by (Contains-append_cases (inputs ++ pins) others y has)
       where
         input : Contains inputs y → (z : Drive) × Contains (drives d) z × Meets y z
         input h =
-            let i = from_map {B = Bit × CellPlace} (λ x. (x.1, Input x.0)) (enumerate_from 0 (cut_bits d)) y h in
+            let i = from_map {B = Bit × CellName} (λ x. (x.1, Input x.0)) (enumerate_from 0 (cut_bits d)) y h in
             let j = enumerated_from 0 (cut_bits d) i.0.0 i.0.1 i.1 in
             let fits : i.0.0 < length (cut_bits d) = omega (arith, j.1, j.2) in
             let place : i.0.0 ≡ j.0 = omega (arith, j.1) in
             let same : v (Input i.0.0) ≡ cut_value i.0.1 = input_value d lowering l list lowered wired contents x bits value i.0.0 fits ∙ ap (λ all. get_or all i.0.0 false) cut_same
             ∙ get_or-map cut_value (cut_bits d) i.0.0 i.0.1 false fits ∙ ap (λ k. cut_value (get_or (cut_bits d) k i.0.1)) place ∙ ap cut_value (j.3 i.0.1) in
-            (driven Free i.0.1, cut_driven of_designs d i.0.1 (from_numbered 0 (cut_bits d) i.0 i.1), (ap (λ (u : Bit × CellPlace). u.0) i.2, subst (λ (u : Bit × CellPlace). v u.1 ≡ cut_value u.0) i.2 same))
+            (driven Free i.0.1, cut_driven of_designs d i.0.1 (from_numbered 0 (cut_bits d) i.0 i.1), (ap (λ (u : Bit × CellName). u.0) i.2, subst (λ (u : Bit × CellName). v u.1 ≡ cut_value u.0) i.2 same))
 
         pin : Contains pins y → (z : Drive) × Contains (drives d) z × Meets y z
         pin h =
             let b = from_flat given_by_box (enumerate_from 0 (boxes d)) y h in
             let s = b.0.1 in
-            let p = from_map {B = Bit × CellPlace} (λ (x : ℕ × Bit). (x.1, BoxPin b.0.0 x.0)) (enumerate_from 0 (output_bits s)) y b.2 in
+            let p = from_map {B = Bit × CellName} (λ (x : ℕ × Bit). (x.1, BoxPin b.0.0 x.0)) (enumerate_from 0 (output_bits s)) y b.2 in
             let same = pin_value d lowering l list lowered wired contents x bits value b.0.0 s b.1 p.0.0 p.0.1 p.1 in (
               driven (Box s p.0.0) p.0.1,
               part_driven of_designs d (s, BoxContents) (box_part of_designs d s (from_numbered 0 (boxes d) b.0 b.1)) (driven (Box s p.0.0) p.0.1) (contains-map (λ (x : ℕ × Bit). driven (Box s x.0) x.1) (enumerate_from 0 (output_bits s)) p.0 p.1),
-              (ap (λ (u : Bit × CellPlace). u.0) p.2, ap (λ (u : Bit × CellPlace). v u.1) (sym p.2) ∙ same),
+              (ap (λ (u : Bit × CellName). u.0) p.2, ap (λ (u : Bit × CellName). v u.1) (sym p.2) ∙ same),
             )
 
         first : Contains inputs y ⊎ Contains pins y → (z : Drive) × Contains (drives d) z × Meets y z
@@ -173,12 +173,12 @@ module _ (of_designs : DesignLaws) (d : Design) (lowering : Lowering) (l : Loose
     gives : (z : Drive) → Contains (drives d) z → SourceGives z.source z.bit (bit_in w z.bit)
     gives z has =
         let y = found of_designs d lowering lowered wired there z has in
-        let f = find_there (λ (u : Bit × CellPlace). same_bit z.bit u.0) (given d lowering) y.0 y.1 (subst (λ b. same_bit z.bit b ≡ true) (sym y.2) (((of_designs.distinguished z.bit z.bit).1 refl))) in
+        let f = find_there (λ (u : Bit × CellName). same_bit z.bit u.0) (driving_places d lowering) y.0 y.1 (subst (λ b. same_bit z.bit b ≡ true) (sym y.2) (((of_designs.distinguished z.bit z.bit).1 refl))) in
         let bit : z.bit ≡ f.0.0 = (of_designs.distinguished z.bit f.0.0).0 f.2 in
         let m = meets f.0 f.3 in
         let same : m.0 ≡ z = one_by (λ (u : Drive). u.bit) (drives d) once m.0 z m.1 has (m.2.0 ∙ sym bit) in
         let inside : Contains (net_order d) z.bit = All-contains (Contains (net_order d)) (driven_bits d) z.bit there.driven (contains-map (λ (u : Drive). u.bit) (drives d) z has) in
-        let value_is : bit_in w z.bit ≡ v f.0.1 = net_value d lowering l list lowered wired contents x bits value z.bit inside ∙ ap (λ o. v (option_map_or (λ (u : Bit × CellPlace). u.1) o (Constant false))) f.1 in
+        let value_is : bit_in w z.bit ≡ v f.0.1 = net_value d lowering l list lowered wired contents x bits value z.bit inside ∙ ap (λ o. v (option_map_or (λ (u : Bit × CellName). u.1) o (Constant false))) f.1 in
         subst (SourceGives z.source z.bit) (sym value_is) (subst (λ b. SourceGives z.source b (v f.0.1)) (sym bit) (subst (λ (u : Drive). SourceGives u.source f.0.0 (v f.0.1)) same m.2.1))
 
     plain : (s : DrivingSource) (b : Bit) → SourceGives s b (bit_in w b) → Gives contents w s (bit_in w b)

@@ -13,7 +13,7 @@ use Rattle.bb_design.specs.Contexts.{width_of, context_width, value_in}
 use Rattle.bb_bits.specs.Bits.{low_bits}
 use Rattle.bb_design.specs.Constructs.{Construct, Assignment, GateInstance, Register, SupplyNet, InputConnection, OutputConnection, BoxContents, parts}
 use Rattle.bb_implements.specs.Laws.ListLaws.{vector_bits, given_by_contents}
-use Rattle.bb_implements.specs.Places.{CellPlace, Constant, Lowering, IsLowering, step_places, data_at, place_in, IsListOf}
+use Rattle.bb_implements.specs.Places.{CellName, Constant, Lowering, IsLowering, step_places, data_at, place_in, IsListOf}
 use Rattle.bb_design.specs.Registers.{RegisterBit, stored_at, stored, registers}
 use Rattle.bb_design.specs.Worlds.{World, Vector, next_bit}
 use Rattle.bb_lemmas.proofs.LowBits.{low-length}
@@ -26,14 +26,14 @@ use Rattle.bb_design.specs.Laws.DesignLaws.{DesignLaws}
 
 module _ (of_designs : DesignLaws) (values : ValuesHaveWidth) (cells : MadeHasValue) (d : Design) (lowering : Lowering) (l : LooseList) (list : IsListOf d lowering l) (lowered : IsLowering d lowering) (wired : IsWired d)
     (contents : Contents) (x : Vector) (bits : List Bool) (value : IsLooseValue l (vector_bits d x) (given_by_contents d contents) bits) where
-  abbrev v : CellPlace → Bool
+  abbrev v : CellName → Bool
   v = at d lowering l list lowered wired contents x bits value
 
   abbrev world : World
   world = w of_designs d lowering l list lowered wired contents x bits value
 
   -- the place has the next state of the register bit
-  Reports : RegisterBit → Bit × CellPlace → Type 0
+  Reports : RegisterBit → Bit × CellName → Type 0
   Reports r y = (r.bit ≡ y.0) × (v y.1 ≡ next_bit world r)
 
   abbrev stored_bit : Scope → PlainAlways → ℕ × Bit → RegisterBit
@@ -42,7 +42,7 @@ module _ (of_designs : DesignLaws) (values : ValuesHaveWidth) (cells : MadeHasVa
   abbrev states : Scope → PlainAlways → List Bool
   states s a = low_bits (length (written_bits s a.left)) (value_in (world s.path) s a.right (context_width s a.left a.right))
 
-  entries : (s : Scope) (a : PlainAlways) (n : ℕ) (left : List Bit) (places : List CellPlace) (all : List Bool) → map v places ≡ all → length left ≡ length all → ((j : ℕ) → get_or (states s a) (n + j) false ≡ get_or all j false)
+  entries : (s : Scope) (a : PlainAlways) (n : ℕ) (left : List Bit) (places : List CellName) (all : List Bool) → map v places ≡ all → length left ≡ length all → ((j : ℕ) → get_or (states s a) (n + j) false ≡ get_or all j false)
       → AllZip Reports (map (stored_bit s a) (enumerate_from n left)) (zip left places)
   unfolding Reports
   entries s a n [] places all same long each = tt
@@ -75,10 +75,10 @@ module _ (of_designs : DesignLaws) (values : ValuesHaveWidth) (cells : MadeHasVa
   all_entries a (p ∷ all) sub = zip_append Reports (stored_at p) (data_at lowering (a, p)) (flat_map stored_at all) (flat_map (data_at lowering) (enumerate_from (a + 1) all))
       (part_entries a p.0 p.1 (sub (a, p) (contains_here (a, p) (enumerate_from (a + 1) all)))) (all_entries (a + 1) all (λ z has. sub z (contains_there (a, p) (enumerate_from (a + 1) all) z has)))
 
-  abbrev Found : Bit → RegisterBit → Option (Bit × CellPlace) → Type 0
-  Found b r o = (y : Bit × CellPlace) × (o ≡ Some y) × Reports r y
+  abbrev Found : Bit → RegisterBit → Option (Bit × CellName) → Type 0
+  Found b r o = (y : Bit × CellName) × (o ≡ Some y) × Reports r y
 
-  found_beside : (b : Bit) (rs : List RegisterBit) (ys : List (Bit × CellPlace)) → AllZip Reports rs ys → (r : RegisterBit) → find (λ q. same_bit b q.bit) rs ≡ Some r → Found b r (find (λ y. same_bit b y.0) ys)
+  found_beside : (b : Bit) (rs : List RegisterBit) (ys : List (Bit × CellName)) → AllZip Reports rs ys → (r : RegisterBit) → find (λ q. same_bit b q.bit) rs ≡ Some r → Found b r (find (λ y. same_bit b y.0) ys)
   unfolding Reports
   found_beside b [] ys all r e = grind (arith, e)
   found_beside b (q ∷ rs) [] all r e = absurd all
@@ -93,7 +93,7 @@ module _ (of_designs : DesignLaws) (values : ValuesHaveWidth) (cells : MadeHasVa
           subst (λ t. Found b r (if t then Some y else find (λ y. same_bit b y.0) ys)) (sym on ∙ at_place) (y, refl, subst (λ u. Reports u y) same all.0)
       by false off h rest = subst (λ t. Found b r (if t then Some y else find (λ y. same_bit b y.0) ys)) (sym off ∙ at_place) (rest h)
 
-  abbrev all_data : List (Bit × CellPlace)
+  abbrev all_data : List (Bit × CellName)
   all_data = flat_map (data_at lowering) (enumerate_from 0 (parts d))
 
   -- the place of a register's data has its next state
@@ -104,4 +104,4 @@ module _ (of_designs : DesignLaws) (values : ValuesHaveWidth) (cells : MadeHasVa
       let bit : b.0 ≡ r.bit = (of_designs.distinguished b.0 r.bit).0 (from_find (λ q. same_bit b.0 q.bit) (stored d) r b.2).1 in
       let here : find (λ q. same_bit r.bit q.bit) (stored d) ≡ Some r = subst (λ c. find (λ q. same_bit c q.bit) (stored d) ≡ Some r) bit b.2 in
       let y = found_beside r.bit (stored d) all_data (all_entries 0 (parts d) (λ z h. h)) r here in
-      ap (λ o. v (option_map_or (λ (u : Bit × CellPlace). u.1) o (Constant false))) y.1 ∙ y.2.1
+      ap (λ o. v (option_map_or (λ (u : Bit × CellName). u.1) o (Constant false))) y.1 ∙ y.2.1

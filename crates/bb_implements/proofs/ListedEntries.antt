@@ -14,7 +14,7 @@ use Rattle.bb_design.specs.Hierarchy.{Design, Scope, boxes}
 use Rattle.bb_design.specs.NetBits.{Bit, net_order, output_bits}
 use Rattle.bb_design.specs.Constructs.{Construct, Assignment, GateInstance, Register, SupplyNet, InputConnection, OutputConnection, BoxContents, parts}
 use Rattle.bb_design.specs.GateFunctions.{inverts}
-use Rattle.bb_implements.specs.Places.{CellPlace, Constant, Input, NetBit, Step, Joined, Inverted, BoxPin, lowered_in, Lowering, terminal_place, joined_place, step_cell, step_cells, join_cell, joining_places, inverting_place, gate_places, places_at, box_places, prefix_places, operator_places, places, given, place_in, IsListOf}
+use Rattle.bb_implements.specs.Places.{CellName, Constant, Input, NetBit, Step, Joined, Inverted, BoxPin, lowered_in, Lowering, terminal_place, joined_place, step_cell, step_cells, join_cell, joining_places, inverting_place, gate_places, places_at, box_places, prefix_places, operator_places, placed_cells, driving_places, place_in, IsListOf}
 use Rattle.bb_design.specs.Registers.{cut_bits}
 use Rattle.bb_lemmas.proofs.Members.{from_flat, from_map, from_filter, contains_cases, none_in_nil}
 use Rattle.bb_lemmas.proofs.Numbered.{enumerated_from}
@@ -22,7 +22,7 @@ use Rattle.bb_lemmas.proofs.Places.{some_same}
 use Rattle.bb_lemmas.proofs.Ranges.{from_range}
 
 abbrev pub Entry : Type 0
-Entry = CellPlace × LooseCell
+Entry = CellName × LooseCell
 
 module _ (d : Design) (lowering : Lowering) (l : LooseList) (list : IsListOf d lowering l) where
   abbrev pub Part : ℕ → Scope → Construct → Type 0
@@ -32,7 +32,7 @@ module _ (d : Design) (lowering : Lowering) (l : LooseList) (list : IsListOf d l
   pub record Cases (P : Entry → Type 0) : Type 0 where
     pub constants : (b : Bool) → P (Constant b, cell.Const b)
     pub inputs : (i : ℕ) → i < length (cut_bits d) → P (Input i, cell.Input i)
-    pub nets : (b : Bit) → Contains (net_order d) b → P (NetBit b, cell.Copy (list.number (place_in (given d lowering) b)))
+    pub nets : (b : Bit) → Contains (net_order d) b → P (NetBit b, cell.Copy (list.number (place_in (driving_places d lowering) b)))
     pub steps : (k : ℕ) (s : Scope) (c : Construct) → Part k s c → (x : ℕ) → x < length (lowered_in (s, c)) → (j : ℕ) → j < length (lowering k x).all
         → IfSome (step_cell (λ a. list.number (Step k x a)) (get_or (lowering k x).all j (steps.Const false))) (λ u. P (Step k x j, u))
     pub joins : (k : ℕ) (s : Scope) (gate : Gate) (outs ins : List Expression) → Part k s (GateInstance gate outs ins) → (x : ℕ) → x < length ins - 1
@@ -41,7 +41,7 @@ module _ (d : Design) (lowering : Lowering) (l : LooseList) (list : IsListOf d l
     pub pins : (b : ℕ) (s : Scope) → Contains (enumerate_from 0 (boxes d)) (b, s) → (p : ℕ) (y : Bit) → Contains (enumerate_from 0 (output_bits s)) (p, y) → P (BoxPin b p, cell.BoxOut b p)
 
   module _ (P : Entry → Type 0) (cases : Cases P) where
-    some_case : (p : CellPlace) (o : Option LooseCell) (x : Entry) → IfSome o (λ u. P (p, u)) → option_map {U = Entry} (λ u. (p, u)) o ≡ Some x → P x
+    some_case : (p : CellName) (o : Option LooseCell) (x : Entry) → IfSome o (λ u. P (p, u)) → option_map {U = Entry} (λ u. (p, u)) o ≡ Some x → P x
     some_case p None x holds e = cc e
     some_case p (Some u) x holds e = subst P (some_same (p, u) x e) holds
 
@@ -91,7 +91,7 @@ module _ (d : Design) (lowering : Lowering) (l : LooseList) (list : IsListOf d l
     inputs = map (λ i. (Input i, cell.Input i)) (range_with_len 0 (length (cut_bits d)))
 
     abbrev nets : List Entry
-    nets = map (λ b. (NetBit b, cell.Copy (list.number (place_in (given d lowering) b)))) (net_order d)
+    nets = map (λ b. (NetBit b, cell.Copy (list.number (place_in (driving_places d lowering) b)))) (net_order d)
 
     prefix_case : (x : Entry) → Contains (prefix_places d lowering list.number) x → P x
     prefix_case x has = by (Contains-append_cases (constants ++ inputs) nets x has)
@@ -114,7 +114,7 @@ module _ (d : Design) (lowering : Lowering) (l : LooseList) (list : IsListOf d l
         by : Contains (constants ++ inputs) x ⊎ Contains nets x → P x
         by (inl h) = first (Contains-append_cases constants inputs x h)
         by (inr h) =
-            let b = from_map {B = Entry} (λ b. (NetBit b, cell.Copy (list.number (place_in (given d lowering) b)))) (net_order d) x h in
+            let b = from_map {B = Entry} (λ b. (NetBit b, cell.Copy (list.number (place_in (driving_places d lowering) b)))) (net_order d) x h in
             subst P b.2 (cases.nets b.0 b.1)
 
     operator_case : (x : Entry) → Contains (operator_places d lowering list.number) x → P x
@@ -134,7 +134,7 @@ module _ (d : Design) (lowering : Lowering) (l : LooseList) (list : IsListOf d l
             let p = from_flat (places_at lowering list.number) (enumerate_from 0 (parts d)) x h in
             part p.0.0 p.0.1.0 p.0.1.1 p.1 (Contains-append_cases (flat_map (step_cells lowering list.number p.0.0) (range_with_len 0 (length (lowered_in p.0.1)))) (gate_places lowering list.number p.0.0 p.0.1.1) x p.2)
 
-    pub each_entry : (x : Entry) → Contains (places d lowering list.number) x → P x
+    pub each_entry : (x : Entry) → Contains (placed_cells d lowering list.number) x → P x
     each_entry x has = by (Contains-append_cases (prefix_places d lowering list.number) (operator_places d lowering list.number) x has)
       where
         by : Contains (prefix_places d lowering list.number) x ⊎ Contains (operator_places d lowering list.number) x → P x

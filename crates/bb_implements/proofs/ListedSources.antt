@@ -22,7 +22,7 @@ use Rattle.bb_bits.specs.Bits.{low_bits}
 use Rattle.bb_design.specs.Constructs.{Construct, Assignment, GateInstance, Register, SupplyNet, InputConnection, OutputConnection, BoxContents, constructs_at, parts}
 use Rattle.bb_design.specs.GateFunctions.{inverts}
 use Rattle.bb_design.specs.Registers.{cut_bits}
-use Rattle.bb_implements.specs.Places.{CellPlace, Constant, Input, NetBit, Step, Joined, Inverted, BoxPin, lowered_in, Lowering, IsLowering, step_places, terminal_place, joined_place, gate_place, given_at, given_by_box, given, data_at, place_in, IsListOf}
+use Rattle.bb_implements.specs.Places.{CellName, Constant, Input, NetBit, Step, Joined, Inverted, BoxPin, lowered_in, Lowering, IsLowering, step_places, terminal_place, joined_place, gate_place, given_at, given_by_box, driving_places, data_at, place_in, IsListOf}
 use Rattle.bb_lemmas.proofs.Members.{from_flat, from_map, from_drop, contains_here, none_in_nil, from_find, contains-map, into_flat}
 use Rattle.bb_lemmas.proofs.Numbered.{enumerated_from, numbered_at, from_numbered}
 use Rattle.bb_implements.proofs.ListedPlaces.{IsListed, Occurs, lowered_at, reads_there, listed_below, constant_listed, input_listed, net_listed, pin_listed, step_occurs, joined_listed, inverted_listed}
@@ -83,8 +83,8 @@ module _ (d : Design) (lowering : Lowering) (l : LooseList) (list : IsListOf d l
       by (steps.Mux i t e) reads occurs = own _ occurs.1
 
 -- what holds of all that is listed and of all steps holds of each place that gives a bit
-module _ (d : Design) (lowering : Lowering) (l : LooseList) (list : IsListOf d lowering l) (lowered : IsLowering d lowering) (wired : IsWired d) (P : CellPlace → Type 0)
-    (of_listed : (p : CellPlace) (u : LooseCell) → IsListed d lowering l list p u → P p)
+module _ (d : Design) (lowering : Lowering) (l : LooseList) (list : IsListOf d lowering l) (lowered : IsLowering d lowering) (wired : IsWired d) (P : CellName → Type 0)
+    (of_listed : (p : CellName) (u : LooseCell) → IsListed d lowering l list p u → P p)
     (of_step : (k : ℕ) (s : Scope) (c : Construct) → Contains (enumerate_from 0 (parts d)) (k, (s, c)) → (x : ℕ) → x < length (lowered_in (s, c)) → (j : ℕ) → j < length (lowering k x).all → P (Step k x j)) where
   module _ (k : ℕ) (s : Scope) (c : Construct) (has : Contains (enumerate_from 0 (parts d)) (k, (s, c))) where
     step_holds : (x : ℕ) (e : Expression) (w : ℕ) → Contains (enumerate_from 0 (lowered_in (s, c))) (x, (e, w)) → (j : ℕ) → Contains (lowering k x).bits j → P (Step k x j)
@@ -93,7 +93,7 @@ module _ (d : Design) (lowering : Lowering) (l : LooseList) (list : IsListOf d l
         let n = enumerated_from 0 (lowered_in (s, c)) x (e, w) at in
         of_step k s c has x (omega (arith, n.1, n.2)) j (All-contains (λ j. j < length (lowering k x).all) (lowering k x).bits j low.places bit)
 
-    steps_holds : (x : ℕ) (e : Expression) (w : ℕ) → Contains (enumerate_from 0 (lowered_in (s, c))) (x, (e, w)) → (p : CellPlace) → Contains (step_places lowering k x) p → P p
+    steps_holds : (x : ℕ) (e : Expression) (w : ℕ) → Contains (enumerate_from 0 (lowered_in (s, c))) (x, (e, w)) → (p : CellName) → Contains (step_places lowering k x) p → P p
     steps_holds x e w at p there = let j = from_map (Step k x) (lowering k x).bits p there in subst P j.2 (step_holds x e w at j.0 j.1)
 
   module _ (k : ℕ) (s : Scope) (gate : Gate) (outs ins : List Expression) (has : Contains (enumerate_from 0 (parts d)) (k, (s, GateInstance gate outs ins))) where
@@ -118,49 +118,49 @@ module _ (d : Design) (lowering : Lowering) (l : LooseList) (list : IsListOf d l
         by false e = joined_holds (length ins - 1) (omega (arith, shape.0))
 
   -- each second of two lists side by side
-  second_holds : (bits : List Bit) (all : List CellPlace) → ((p : CellPlace) → Contains all p → P p) → (y : Bit × CellPlace) → Contains (zip bits all) y → P y.1
+  second_holds : (bits : List Bit) (all : List CellName) → ((p : CellName) → Contains all p → P p) → (y : Bit × CellName) → Contains (zip bits all) y → P y.1
   second_holds bits all each y has = each y.1 (zip_parts bits all y has).1
 
-  low_holds : (n : ℕ) (all : List CellPlace) → ((p : CellPlace) → Contains all p → P p) → (p : CellPlace) → Contains (low_bits n all) p → P p
+  low_holds : (n : ℕ) (all : List CellName) → ((p : CellName) → Contains all p → P p) → (p : CellName) → Contains (low_bits n all) p → P p
   low_holds n all each p has = each p (from_drop (length all - n) all p has)
 
-  given_at_holds : (k : ℕ) (s : Scope) (c : Construct) → Contains (enumerate_from 0 (parts d)) (k, (s, c)) → (y : Bit × CellPlace) → Contains (given_at lowering (k, (s, c))) y → P y.1
+  given_at_holds : (k : ℕ) (s : Scope) (c : Construct) → Contains (enumerate_from 0 (parts d)) (k, (s, c)) → (y : Bit × CellName) → Contains (given_at lowering (k, (s, c))) y → P y.1
   given_at_holds k s (Assignment left right) has y at = second_holds (written_bits s left) _ (low_holds (length (written_bits s left)) (step_places lowering k 0)
       (steps_holds k s (Assignment left right) has 0 right (context_width s left right) (contains_here (0, (right, context_width s left right)) []))) y at
   given_at_holds k s (GateInstance gate outs ins) has y at =
-      let z = from_map {B = Bit × CellPlace} (λ b. (b, gate_place lowering gate k (length ins))) (flat_map (written_bits s) outs) y at in
-      subst (λ (u : Bit × CellPlace). P u.1) z.2 (gate_holds k s gate outs ins has)
+      let z = from_map {B = Bit × CellName} (λ b. (b, gate_place lowering gate k (length ins))) (flat_map (written_bits s) outs) y at in
+      subst (λ (u : Bit × CellName). P u.1) z.2 (gate_holds k s gate outs ins has)
   given_at_holds k s (Register r) has y at = absurd (none_in_nil y at)
-  given_at_holds k s (SupplyNet high n) has y at = let z = from_map {B = Bit × CellPlace} (λ b. (b, Constant high)) (bits_named s n) y at in subst (λ (u : Bit × CellPlace). P u.1) z.2 (of_listed (Constant high) _ (constant_listed d lowering l list high))
+  given_at_holds k s (SupplyNet high n) has y at = let z = from_map {B = Bit × CellName} (λ b. (b, Constant high)) (bits_named s n) y at in subst (λ (u : Bit × CellName). P u.1) z.2 (of_listed (Constant high) _ (constant_listed d lowering l list high))
   given_at_holds k s (InputConnection i pin e) has y at = second_holds (pin_bits (path_to s.path i) pin) (step_places lowering k 0)
       (steps_holds k s (InputConnection i pin e) has 0 e (width_of s e) (contains_here (0, (e, width_of s e)) [])) y at
   given_at_holds k s (OutputConnection i pin e) has y at = second_holds (written_bits s e) (map NetBit (pin_bits (path_to s.path i) pin))
       (λ p there. let b = from_map NetBit (pin_bits (path_to s.path i) pin) p there in subst P b.2 (of_listed (NetBit b.0) _ (net_listed d lowering l list b.0 (wired.pins s i pin e (from_numbered 0 (parts d) (k, (s, OutputConnection i pin e)) has) b.0 b.1)))) y at
   given_at_holds k s BoxContents has y at = absurd (none_in_nil y at)
 
-  abbrev inputs : List (Bit × CellPlace)
+  abbrev inputs : List (Bit × CellName)
   inputs = map (λ x. (x.1, Input x.0)) (enumerate_from 0 (cut_bits d))
 
-  abbrev pins : List (Bit × CellPlace)
+  abbrev pins : List (Bit × CellName)
   pins = flat_map given_by_box (enumerate_from 0 (boxes d))
 
-  abbrev driven : List (Bit × CellPlace)
+  abbrev driven : List (Bit × CellName)
   driven = flat_map (given_at lowering) (enumerate_from 0 (parts d))
 
-  pub given_holds : (y : Bit × CellPlace) → Contains (given d lowering) y → P y.1
+  pub given_holds : (y : Bit × CellName) → Contains (driving_places d lowering) y → P y.1
   given_holds y has = by (Contains-append_cases (inputs ++ pins) driven y has)
     where
       input : Contains inputs y → P y.1
       input h =
-          let z = from_map {B = Bit × CellPlace} (λ x. (x.1, Input x.0)) (enumerate_from 0 (cut_bits d)) y h in
+          let z = from_map {B = Bit × CellName} (λ x. (x.1, Input x.0)) (enumerate_from 0 (cut_bits d)) y h in
           let n = enumerated_from 0 (cut_bits d) z.0.0 z.0.1 z.1 in
-          subst (λ (u : Bit × CellPlace). P u.1) z.2 (of_listed (Input z.0.0) _ (input_listed d lowering l list z.0.0 (omega (arith, n.1, n.2))))
+          subst (λ (u : Bit × CellName). P u.1) z.2 (of_listed (Input z.0.0) _ (input_listed d lowering l list z.0.0 (omega (arith, n.1, n.2))))
 
       pin : Contains pins y → P y.1
       pin h =
           let b = from_flat given_by_box (enumerate_from 0 (boxes d)) y h in
-          let z = from_map {B = Bit × CellPlace} (λ (x : ℕ × Bit). (x.1, BoxPin b.0.0 x.0)) (enumerate_from 0 (output_bits b.0.1)) y b.2 in
-          subst (λ (u : Bit × CellPlace). P u.1) z.2 (of_listed (BoxPin b.0.0 z.0.0) _ (pin_listed d lowering l list b.0.0 b.0.1 b.1 z.0.0 z.0.1 z.1))
+          let z = from_map {B = Bit × CellName} (λ (x : ℕ × Bit). (x.1, BoxPin b.0.0 x.0)) (enumerate_from 0 (output_bits b.0.1)) y b.2 in
+          subst (λ (u : Bit × CellName). P u.1) z.2 (of_listed (BoxPin b.0.0 z.0.0) _ (pin_listed d lowering l list b.0.0 b.0.1 b.1 z.0.0 z.0.1 z.1))
 
       first : Contains inputs y ⊎ Contains pins y → P y.1
       first (inl h) = input h
@@ -170,7 +170,7 @@ module _ (d : Design) (lowering : Lowering) (l : LooseList) (list : IsListOf d l
       by (inl h) = first (Contains-append_cases inputs pins y h)
       by (inr h) = let p = from_flat (given_at lowering) (enumerate_from 0 (parts d)) y h in given_at_holds p.0.0 p.0.1.0 p.0.1.1 p.1 y p.2
 
-  data_at_holds : (k : ℕ) (s : Scope) (c : Construct) → Contains (enumerate_from 0 (parts d)) (k, (s, c)) → (y : Bit × CellPlace) → Contains (data_at lowering (k, (s, c))) y → P y.1
+  data_at_holds : (k : ℕ) (s : Scope) (c : Construct) → Contains (enumerate_from 0 (parts d)) (k, (s, c)) → (y : Bit × CellName) → Contains (data_at lowering (k, (s, c))) y → P y.1
   data_at_holds k s (Register r) has y at = second_holds (written_bits s r.left) _ (low_holds (length (written_bits s r.left)) (step_places lowering k 0)
       (steps_holds k s (Register r) has 0 r.right (context_width s r.left r.right) (contains_here (0, (r.right, context_width s r.left r.right)) []))) y at
   data_at_holds k s (Assignment left right) has y at = absurd (none_in_nil y at)
@@ -180,20 +180,20 @@ module _ (d : Design) (lowering : Lowering) (l : LooseList) (list : IsListOf d l
   data_at_holds k s (OutputConnection i pin e) has y at = absurd (none_in_nil y at)
   data_at_holds k s BoxContents has y at = absurd (none_in_nil y at)
 
-  pub data_holds : (y : Bit × CellPlace) → Contains (flat_map (data_at lowering) (enumerate_from 0 (parts d))) y → P y.1
+  pub data_holds : (y : Bit × CellName) → Contains (flat_map (data_at lowering) (enumerate_from 0 (parts d))) y → P y.1
   data_holds y has = let p = from_flat (data_at lowering) (enumerate_from 0 (parts d)) y has in data_at_holds p.0.0 p.0.1.0 p.0.1.1 p.1 y p.2
 
   -- the place of a bit in such a list
-  pub found_holds : (all : List (Bit × CellPlace)) → ((y : Bit × CellPlace) → Contains all y → P y.1) → (b : Bit) → P (place_in all b)
-  found_holds all each b = by (find (λ (x : Bit × CellPlace). same_bit b x.0) all) refl
+  pub found_holds : (all : List (Bit × CellName)) → ((y : Bit × CellName) → Contains all y → P y.1) → (b : Bit) → P (place_in all b)
+  found_holds all each b = by (find (λ (x : Bit × CellName). same_bit b x.0) all) refl
     where
-      by : (o : Option (Bit × CellPlace)) → find (λ (x : Bit × CellPlace). same_bit b x.0) all ≡ o → P (option_map_or (λ x. x.1) o (Constant false))
+      by : (o : Option (Bit × CellName)) → find (λ (x : Bit × CellName). same_bit b x.0) all ≡ o → P (option_map_or (λ x. x.1) o (Constant false))
       by None e = of_listed (Constant false) _ (constant_listed d lowering l list false)
-      by (Some y) e = each y (from_find (λ (x : Bit × CellPlace). same_bit b x.0) all y e).0
+      by (Some y) e = each y (from_find (λ (x : Bit × CellName). same_bit b x.0) all y e).0
 
 module _ (d : Design) (lowering : Lowering) (l : LooseList) (list : IsListOf d lowering l) (lowered : IsLowering d lowering) (wired : IsWired d) where
   -- the place is one of the list
-  abbrev pub IsIn : CellPlace → Type 0
+  abbrev pub IsIn : CellName → Type 0
   IsIn p = list.number p < length l.cells
 
   pub net_in : (b : Bit) → Contains (net_order d) b → IsIn (NetBit b)
@@ -205,7 +205,7 @@ module _ (d : Design) (lowering : Lowering) (l : LooseList) (list : IsListOf d l
       (λ b known same. subst (λ n. n < length l.cells) (sym same) (net_in b known))
       (λ u listed. listed_below d lowering l list (Step k x j) u listed)
 
-  listed_in : (p : CellPlace) (u : LooseCell) → IsListed d lowering l list p u → IsIn p
+  listed_in : (p : CellName) (u : LooseCell) → IsListed d lowering l list p u → IsIn p
   listed_in p u has = listed_below d lowering l list p u has
 
   -- so are those that give bits
@@ -216,8 +216,8 @@ module _ (d : Design) (lowering : Lowering) (l : LooseList) (list : IsListOf d l
     pub joined_in : (x : ℕ) → x < length ins → IsIn (joined_place lowering k x)
     joined_in = joined_holds d lowering l list lowered wired IsIn listed_in step_in k s gate outs ins has
 
-  pub given_in : (b : Bit) → IsIn (place_in (given d lowering) b)
-  given_in = found_holds d lowering l list lowered wired IsIn listed_in step_in (given d lowering) (given_holds d lowering l list lowered wired IsIn listed_in step_in)
+  pub given_in : (b : Bit) → IsIn (place_in (driving_places d lowering) b)
+  given_in = found_holds d lowering l list lowered wired IsIn listed_in step_in (driving_places d lowering) (given_holds d lowering l list lowered wired IsIn listed_in step_in)
 
   pub data_in : (b : Bit) → IsIn (place_in (flat_map (data_at lowering) (enumerate_from 0 (parts d))) b)
   data_in = found_holds d lowering l list lowered wired IsIn listed_in step_in (flat_map (data_at lowering) (enumerate_from 0 (parts d))) (data_holds d lowering l list lowered wired IsIn listed_in step_in)

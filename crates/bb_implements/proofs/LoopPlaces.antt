@@ -12,12 +12,12 @@ use Rattle.bb_expr.specs.declared.step.BitStep.TheVariants as steps
 use Rattle.bb_expr.specs.Lowered.{ReadsEarlier}
 use Rattle.bb_net.specs.declared.loose.LooseCell.{LooseCell}
 use Rattle.bb_net.specs.declared.loose.LooseCell.TheVariants as cell
-use Rattle.bb_net.specs.Loose.{LooseList, operands, Reaches, IsOnClosedWalk}
+use Rattle.bb_net.specs.Loose.{LooseList, operand_places, Reaches, IsOnClosedWalk}
 use Rattle.bb_net.specs.Netlists.{Pins}
 use Rattle.bb_design.specs.Hierarchy.{Design, Scope, boxes, scopes, is_box}
 use Rattle.bb_design.specs.NetBits.{Bit, net_order, input_bits, scope_bits}
 use Rattle.bb_design.specs.Constructs.{Construct, GateInstance, parts}
-use Rattle.bb_implements.specs.Places.{CellPlace, Constant, Input, NetBit, Step, Joined, Inverted, BoxPin, lowered_in, Lowering, IsLowering, terminal_place, joined_place, step_cell, join_cell, IsListOf}
+use Rattle.bb_implements.specs.Places.{CellName, Constant, Input, NetBit, Step, Joined, Inverted, BoxPin, lowered_in, Lowering, IsLowering, terminal_place, joined_place, step_cell, join_cell, IsListOf}
 use Rattle.bb_lemmas.proofs.Members.{from_map, contains_cases, none_in_nil, kept_from, into_flat}
 use Rattle.bb_implements.proofs.ListedEntries.{Entry, Part, Cases, each_entry}
 use Rattle.bb_lemmas.proofs.Numbered.{enumerated_from, from_numbered}
@@ -29,7 +29,7 @@ use Rattle.bb_design.specs.Laws.DesignLaws.{DesignLaws}
 
 -- places that are no bit's, by their kinds: an operator of a gate is higher than the steps of its inputs, and a pin of a box, which
 -- only bits read, is the highest
-abbrev class : CellPlace → ℕ
+abbrev class : CellName → ℕ
 class (NetBit b) = 0
 class (Constant b) = 0
 class (Input i) = 0
@@ -39,7 +39,7 @@ class (Inverted k) = 3
 class (BoxPin b p) = 4
 
 -- and among places of one kind
-abbrev index : CellPlace → ℕ
+abbrev index : CellName → ℕ
 index (NetBit b) = 0
 index (Constant b) = 0
 index (Input i) = 0
@@ -48,17 +48,17 @@ index (Joined k x) = x
 index (Inverted k) = 0
 index (BoxPin b p) = 0
 
-abbrev pub Lower : CellPlace → CellPlace → Type 0
+abbrev pub Lower : CellName → CellName → Type 0
 Lower q p = (class q < class p) ⊎ ((class q ≡ class p) × (index q < index p))
 
-lower_on : (r q p : CellPlace) → Lower r q → Lower q p → Lower r p
+lower_on : (r q p : CellName) → Lower r q → Lower q p → Lower r p
 lower_on r q p (inl a) (inl b) = inl (omega (arith, a, b))
 lower_on r q p (inl a) (inr b) = inl (omega (arith, a, b.0))
 lower_on r q p (inr a) (inl b) = inl (omega (arith, a.0, b))
 lower_on r q p (inr a) (inr b) = inr (a.0 ∙ b.0, omega (arith, a.1, b.1))
 
 -- nothing that is no bit's leads to a pin of a box
-pub pin_not_lower : (b p : ℕ) (q : CellPlace) → Lower (BoxPin b p) q → ⊥
+pub pin_not_lower : (b p : ℕ) (q : CellName) → Lower (BoxPin b p) q → ⊥
 pin_not_lower b p (NetBit c) (inl h) = omega (arith, h)
 pin_not_lower b p (NetBit c) (inr h) = omega (arith, h.0)
 pin_not_lower b p (Constant c) (inl h) = omega (arith, h)
@@ -74,45 +74,45 @@ pin_not_lower b p (Inverted k) (inr h) = omega (arith, h.0)
 pin_not_lower b p (BoxPin c q) (inl h) = omega (arith, h)
 pin_not_lower b p (BoxPin c q) (inr h) = omega (arith, h.1)
 
-not_lower : (p : CellPlace) → Lower p p → ⊥
+not_lower : (p : CellName) → Lower p p → ⊥
 not_lower p (inl a) = omega (arith, a)
 not_lower p (inr a) = omega (arith, a.1)
 
 module _ (of_designs : DesignLaws) (d : Design) (lowering : Lowering) (l : LooseList) (list : IsListOf d lowering l) (lowered : IsLowering d lowering) (wired : IsWired d) where
-  abbrev IsNet : CellPlace → Type 0
+  abbrev IsNet : CellName → Type 0
   IsNet p = (b : Bit) × Contains (net_order d) b × (p ≡ NetBit b)
 
-  abbrev Listed : CellPlace → Type 0
+  abbrev Listed : CellName → Type 0
   Listed p = (u : LooseCell) × IsListed d lowering l list p u
 
   -- a place by number: that of a bit, or one that is lower
-  abbrev Down : CellPlace → ℕ → Type 0
-  Down p k = (q : CellPlace) × Listed q × (list.number q ≡ k) × (IsNet q ⊎ Lower q p)
+  abbrev Down : CellName → ℕ → Type 0
+  Down p k = (q : CellName) × Listed q × (list.number q ≡ k) × (IsNet q ⊎ Lower q p)
 
   abbrev Falls : Entry → Type 0
-  Falls x = IsNet x.0 ⊎ ((k : ℕ) → Contains (operands l.boxes x.1) k → Down x.0 k)
+  Falls x = IsNet x.0 ⊎ ((k : ℕ) → Contains (operand_places l.boxes x.1) k → Down x.0 k)
 
-  abbrev Each : CellPlace → List ℕ → Type 0
+  abbrev Each : CellName → List ℕ → Type 0
   Each p ks = (k : ℕ) → Contains ks k → Down p k
 
-  none : (p : CellPlace) → Each p []
+  none : (p : CellName) → Each p []
   none p k has = absurd (none_in_nil k has)
 
-  and : (p : CellPlace) (a : ℕ) (ks : List ℕ) → Down p a → Each p ks → Each p (a ∷ ks)
+  and : (p : CellName) (a : ℕ) (ks : List ℕ) → Down p a → Each p ks → Each p (a ∷ ks)
   and p a ks here rest k has = by (contains_cases a ks k has)
     where
       by : (a ≡ k) ⊎ Contains ks k → Down p k
       by (inl e) = subst (Down p) e here
       by (inr h) = rest k h
 
-  to_lower : (p q : CellPlace) → Listed q → Lower q p → Down p (list.number q)
+  to_lower : (p q : CellName) → Listed q → Lower q p → Down p (list.number q)
   to_lower p q listed low = (q, listed, refl, inr low)
 
-  to_net : (p : CellPlace) (b : Bit) → Contains (net_order d) b → Down p (list.number (NetBit b))
+  to_net : (p : CellName) (b : Bit) → Contains (net_order d) b → Down p (list.number (NetBit b))
   to_net p b has = (NetBit b, (_, net_listed d lowering l list b has), refl, inl (b, has, refl))
 
   -- a step, or what is where it does
-  step_down : (p : CellPlace) (k : ℕ) (s : Scope) (c : Construct) → Part d lowering l list k s c → (x : ℕ) → x < length (lowered_in (s, c)) → (j : ℕ) → j < length (lowering k x).all → Lower (Step k x j) p → Down p (list.number (Step k x j))
+  step_down : (p : CellName) (k : ℕ) (s : Scope) (c : Construct) → Part d lowering l list k s c → (x : ℕ) → x < length (lowered_in (s, c)) → (j : ℕ) → j < length (lowering k x).all → Lower (Step k x j) p → Down p (list.number (Step k x j))
   step_down p k s c has x fits j there low = step_source d lowering l list lowered k s c has x fits j there
       (λ b same. subst (Down p) (sym same) (to_lower p (Constant b) (_, constant_listed d lowering l list b) (lower_on (Constant b) (Step k x j) p (inl (omega arith)) low)))
       (λ b known same. subst (Down p) (sym same) (to_net p b known))
@@ -134,7 +134,7 @@ module _ (of_designs : DesignLaws) (d : Design) (lowering : Lowering) (l : Loose
         (and (Step k x j) _ (list.number (Step k x e) ∷ []) (earlier t reads.1) (and (Step k x j) _ [] (earlier e reads.2) (none (Step k x j)))))
 
   module _ (k : ℕ) (s : Scope) (gate : Gate) (outs ins : List Expression) (has : Part d lowering l list k s (GateInstance gate outs ins)) where
-    terminal_down : (p : CellPlace) → 1 < class p → (x : ℕ) → x < length ins → Down p (list.number (terminal_place lowering k x))
+    terminal_down : (p : CellName) → 1 < class p → (x : ℕ) → x < length ins → Down p (list.number (terminal_place lowering k x))
     terminal_down p high x fits =
         let e = terminal_there s ins x fits (wired.gates s gate outs ins (from_numbered 0 (parts d) (k, (s, GateInstance gate outs ins)) has)).1 in
         let low = lowered_at d lowering lowered k s (GateInstance gate outs ins) has x e.0 1 e.1 in
@@ -151,7 +151,7 @@ module _ (of_designs : DesignLaws) (d : Design) (lowering : Lowering) (l : Loose
     inverse_down zero fits = terminal_down (Inverted k) (omega arith) 0 fits
     inverse_down (suc x) fits = to_lower (Inverted k) (Joined k (suc x)) (_, joined_listed d lowering l list k s gate outs ins has x (omega (arith, fits))) (inl (omega arith))
 
-  join_falls : (p : CellPlace) (a b : ℕ) → Down p a → Down p b → (g : Gate) → Each p (operands l.boxes (join_cell g a b))
+  join_falls : (p : CellName) (a b : ℕ) → Down p a → Down p b → (g : Gate) → Each p (operand_places l.boxes (join_cell g a b))
   join_falls p a b u v gates.And = and p a (b ∷ []) u (and p b [] v (none p))
   join_falls p a b u v gates.Nand = and p a (b ∷ []) u (and p b [] v (none p))
   join_falls p a b u v gates.Or = and p a (b ∷ []) u (and p b [] v (none p))
@@ -161,7 +161,7 @@ module _ (of_designs : DesignLaws) (d : Design) (lowering : Lowering) (l : Loose
   join_falls p a b u v gates.Buf = and p a [] u (none p)
   join_falls p a b u v gates.Not = and p a [] u (none p)
 
-  pins_fall : (b : ℕ) (s : Scope) → Contains (enumerate_from 0 (boxes d)) (b, s) → (p : ℕ) → Each (BoxPin b p) (operands l.boxes (cell.BoxOut b p))
+  pins_fall : (b : ℕ) (s : Scope) → Contains (enumerate_from 0 (boxes d)) (b, s) → (p : ℕ) → Each (BoxPin b p) (operand_places l.boxes (cell.BoxOut b p))
   pins_fall b s has p k at =
       let u = from_map (λ x. list.number (NetBit x)) (input_bits s) k (subst (λ (q : Pins). Contains q.ins k) (box_is d lowering l list b s has) at) in
       let scope = (kept_from is_box (scopes d) s (from_numbered 0 (boxes d) (b, s) has)).0 in
@@ -184,7 +184,7 @@ module _ (of_designs : DesignLaws) (d : Design) (lowering : Lowering) (l : Loose
   Passes n from to = (b : Bit) × (i : ℕ) × (j : ℕ) × (i + j ≡ n) × Contains (net_order d) b × Reaches i l from (list.number (NetBit b)) × Reaches j l (list.number (NetBit b)) to
 
   -- one that does not has no step or ends at a lower place
-  pub walk_falls : (n : ℕ) (p : CellPlace) (u : LooseCell) → IsListed d lowering l list p u → (q : CellPlace) (v : LooseCell) → IsListed d lowering l list q v → Reaches n l (list.number p) (list.number q)
+  pub walk_falls : (n : ℕ) (p : CellName) (u : LooseCell) → IsListed d lowering l list p u → (q : CellName) (v : LooseCell) → IsListed d lowering l list q v → Reaches n l (list.number p) (list.number q)
       → Passes n (list.number p) (list.number q) ⊎ (((n ≡ 0) × (p ≡ q)) ⊎ Lower q p)
   walk_falls zero p u at q v end walk = inr (inl (refl, one_place_listed d lowering l list p q u v at end walk))
   walk_falls (suc n) p u at q v end walk = by (each_entry d lowering l list Falls fall_cases (p, u) at) (λ r w listed rest. walk_falls n r w listed q v end rest)
@@ -193,9 +193,9 @@ module _ (of_designs : DesignLaws) (d : Design) (lowering : Lowering) (l : Loose
       goal = Passes (suc n) (list.number p) (list.number q) ⊎ (((suc n ≡ 0) × (p ≡ q)) ⊎ Lower q p)
 
       Rest : Type 0
-      Rest = (r : CellPlace) (w : LooseCell) → IsListed d lowering l list r w → Reaches n l (list.number r) (list.number q) → Passes n (list.number r) (list.number q) ⊎ (((n ≡ 0) × (r ≡ q)) ⊎ Lower q r)
+      Rest = (r : CellName) (w : LooseCell) → IsListed d lowering l list r w → Reaches n l (list.number r) (list.number q) → Passes n (list.number r) (list.number q) ⊎ (((n ≡ 0) × (r ≡ q)) ⊎ Lower q r)
 
-      more : (r : CellPlace) → Lower r p → list.number r ≡ walk.0 → Passes n (list.number r) (list.number q) ⊎ (((n ≡ 0) × (r ≡ q)) ⊎ Lower q r) → goal
+      more : (r : CellName) → Lower r p → list.number r ≡ walk.0 → Passes n (list.number r) (list.number q) ⊎ (((n ≡ 0) × (r ≡ q)) ⊎ Lower q r) → goal
       more r low same (inl (b, i, j, sum, has, there, on)) = inl (b, suc i, j, omega (arith, sum), has, (walk.0, walk.1, subst (λ k. Reaches i l k (list.number (NetBit b))) same there), on)
       more r low same (inr (inl h)) = inr (inr (subst (λ z. Lower z p) h.1 low))
       more r low same (inr (inr h)) = inr (inr (lower_on q r p h low))
@@ -206,7 +206,7 @@ module _ (of_designs : DesignLaws) (d : Design) (lowering : Lowering) (l : Loose
 
       by : Falls (p, u) → Rest → goal
       by (inl (b, has, is)) rest = inl (b, 0, suc n, omega arith, has, ap list.number is, subst (λ k. Reaches (suc n) l k (list.number q)) (ap list.number is) walk)
-      by (inr falls) rest = next rest (falls walk.0 (subst (λ x. Contains (operands l.boxes x) walk.0) (listed_cell d lowering l list p u at) walk.1))
+      by (inr falls) rest = next rest (falls walk.0 (subst (λ x. Contains (operand_places l.boxes x) walk.0) (listed_cell d lowering l list p u at) walk.1))
 
   pub walk_joined : (i j n a b c : ℕ) → i + j ≡ n → Reaches i l a b → Reaches j l b c → Reaches n l a c
   walk_joined zero j n a b c sum same walk = let is : j ≡ n = omega (arith, sum) in subst (λ m. Reaches m l a c) is (subst (λ k. Reaches j l k c) (sym same) walk)
@@ -219,7 +219,7 @@ module _ (of_designs : DesignLaws) (d : Design) (lowering : Lowering) (l : Loose
       let p = listed_at d lowering l list k fits in
       by p.0 (walk_falls (suc n) p.0 p.1 p.2 p.0 p.1 p.2 (subst (λ z. Reaches (suc n) l z z) (sym p.3) walk))
     where
-      by : (p : CellPlace) → Passes (suc n) (list.number p) (list.number p) ⊎ (((suc n ≡ 0) × (p ≡ p)) ⊎ Lower p p) → (b : Bit) × Contains (net_order d) b × IsOnClosedWalk l (list.number (NetBit b))
+      by : (p : CellName) → Passes (suc n) (list.number p) (list.number p) ⊎ (((suc n ≡ 0) × (p ≡ p)) ⊎ Lower p p) → (b : Bit) × Contains (net_order d) b × IsOnClosedWalk l (list.number (NetBit b))
       by p (inl (b, i, j, sum, has, there, back)) =
           (b, has, (listed_below d lowering l list (NetBit b) _ (net_listed d lowering l list b has), n, walk_joined j i (suc n) (list.number (NetBit b)) (list.number p) (list.number (NetBit b)) (omega (arith, sum)) back there))
       by p (inr (inl h)) = absurd (omega (arith, h.0))

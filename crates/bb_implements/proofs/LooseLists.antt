@@ -12,7 +12,7 @@ use Rattle.bb_expr.specs.declared.step.BitStep.TheVariants as steps
 use Rattle.bb_expr.specs.Lowered.{ReadsEarlier}
 use Rattle.bb_net.specs.declared.loose.LooseCell.{LooseCell}
 use Rattle.bb_net.specs.declared.loose.LooseCell.TheVariants as cell
-use Rattle.bb_net.specs.Loose.{LooseList, loose_at, operands, IsLoose}
+use Rattle.bb_net.specs.Loose.{LooseList, loose_at, operand_places, IsLoose}
 use Rattle.bb_net.specs.Netlists.{Pins, box_at, IsPinAt}
 use Rattle.bb_design.specs.Hierarchy.{Design, Scope, root, scopes, is_box, boxes}
 use Rattle.bb_design.specs.NetBits.{Bit, input_bits, output_bits, top_outputs, scope_bits}
@@ -153,7 +153,7 @@ module _ (of_designs : DesignLaws) (d : Design) (lowering : Lowering) (l : Loose
   two : (a b : ℕ) → a < length l.cells → b < length l.cells → All (λ k. k < length l.cells) (a ∷ b ∷ [])
   two a b p q = All-cons (λ k. k < length l.cells) a (b ∷ []) p (one b q)
 
-  operands_in : (n : ℕ) (c : LooseCell) → IsFine n c → All (λ k. k < length l.cells) (operands l.boxes c)
+  operands_in : (n : ℕ) (c : LooseCell) → IsFine n c → All (λ k. k < length l.cells) (operand_places l.boxes c)
   unfolding IsFine
   operands_in n (cell.Const b) fine = All-nil _
   operands_in n (cell.Input i) fine = All-nil _

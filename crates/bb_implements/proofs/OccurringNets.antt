@@ -18,7 +18,7 @@ use Rattle.bb_design.specs.Constructs.{parts}
 use Rattle.bb_design.specs.Laws.DrivenWorlds.{IsDrivenWorld, ConstructsHoldBitByBit}
 use Rattle.bb_implements.specs.Laws.ListLaws.{vector_bits, given_by_contents, given_by_paths, world_at, ImplementingNetsGiveOutputs, ImplementingNetsAreEquivalent}
 use Rattle.bb_design.specs.Inside.Allowed.{IsAllowed}
-use Rattle.bb_implements.specs.Places.{CellPlace, NetBit, data_at, data_places, place_in}
+use Rattle.bb_implements.specs.Places.{CellName, NetBit, data_at, data_places, place_in}
 use Rattle.bb_design.specs.Refusals.{TwoDrivers, NoDriver, Cycle}
 use Rattle.bb_design.specs.Registers.{RegisterBit, registers}
 use Rattle.bb_implements.specs.Implements.{box_number, box_texts, Implements}
@@ -34,7 +34,7 @@ module _ (of_designs : DesignLaws) (values : ValuesHaveWidth) (made : MadeHasVal
   abbrev l : LooseList
   l = occurs.cells
 
-  abbrev number : CellPlace → ℕ
+  abbrev number : CellName → ℕ
   number = occurs.listed.number
 
   abbrev to : ℕ → ℕ

@@ -24,7 +24,7 @@ use Rattle.bb_design.specs.Drivers.{Free, Drive, driven, drives, driven_bits, te
 use Rattle.bb_design.specs.GateFunctions.{on_terms, joins, joined, joined_after, joining_cells, gate_cells, inverts, gate_gives}
 use Rattle.bb_design.specs.Hierarchy.{Design, Scope, boxes}
 use Rattle.bb_design.specs.NetBits.{Bit, net_order, input_bits, top_outputs, written_bits}
-use Rattle.bb_implements.specs.Places.{CellPlace, NetBit, Step, Joined, Inverted, lowered_in, Lowering, IsLowering, terminal_place, joined_place, join_cell, pins_of, step_places, data_at, place_in, data_places, IsListOf}
+use Rattle.bb_implements.specs.Places.{CellName, NetBit, Step, Joined, Inverted, lowered_in, Lowering, IsLowering, terminal_place, joined_place, join_cell, pins_of, step_places, data_at, place_in, data_places, IsListOf}
 use Rattle.bb_design.specs.Reading.{bit_itself, cells_at, operand_terms, read_at, read_beside, read_directly}
 use Rattle.bb_design.specs.Registers.{RegisterBit, stored_at, registers, data_terms}
 use Rattle.bb_design.specs.Laws.{BitsAreThere}
@@ -77,7 +77,7 @@ module _ (of_designs : DesignLaws) (d : Design) (lowering : Lowering) (l : Loose
   Follows q b = FollowsAt l.cells q (list.number (NetBit b))
 
   -- a listed cell reads a place from which copies lead to the bit
-  pub from_cell : (p : CellPlace) (u : LooseCell) → IsListed d lowering l list p u → (q : ℕ) → Contains (read_by u) q → (b : Bit) → Follows q b → IsReadAt b
+  pub from_cell : (p : CellName) (u : LooseCell) → IsListed d lowering l list p u → (q : ℕ) → Contains (read_by u) q → (b : Bit) → Follows q b → IsReadAt b
   from_cell p u listed q reads b follows =
       let lt = listed_below d lowering l list p u listed in
       let at : get_or l.cells (list.number p) u ≡ u = get_or_default l.cells (list.number p) u (cell.Const false) lt ∙ listed_cell d lowering l list p u listed in

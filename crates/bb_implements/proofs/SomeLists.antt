@@ -19,7 +19,7 @@ use Rattle.bb_design.specs.Laws.DesignLaws.{DesignLaws}
 use Rattle.bb_design.specs.Hierarchy.{Design, Scope, boxes}
 use Rattle.bb_design.specs.NetBits.{top_outputs}
 use Rattle.bb_design.specs.Registers.{cut_bits}
-use Rattle.bb_implements.specs.Places.{CellPlace, NetBit, Lowering, Steps, lowered_in, IsLoweringOf, IsLowering, places, data_places, pins_of, IsListOf}
+use Rattle.bb_implements.specs.Places.{CellName, NetBit, Lowering, Steps, lowered_in, IsLoweringOf, IsLowering, placed_cells, data_places, pins_of, IsListOf}
 use Rattle.bb_implements.specs.Laws.ListLaws.{ListsExist}
 use Rattle.bb_lemmas.proofs.Chosen.{choose}
 use Rattle.bb_lemmas.proofs.Members.{all_from, from_map, contains_cases, none_in_nil}
@@ -80,20 +80,20 @@ module _ (of_designs : DesignLaws) (fit : OccurrencesAreFitIn) (exist : Lowering
       subst (λ j. IsLoweredAs part.1.0 x.1 (lowering part.0 j)) n (subst (λ j. IsLoweredAs part.1.0 x.1 (lowering j q.0)) k (all-lowered.1 p.0 part.1 [] p.2 q.0 x.1 none q.2))))
 
 -- where places are in a row, each cell is at its place
-occur : (of : CellPlace → ℕ) (all : List (CellPlace × LooseCell)) (l : LooseList) → AreInRow (λ (z : CellPlace × LooseCell). of z.0) 0 all → l.cells ≡ map (λ (z : CellPlace × LooseCell). z.1) all → All (λ (z : CellPlace × LooseCell). loose_at l (of z.0) ≡ z.1) all
+occur : (of : CellName → ℕ) (all : List (CellName × LooseCell)) (l : LooseList) → AreInRow (λ (z : CellName × LooseCell). of z.0) 0 all → l.cells ≡ map (λ (z : CellName × LooseCell). z.1) all → All (λ (z : CellName × LooseCell). loose_at l (of z.0) ≡ z.1) all
 occur of all l row cells k d lt =
-    ap (loose_at l) (number_at (λ (z : CellPlace × LooseCell). of z.0) all row k d lt) ∙ ap (λ c. get_or c k (cell.Const false)) cells ∙ get_or-map (λ (z : CellPlace × LooseCell). z.1) all k d (cell.Const false) lt
+    ap (loose_at l) (number_at (λ (z : CellName × LooseCell). of z.0) all row k d lt) ∙ ap (λ c. get_or c k (cell.Const false)) cells ∙ get_or-map (λ (z : CellName × LooseCell). z.1) all k d (cell.Const false) lt
 
 list_of : DesignLaws → (d : Design) → IsBounded d → (lowering : Lowering) → (l : LooseList) × IsListOf d lowering l
 list_of of_designs d bounded lowering =
     let numbers = number d lowering in
-    let all : List (CellPlace × LooseCell) = places d lowering numbers in
+    let all : List (CellName × LooseCell) = placed_cells d lowering numbers in
     let cells : List LooseCell = map (λ z. z.1) all in
     let rows = places_row d lowering of_designs.distinguished (of_designs.distinct d bounded.faultless bounded.top) in
     let l : LooseList = record { inputs = length (cut_bits d); cells = cells; boxes = map (pins_of numbers) (enumerate_from 0 (boxes d)); outs = map (λ b. numbers (NetBit b)) (top_outputs d) ++ map numbers (data_places d lowering) } in
     let long : length all ≡ length cells = sym (length-map all (λ z. z.1)) in
     let range : List ℕ = range_with_len 0 (length cells) in
-    let same : map (λ (z : CellPlace × LooseCell). numbers z.0) all ≡ range = rows.1.row ∙ ap (range_with_len 0) long in (
+    let same : map (λ (z : CellName × LooseCell). numbers z.0) all ≡ range = rows.1.row ∙ ap (range_with_len 0) long in (
       l,
       record {
         number = numbers;

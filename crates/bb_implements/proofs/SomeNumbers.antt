@@ -20,7 +20,7 @@ use Rattle.bb_design.specs.NetBits.{Bit, same_bit, net_order, output_bits}
 use Rattle.bb_design.specs.Constructs.{Construct, Assignment, GateInstance, Register, SupplyNet, InputConnection, OutputConnection, BoxContents, parts}
 use Rattle.bb_design.specs.GateFunctions.{inverts}
 use Rattle.bb_design.specs.Registers.{cut_bits}
-use Rattle.bb_implements.specs.Places.{CellPlace, Constant, Input, NetBit, Step, Joined, Inverted, BoxPin, Numbering, Lowering, lowered_in, step_cell, step_cells, joined_place, terminal_place, join_cell, gate_places, places_at, box_places, prefix_places, places, place_in, given, IsStepAt, AreSteps}
+use Rattle.bb_implements.specs.Places.{CellName, Constant, Input, NetBit, Step, Joined, Inverted, BoxPin, Numbering, Lowering, lowered_in, step_cell, step_cells, joined_place, terminal_place, join_cell, gate_places, places_at, box_places, prefix_places, placed_cells, place_in, driving_places, IsStepAt, AreSteps}
 use Rattle.bb_lemmas.proofs.Members.{all_from}
 use Rattle.bb_lemmas.proofs.Numbered.{length-enumerated, placed-at}
 use Rattle.bb_lemmas.proofs.Places.{got, some_same, there_at}
@@ -106,7 +106,7 @@ module _ (d : Design) (lowering : Lowering) where
   number (BoxPin b p) = box_start b + p
 
   abbrev Entry : Type 0
-  Entry = CellPlace × LooseCell
+  Entry = CellName × LooseCell
 
   abbrev pub entry_number : Entry → ℕ
   entry_number z = number z.0
@@ -117,13 +117,13 @@ module _ (d : Design) (lowering : Lowering) where
   prefix_row reported apart =
       let n : ℕ = length (cut_bits d) in
       let inputs : List Entry = map (λ i. (Input i, cell.Input i)) (range_with_len 0 n) in
-      let nets : List Entry = map (λ b. (NetBit b, cell.Copy (number (place_in (given d lowering) b)))) (net_order d) in
+      let nets : List Entry = map (λ b. (NetBit b, cell.Copy (number (place_in (driving_places d lowering) b)))) (net_order d) in
       let long : length inputs ≡ n = length-map {B = Entry} (range_with_len 0 n) (λ i. (Input i, cell.Input i)) ∙ length-range 0 n in
       let low : AreInRow entry_number 2 inputs = mapped_row entry_number (λ i. (Input i, cell.Input i)) (range_with_len 0 n) 2 (λ k x e. let r = range-got 0 n k x e in omega (arith, r)) in
       let first : AreInRow entry_number 0 ((Constant false, cell.Const false) ∷ (Constant true, cell.Const true) ∷ inputs)
       = next_row entry_number 0 (Constant false, cell.Const false) ((Constant true, cell.Const true) ∷ inputs) refl (next_row entry_number 1 (Constant true, cell.Const true) inputs refl low) in
       both_rows entry_number 0 ((Constant false, cell.Const false) ∷ (Constant true, cell.Const true) ∷ inputs) nets first
-      (mapped_row entry_number (λ b. (NetBit b, cell.Copy (number (place_in (given d lowering) b)))) (net_order d) _ (λ k b e. let at = index-at reported (net_order d) apart k b e in omega (arith, at, long)))
+      (mapped_row entry_number (λ b. (NetBit b, cell.Copy (number (place_in (driving_places d lowering) b)))) (net_order d) _ (λ k b e. let at = index-at reported (net_order d) apart k b e in omega (arith, at, long)))
 
   -- ---- pins of boxes
 
@@ -267,7 +267,7 @@ module _ (d : Design) (lowering : Lowering) where
 
   -- ---- all places, and the steps that are no operators
 
-  pub places_row : BitsAreDistinguished → IsDistinct (net_order d) → AreInRow entry_number 0 (prefix_places d lowering number) × AreInRow entry_number 0 (places d lowering number)
+  pub places_row : BitsAreDistinguished → IsDistinct (net_order d) → AreInRow entry_number 0 (prefix_places d lowering number) × AreInRow entry_number 0 (placed_cells d lowering number)
   places_row reported apart =
       let prefix = prefix_row reported apart in
       let boxed : List Entry = flat_map box_places (enumerate_from 0 (boxes d)) in

@@ -22,7 +22,7 @@ use Rattle.bb_net.specs.Loose.{LooseList}
 use Rattle.bb_design.specs.Hierarchy.{Design, Scope}
 use Rattle.bb_design.specs.Contexts.{made_in}
 use Rattle.bb_design.specs.Constructs.{Construct, parts}
-use Rattle.bb_implements.specs.Places.{CellPlace, Constant, NetBit, Step, lowered_in, Lowering, IsLowering, step_places, IsListOf}
+use Rattle.bb_implements.specs.Places.{CellName, Constant, NetBit, Step, lowered_in, Lowering, IsLowering, step_places, IsListOf}
 use Rattle.bb_lemmas.proofs.Numbered.{enumerated_from, numbered_at}
 use Rattle.bb_implements.proofs.ListedPlaces.{IsListed, Occurs, lowered_at, listed_cell, listed_below, constant_listed, step_occurs}
 
@@ -37,7 +37,7 @@ term_formula at (term.Xor a b) = formula.Xor (term_formula at a) (term_formula a
 term_formula at (term.Mux c t e) = formula.Mux (term_formula at c) (term_formula at t) (term_formula at e)
 
 -- those of the bits of a scope, where v gives those of places
-abbrev pub formulas_in : (CellPlace → Formula) → Scope → List ℕ → ℕ → Formula
+abbrev pub formulas_in : (CellName → Formula) → Scope → List ℕ → ℕ → Formula
 formulas_in v s n i = v (NetBit (record { path = s.path; net = n; place = i }))
 
 -- what a step is made of, by what the steps are made of that it reads
@@ -70,7 +70,7 @@ module _ (nets : List NetInfo) (all : List BitStep) (earlier : All (λ x. ReadsE
       ∙ step_same (term_within nets all j) (term_at nets all) j (λ a lt. steady j (a + 1) a lt (omega arith) (omega (arith, lt, fits))) (get_or all j (steps.Const false)) (reads_at j fits)
 
 -- the places of an expression have the formulas of its bits, where each step has that of what it is made of
-pub made_formulas : (v : CellPlace → Formula) (at : List ℕ → ℕ → Formula) (lowering : Lowering) (k n : ℕ) (nets : List NetInfo) (ranges : Ranges) (e : Expression) (w : ℕ) → IsLowered nets ranges e w (lowering k n).all (lowering k n).bits
+pub made_formulas : (v : CellName → Formula) (at : List ℕ → ℕ → Formula) (lowering : Lowering) (k n : ℕ) (nets : List NetInfo) (ranges : Ranges) (e : Expression) (w : ℕ) → IsLowered nets ranges e w (lowering k n).all (lowering k n).bits
     → ((j : ℕ) → j < length (lowering k n).all → v (Step k n j) ≡ term_formula at (term_at nets (lowering k n).all j)) → map v (step_places lowering k n) ≡ map (term_formula at) (made ranges e w).bits
 made_formulas v at lowering k n nets ranges e w low each = from (lowering k n).bits low.places ∙ ap (map (term_formula at)) low.terms
   where
@@ -80,10 +80,10 @@ made_formulas v at lowering k n nets ranges e w low each = from (lowering k n).b
 
 module _ (d : Design) (lowering : Lowering) (l : LooseList) (list : IsListOf d lowering l) (lowered : IsLowering d lowering) (numbers : List ℕ) (at : ℕ → Formula) (meets : AreLooseFormulas l numbers at) where
   -- the formula at a place
-  abbrev pub formula_of : CellPlace → Formula
+  abbrev pub formula_of : CellName → Formula
   formula_of p = at (list.number p)
 
-  pub equation : (p : CellPlace) (c : LooseCell) → IsListed d lowering l list p c → IsFormulaOf numbers at c (formula_of p)
+  pub equation : (p : CellName) (c : LooseCell) → IsListed d lowering l list p c → IsFormulaOf numbers at c (formula_of p)
   equation p c has = subst (λ u. IsFormulaOf numbers at u (formula_of p)) (listed_cell d lowering l list p c has) (meets (list.number p) (listed_below d lowering l list p c has))
 
   pub constant_formula : (b : Bool) → formula_of (Constant b) ≡ formula.Const b

@@ -14,7 +14,7 @@ use Rattle.bb_expr.specs.Terms.{Term}
 use Rattle.bb_expr.specs.Terms as term
 use Rattle.bb_net.specs.declared.loose.LooseCell.{LooseCell}
 use Rattle.bb_net.specs.declared.loose.LooseCell.TheVariants as cell
-use Rattle.bb_net.specs.Loose.{LooseList, operands, Reaches}
+use Rattle.bb_net.specs.Loose.{LooseList, operand_places, Reaches}
 use Rattle.bb_net.specs.Netlists.{Pins}
 use Rattle.bb_bits.specs.Closures.{Leads, One, More}
 use Rattle.bb_design.specs.Hierarchy.{Design, Scope, boxes, scopes, is_box, path_to}
@@ -26,7 +26,7 @@ use Rattle.bb_design.specs.Constructs.{Construct, Assignment, GateInstance, Regi
 use Rattle.bb_design.specs.Dependence.{bits_below, needed, dependences}
 use Rattle.bb_design.specs.Drivers.{MadeOf, Box, Drive, driven, driven_by, terminal_terms, drives_at, drives}
 use Rattle.bb_design.specs.GateFunctions.{on_terms, joins, joined, inverts, gate_gives}
-use Rattle.bb_implements.specs.Places.{CellPlace, Constant, Input, NetBit, Step, Joined, Inverted, BoxPin, lowered_in, Lowering, IsLowering, step_places, given_at, given_by_box, given, place_in, terminal_place, joined_place, gate_place, join_cell, IsListOf}
+use Rattle.bb_implements.specs.Places.{CellName, Constant, Input, NetBit, Step, Joined, Inverted, BoxPin, lowered_in, Lowering, IsLowering, step_places, given_at, given_by_box, driving_places, place_in, terminal_place, joined_place, gate_place, join_cell, IsListOf}
 use Rattle.bb_design.specs.Registers.{cut_bits}
 use Rattle.bb_implements.proofs.DependenceWalks.{loop_walk}
 use Rattle.bb_lemmas.proofs.Numbered.{enumerated_from, from_numbered}
@@ -42,7 +42,7 @@ use Rattle.bb_implements.proofs.GateTerms.{input_term, terminals_are}
 use Rattle.bb_design.specs.Laws.DesignLaws.{DesignLaws}
 
 -- whether a place is that of a bit, and the bit
-abbrev is_net : CellPlace → Bool
+abbrev is_net : CellName → Bool
 is_net (NetBit b) = true
 is_net (Constant b) = false
 is_net (Input i) = false
@@ -51,10 +51,10 @@ is_net (Joined k x) = false
 is_net (Inverted k) = false
 is_net (BoxPin b p) = false
 
-not_net : (p : CellPlace) (b : Bit) → is_net p ≡ false → p ≡ NetBit b → ⊥
+not_net : (p : CellName) (b : Bit) → is_net p ≡ false → p ≡ NetBit b → ⊥
 not_net p b off e = let on : is_net p ≡ true = ap is_net e in grind (arith, off, on)
 
-bit_at : CellPlace → Bit → Bit
+bit_at : CellName → Bit → Bit
 bit_at (NetBit b) c = b
 bit_at (Constant b) c = c
 bit_at (Input i) c = c
@@ -89,12 +89,12 @@ module _ (of_designs : DesignLaws) (d : Design) (lowering : Lowering) (l : Loose
   below_right xs ys h = (h.0, Contains-append_right xs ys h.0 h.1, h.2)
 
   -- a place that is no bit's is not the last
-  not_last : (p : CellPlace) (u : LooseCell) → IsListed d lowering l list p u → is_net p ≡ false → list.number p ≡ place e → ⊥
+  not_last : (p : CellName) (u : LooseCell) → IsListed d lowering l list p u → is_net p ≡ false → list.number p ≡ place e → ⊥
   not_last p u listed off same = not_net p e off (one_place_listed d lowering l list p (NetBit e) u _ listed (net_listed d lowering l list e there) same)
 
   -- the first step of a walk
-  first_step : (n : ℕ) (p : CellPlace) (u : LooseCell) → IsListed d lowering l list p u → Walk (suc n) (list.number p) → (k : ℕ) × Contains (operands l.boxes u) k × Walk n k
-  first_step n p u listed walk = (walk.0, subst (λ x. Contains (operands l.boxes x) walk.0) (listed_cell d lowering l list p u listed) walk.1, walk.2)
+  first_step : (n : ℕ) (p : CellName) (u : LooseCell) → IsListed d lowering l list p u → Walk (suc n) (list.number p) → (k : ℕ) × Contains (operand_places l.boxes u) k × Walk n k
+  first_step n p u listed walk = (walk.0, subst (λ x. Contains (operand_places l.boxes x) walk.0) (listed_cell d lowering l list p u listed) walk.1, walk.2)
 
   module _ (n : ℕ) {T : Type 0} where
     -- a step to one place, to one of two, to one of three
@@ -139,7 +139,7 @@ module _ (of_designs : DesignLaws) (d : Design) (lowering : Lowering) (l : Loose
       → Below (bits_below s.path (term_within (nets_of s.source) (lowering k x).all m j))
 
   -- a walk from a place that is listed and is no bit's has a first step
-  further : (n : ℕ) (p : CellPlace) (u : LooseCell) → IsListed d lowering l list p u → is_net p ≡ false → Walk n (list.number p) → (m : ℕ) × (n ≡ suc m) × (k : ℕ) × Contains (operands l.boxes u) k × Walk m k
+  further : (n : ℕ) (p : CellName) (u : LooseCell) → IsListed d lowering l list p u → is_net p ≡ false → Walk n (list.number p) → (m : ℕ) × (n ≡ suc m) × (k : ℕ) × Contains (operand_places l.boxes u) k × Walk m k
   further zero p u listed off walk = absurd (not_last p u listed off walk)
   further (suc n) p u listed off walk = let f = first_step n p u listed walk in (n, refl, f.0, f.1, f.2)
 
@@ -200,7 +200,7 @@ module _ (of_designs : DesignLaws) (d : Design) (lowering : Lowering) (l : Loose
         let at = All-contains (λ j. j < length (lowering k x).all) (lowering k x).bits j lower.places (Contains-get_or (lowering k x).bits 0 0 (omega (arith, lower.width))) in
         steps_n k s (GateInstance gate outs ins) has x (omega (arith, i.1, i.2)) j at (j + 1) (omega arith) walk
 
-    join_below : (n : ℕ) (g : Gate) (p q : ℕ) (t u : Term) → (Walk n p → Below (bits_below s.path t)) → (Walk n q → Below (bits_below s.path u)) → (to : ℕ) → Contains (operands l.boxes (join_cell g p q)) to → Walk n to
+    join_below : (n : ℕ) (g : Gate) (p q : ℕ) (t u : Term) → (Walk n p → Below (bits_below s.path t)) → (Walk n q → Below (bits_below s.path u)) → (to : ℕ) → Contains (operand_places l.boxes (join_cell g p q)) to → Walk n to
         → Below (bits_below s.path (joins on_terms g t u))
     join_below n gates.And p q t u f h = two_of n p q (λ w. below_left (bits_below s.path t) (bits_below s.path u) (f w)) (λ w. below_right (bits_below s.path t) (bits_below s.path u) (h w))
     join_below n gates.Nand p q t u f h = two_of n p q (λ w. below_left (bits_below s.path t) (bits_below s.path u) (f w)) (λ w. below_right (bits_below s.path t) (bits_below s.path u) (h w))
@@ -274,12 +274,12 @@ module _ (of_designs : DesignLaws) (d : Design) (lowering : Lowering) (l : Loose
     pub pins : BoxPins n
 
   -- a drive of the bit of an entry whose source needs a bit that the walk passes
-  abbrev Passes : List Drive → Bit × CellPlace → Type 0
+  abbrev Passes : List Drive → Bit × CellName → Type 0
   Passes all y = (z : Drive) × Contains all z × ((z.bit ≡ y.0) × Below (needed z.source))
 
   module _ (n : ℕ) (claims : Claims n) where
-    sides : (k : ℕ) (s : Scope) (c : Construct) → Part k s c → (x : ℕ) (f : Expression) (w : ℕ) → Contains (enumerate_from 0 (lowered_in (s, c))) (x, (f, w)) → (all : List Bit) (places : List CellPlace) (terms : List Term) → map (term_of lowering s) places ≡ terms
-        → ((p : CellPlace) → Contains places p → Contains (step_places lowering k x) p) → (y : Bit × CellPlace) → Contains (zip all places) y → Walk n (list.number y.1) → Passes (driven_by s.path all terms) y
+    sides : (k : ℕ) (s : Scope) (c : Construct) → Part k s c → (x : ℕ) (f : Expression) (w : ℕ) → Contains (enumerate_from 0 (lowered_in (s, c))) (x, (f, w)) → (all : List Bit) (places : List CellName) (terms : List Term) → map (term_of lowering s) places ≡ terms
+        → ((p : CellName) → Contains places p → Contains (step_places lowering k x) p) → (y : Bit × CellName) → Contains (zip all places) y → Walk n (list.number y.1) → Passes (driven_by s.path all terms) y
     sides k s c has x f w at all places terms same sub y here walk =
         let lower = lowered_at d lowering lowered k s c has x f w at in
         let i = enumerated_from 0 (lowered_in (s, c)) x (f, w) at in
@@ -288,7 +288,7 @@ module _ (of_designs : DesignLaws) (d : Design) (lowering : Lowering) (l : Loose
         let low = claims.steps k s c has x (omega (arith, i.1, i.2)) j.0 fits (j.0 + 1) (omega arith) (subst (λ p. Walk n (list.number p)) (sym j.2) walk) in
         (driven (MadeOf s.path (term_of lowering s y.1)) y.0, sides_meet of_designs d lowering lowered s s.path all places terms same y here, (refl, subst (λ p. Below (bits_below s.path (term_of lowering s p))) j.2 low))
 
-    pins_pass : (s : Scope) (path : List (List ℕ)) (pin : Pin) → ((b : Bit) → Contains (pin_bits path pin) b → Contains (net_order d) b) → (p : CellPlace) → Contains (map NetBit (pin_bits path pin)) p → Walk n (list.number p) → Below (bits_below path (term_of lowering s p))
+    pins_pass : (s : Scope) (path : List (List ℕ)) (pin : Pin) → ((b : Bit) → Contains (pin_bits path pin) b → Contains (net_order d) b) → (p : CellName) → Contains (map NetBit (pin_bits path pin)) p → Walk n (list.number p) → Below (bits_below path (term_of lowering s p))
     pins_pass s path pin inside p has walk =
         let q = from_map NetBit (pin_bits path pin) p has in
         let k = from_map (λ k. record { path = path; net = pin.name; place = k }) (range_with_len 0 pin.width) q.0 q.1 in
@@ -296,52 +296,52 @@ module _ (of_designs : DesignLaws) (d : Design) (lowering : Lowering) (l : Loose
         let bit : Bit = record { path = path; net = pin.name; place = k.0 } in
         subst (λ p. Below (bits_below path (term_of lowering s p))) q.2 (subst (λ (u : Bit). Below (bits_below path (term.Net u.net u.place))) k.2 (bit, contains_here bit [], subst Tail (sym k.2) tail))
 
-    part_passes : (k : ℕ) (s : Scope) (c : Construct) → Part k s c → (y : Bit × CellPlace) → Contains (given_at lowering (k, (s, c))) y → Walk n (list.number y.1) → Passes (drives_at (s, c)) y
+    part_passes : (k : ℕ) (s : Scope) (c : Construct) → Part k s c → (y : Bit × CellName) → Contains (given_at lowering (k, (s, c))) y → Walk n (list.number y.1) → Passes (drives_at (s, c)) y
     part_passes k s (Assignment left right) has y here walk =
         let m = length (written_bits s left) in
         let at = contains_here (0, (right, context_width s left right)) [] in
         sides k s (Assignment left right) has 0 right (context_width s left right) at (written_bits s left) (low_bits m (step_places lowering k 0)) _ (low_terms of_designs d lowering lowered k s (Assignment left right) has m 0 right (context_width s left right) at) (from_drop _ (step_places lowering k 0)) y here walk
     part_passes k s (GateInstance gate outs ins) has y here walk =
         let t = gate_gives on_terms gate (terminal_terms s ins) in
-        let b = from_map {B = Bit × CellPlace} (λ b. (b, gate_place lowering gate k (length ins))) (flat_map (written_bits s) outs) y here in
-        (driven (MadeOf s.path t) b.0, contains-map (driven (MadeOf s.path t)) (flat_map (written_bits s) outs) b.0 b.1, (ap (λ (u : Bit × CellPlace). u.0) b.2, claims.gates k s gate outs ins has (subst (λ (u : Bit × CellPlace). Walk n (list.number u.1)) (sym b.2) walk)))
+        let b = from_map {B = Bit × CellName} (λ b. (b, gate_place lowering gate k (length ins))) (flat_map (written_bits s) outs) y here in
+        (driven (MadeOf s.path t) b.0, contains-map (driven (MadeOf s.path t)) (flat_map (written_bits s) outs) b.0 b.1, (ap (λ (u : Bit × CellName). u.0) b.2, claims.gates k s gate outs ins has (subst (λ (u : Bit × CellName). Walk n (list.number u.1)) (sym b.2) walk)))
     part_passes k s (Register r) has y here walk = absurd (none_in_nil y here)
     part_passes k s (SupplyNet high m) has y here walk =
-        let b = from_map {B = Bit × CellPlace} (λ b. (b, Constant high)) (bits_named s m) y here in
-        absurd (constant_ends n high (subst (λ (u : Bit × CellPlace). Walk n (list.number u.1)) (sym b.2) walk))
+        let b = from_map {B = Bit × CellName} (λ b. (b, Constant high)) (bits_named s m) y here in
+        absurd (constant_ends n high (subst (λ (u : Bit × CellName). Walk n (list.number u.1)) (sym b.2) walk))
     part_passes k s (InputConnection i pin f) has y here walk =
         let at = contains_here (0, (f, width_of s f)) [] in
         sides k s (InputConnection i pin f) has 0 f (width_of s f) at (pin_bits (path_to s.path i) pin) (step_places lowering k 0) _ (whole_terms of_designs d lowering lowered k s (InputConnection i pin f) has 0 f (width_of s f) at) (λ p h. h) y here walk
     part_passes k s (OutputConnection i pin f) has y here walk =
         let path = path_to s.path i in
-        let all : List CellPlace = map NetBit (pin_bits path pin) in
+        let all : List CellName = map NetBit (pin_bits path pin) in
         let inside = wired.pins s i pin f (from_numbered 0 (parts d) (k, (s, OutputConnection i pin f)) has) in
         (driven (MadeOf path (term_of lowering s y.1)) y.0, sides_meet of_designs d lowering lowered s path (written_bits s f) all _ (pin_terms lowering s path pin) y here, (refl, pins_pass s path pin inside y.1 (zip_parts (written_bits s f) all y here).1 walk))
     part_passes k s BoxContents has y here walk = absurd (none_in_nil y here)
 
-    abbrev inputs : List (Bit × CellPlace)
+    abbrev inputs : List (Bit × CellName)
     inputs = map (λ x. (x.1, Input x.0)) (enumerate_from 0 (cut_bits d))
 
-    abbrev box_pins : List (Bit × CellPlace)
+    abbrev box_pins : List (Bit × CellName)
     box_pins = flat_map given_by_box (enumerate_from 0 (boxes d))
 
-    abbrev others : List (Bit × CellPlace)
+    abbrev others : List (Bit × CellName)
     others = flat_map (given_at lowering) (enumerate_from 0 (parts d))
 
-    passes : (y : Bit × CellPlace) → Contains (given d lowering) y → Walk n (list.number y.1) → Passes (drives d) y
+    passes : (y : Bit × CellName) → Contains (driving_places d lowering) y → Walk n (list.number y.1) → Passes (drives d) y
     passes y has walk = by (Contains-append_cases (inputs ++ box_pins) others y has)
       where
         first : Contains inputs y ⊎ Contains box_pins y → Passes (drives d) y
         first (inl h) =
-            let i = from_map {B = Bit × CellPlace} (λ x. (x.1, Input x.0)) (enumerate_from 0 (cut_bits d)) y h in
+            let i = from_map {B = Bit × CellName} (λ x. (x.1, Input x.0)) (enumerate_from 0 (cut_bits d)) y h in
             let j = enumerated_from 0 (cut_bits d) i.0.0 i.0.1 i.1 in
-            absurd (input_ends n i.0.0 (omega (arith, j.1, j.2)) (subst (λ (u : Bit × CellPlace). Walk n (list.number u.1)) (sym i.2) walk))
+            absurd (input_ends n i.0.0 (omega (arith, j.1, j.2)) (subst (λ (u : Bit × CellName). Walk n (list.number u.1)) (sym i.2) walk))
         first (inr h) =
             let b = from_flat given_by_box (enumerate_from 0 (boxes d)) y h in
             let s = b.0.1 in
-            let p = from_map {B = Bit × CellPlace} (λ (x : ℕ × Bit). (x.1, BoxPin b.0.0 x.0)) (enumerate_from 0 (output_bits s)) y b.2 in
-            let low = claims.pins b.0.0 s b.1 p.0.0 p.0.1 p.1 (subst (λ (u : Bit × CellPlace). Walk n (list.number u.1)) (sym p.2) walk) in
-            (driven (Box s p.0.0) p.0.1, part_driven of_designs d (s, BoxContents) (box_part of_designs d s (from_numbered 0 (boxes d) b.0 b.1)) (driven (Box s p.0.0) p.0.1) (contains-map (λ (x : ℕ × Bit). driven (Box s x.0) x.1) (enumerate_from 0 (output_bits s)) p.0 p.1), (ap (λ (u : Bit × CellPlace). u.0) p.2, low))
+            let p = from_map {B = Bit × CellName} (λ (x : ℕ × Bit). (x.1, BoxPin b.0.0 x.0)) (enumerate_from 0 (output_bits s)) y b.2 in
+            let low = claims.pins b.0.0 s b.1 p.0.0 p.0.1 p.1 (subst (λ (u : Bit × CellName). Walk n (list.number u.1)) (sym p.2) walk) in
+            (driven (Box s p.0.0) p.0.1, part_driven of_designs d (s, BoxContents) (box_part of_designs d s (from_numbered 0 (boxes d) b.0 b.1)) (driven (Box s p.0.0) p.0.1) (contains-map (λ (x : ℕ × Bit). driven (Box s x.0) x.1) (enumerate_from 0 (output_bits s)) p.0 p.1), (ap (λ (u : Bit × CellName). u.0) p.2, low))
 
         by : Contains (inputs ++ box_pins) y ⊎ Contains others y → Passes (drives d) y
         by (inl h) = first (Contains-append_cases inputs box_pins y h)
@@ -353,17 +353,17 @@ module _ (of_designs : DesignLaws) (d : Design) (lowering : Lowering) (l : Loose
     -- a step or more from the place of a bit lead along dependence
     pub net_leads : (b : Bit) → Contains (net_order d) b → Walk (suc n) (place b) → Leads (dependences d) b e
     net_leads b has walk =
-        let f = first_step n (NetBit b) (cell.Copy (list.number (place_in (given d lowering) b))) (net_listed d lowering l list b has) walk in
-        one_of n (list.number (place_in (given d lowering) b)) (found (find (λ (y : Bit × CellPlace). same_bit b y.0) (given d lowering)) refl) f.0 f.1 f.2
+        let f = first_step n (NetBit b) (cell.Copy (list.number (place_in (driving_places d lowering) b))) (net_listed d lowering l list b has) walk in
+        one_of n (list.number (place_in (driving_places d lowering) b)) (found (find (λ (y : Bit × CellName). same_bit b y.0) (driving_places d lowering)) refl) f.0 f.1 f.2
       where
         leads : (c : Bit) → Contains (dependences d) (b, c) → Tail c → Leads (dependences d) b e
         leads c step (inl same) = One (subst (λ u. Contains (dependences d) (b, u)) same step)
         leads c step (inr rest) = More step rest
 
-        found : (o : Option (Bit × CellPlace)) → find (λ (y : Bit × CellPlace). same_bit b y.0) (given d lowering) ≡ o → Walk n (list.number (option_map_or (λ (u : Bit × CellPlace). u.1) o (Constant false))) → Leads (dependences d) b e
+        found : (o : Option (Bit × CellName)) → find (λ (y : Bit × CellName). same_bit b y.0) (driving_places d lowering) ≡ o → Walk n (list.number (option_map_or (λ (u : Bit × CellName). u.1) o (Constant false))) → Leads (dependences d) b e
         found None is walk = absurd (constant_ends n false walk)
         found (Some y) is walk =
-            let at = from_find (λ (y : Bit × CellPlace). same_bit b y.0) (given d lowering) y is in
+            let at = from_find (λ (y : Bit × CellName). same_bit b y.0) (driving_places d lowering) y is in
             let z = passes y at.0 walk in
             let bit : z.0.bit ≡ b = z.2.0 ∙ sym ((of_designs.distinguished b y.0).0 at.1) in
             let c = z.2.1 in

@@ -2,7 +2,10 @@
 //! function has a law as its contract and does nothing.
 
 ghost use Rattle.bb_implements.specs.Laws.CellLaws.{CellLaws};
-ghost use Rattle.bb_implements.specs.Laws.ListLaws.{ListsBegin, ListsExist, ImplementingNetsArePrintable, ImplementingNetsExist, ListsAreLoose, ListsGiveWorlds, ImplementingNetsGiveOutputs, ImplementingNetsAreEquivalent, NetsAreNoLarger, PlacesAreFew, ImplementingNetsAreFlat};
+ghost use Rattle.bb_implements.specs.Laws.ListLaws.{ListsBegin, ListsExist, ImplementingNetsArePrintable};
+ghost use Rattle.bb_implements.specs.Laws.ListLaws.{ImplementingNetsExist, ListsAreLoose, ListsGiveWorlds};
+ghost use Rattle.bb_implements.specs.Laws.ListLaws.{ImplementingNetsGiveOutputs, ImplementingNetsAreEquivalent};
+ghost use Rattle.bb_implements.specs.Laws.ListLaws.{NetsAreNoLarger, PlacesAreFew, ImplementingNetsAreFlat};
 
 use bb_design::laws::{constructs_hold_bit_by_bit, laws_of_designs};
 use bb_expr::laws::{lowerings_exist, made_has_value, occurrences_are_fit_in, values_have_width};

@@ -1,7 +1,8 @@
 //! Laws of the names in flat netlists: these are functions of the design, however its expressions are lowered. Each
 //! function has a law as its contract and does nothing.
 
-ghost use Rattle.bb_implements.specs.Laws.NamingLaws.{BoxNeedsAreOne, FollowedInputsAreOne, ImplementingNetsAreNamed, ImplementingNetsAreNamedTheSame};
+ghost use Rattle.bb_implements.specs.Laws.NamingLaws.{BoxNeedsAreOne, FollowedInputsAreOne, ImplementingNetsAreNamed};
+ghost use Rattle.bb_implements.specs.Laws.NamingLaws.{ImplementingNetsAreNamedTheSame};
 ghost use Rattle.bb_implements.specs.BoxOrders.{BoxesHaveHeights, ImplementingNetsHaveBoxOrders};
 ghost use Rattle.bb_implements.specs.Laws.IsomorphicNets.{ImplementingNetsAreIsomorphic};
 

@@ -1,7 +1,8 @@
 //! Contents of boxes as tables: contents go by path, tables by the order of a netlist. Each function has a law as its
 //! contract and does nothing.
 
-ghost use Rattle.bb_implements.specs.Laws.ContentTables.{TablesGiveValues, ContentsHaveTables, TablesHaveContents, TablesGiveOutputs};
+ghost use Rattle.bb_implements.specs.Laws.ContentTables.{TablesGiveValues, ContentsHaveTables, TablesHaveContents};
+ghost use Rattle.bb_implements.specs.Laws.ContentTables.{TablesGiveOutputs};
 
 use crate::list_laws::implementing_nets_give_outputs;
 use bb_bits::{rows_are_chosen, rows_are_tables, rows_have_shape};

@@ -4,11 +4,11 @@ use Rattle.std.proofs.lemmas.List.Sums.{sum_by-append, sum_by-cons}
 use Rattle.bb_lemmas.proofs.Bits.{never_both}
 use Rattle.bb_bits.specs.Truth.{Truth, IsTruthTable, truth_at, quantified_block}
 use Rattle.bb_bits.specs.Laws.TruthLaws.{QuantifierLaws, TableLaws}
-use Rattle.bb_net.specs.Conditions.{Suit, Wins, SomeChoicesSuit, NoChoicesSuit}
+use Rattle.bb_net.specs.Conditions.{ChoicesSuit, InputsHaveOutputs, SomeChoicesSuit, NoChoicesSuit}
 use Rattle.bb_net.specs.Netlists.{Netlist, Pins}
 use Rattle.bb_net.specs.Pairs.{pin_count}
 use Rattle.bb_sym.specs.Laws.{FunctionLaws}
-use Rattle.bb_input.specs.InputFunctions.{pins_and_inputs, pin_bits, refutes, refuted, lost, outs_quantified, box_quantified, boxes_quantified}
+use Rattle.bb_input.specs.InputFunctions.{pins_and_inputs, point_pins, refutes, refuted, lost, outs_quantified, box_quantified, boxes_quantified}
 use Rattle.bb_input.proofs.OrderLemmas.{pins_of}
 use Rattle.bb_input.proofs.Points.{bits_push}
 use Rattle.bb_input.proofs.Suits.{suits_of_false, false_of_suits}
@@ -80,10 +80,10 @@ module _ (quantifiers : QuantifierLaws) (tables : TableLaws) (functions : Functi
   done_all done split = sym (split ∙ append-nil done)
 
   pub won : (rest done : List Pins) → imp.boxes ≡ done ++ rest → (pre w : List Bool) → length pre ≡ pin_count done → length w ≡ pin_count rest + imp.inputs →
-      truth_at (boxes_quantified (pin_count done) rest (refuted spec imp)) (pre ++ w) ≡ false → Wins (Suit spec imp) rest (pin_bits done pre)
+      truth_at (boxes_quantified (pin_count done) rest (refuted spec imp)) (pre ++ w) ≡ false → InputsHaveOutputs (ChoicesSuit spec imp) rest (point_pins done pre)
   won [] done split pre w e l none =
       let all = done_all done split in
-      subst (λ (boxes : List Pins). Suit spec imp (pin_bits boxes pre)) (sym all) (suits_of_false quantifiers functions spec imp pre w (e ∙ ap pin_count all) (omega (arith, l)) none)
+      subst (λ (boxes : List Pins). ChoicesSuit spec imp (point_pins boxes pre)) (sym all) (suits_of_false quantifiers functions spec imp pre w (e ∙ ap pin_count all) (omega (arith, l)) none)
   won (box ∷ rest) done split pre w e l none = λ ins width.
       let k = length box.ins in
       let m = length box.outs in
@@ -96,14 +96,14 @@ module _ (quantifiers : QuantifierLaws) (tables : TableLaws) (functions : Functi
       (omega (arith, left, total, sums)) (ap (λ (y : List Bool). truth_at (box_quantified (pin_count done) box u) (pre ++ y)) (sym (three_parts k m w)) ∙ none) ins width in
       let more = won rest (done ++ box ∷ []) (next_split done rest box split) (pre ++ (ins ++ outs.0)) v (omega (arith, count_push done box, length-append pre (ins ++ outs.0), length-append ins outs.0, e, width, outs.1)) left
       (ap (λ t. truth_at t ((pre ++ (ins ++ outs.0)) ++ v)) (sym (next_table done rest box)) ∙ (sym (next_point u pre ins outs.0 v) ∙ outs.2)) in
-      (outs.0, outs.1, subst (Wins (Suit spec imp) rest) (bits_push done box pre ins outs.0 e width outs.1) more)
+      (outs.0, outs.1, subst (InputsHaveOutputs (ChoicesSuit spec imp) rest) (bits_push done box pre ins outs.0 e width outs.1) more)
 
   pub lost_game : (rest done : List Pins) → imp.boxes ≡ done ++ rest → (pre w : List Bool) → length pre ≡ pin_count done → length w ≡ pin_count rest + imp.inputs →
-      truth_at (boxes_quantified (pin_count done) rest (refuted spec imp)) (pre ++ w) ≡ true → Wins (Suit spec imp) rest (pin_bits done pre) → ⊥
+      truth_at (boxes_quantified (pin_count done) rest (refuted spec imp)) (pre ++ w) ≡ true → InputsHaveOutputs (ChoicesSuit spec imp) rest (point_pins done pre) → ⊥
   lost_game [] done split pre w e l some suit =
       let all = done_all done split in
       never_both (truth_at (refuted spec imp) (pre ++ w)) some
-      (false_of_suits quantifiers functions spec imp pre w (e ∙ ap pin_count all) (omega (arith, l)) (subst (λ (boxes : List Pins). Suit spec imp (pin_bits boxes pre)) all suit))
+      (false_of_suits quantifiers functions spec imp pre w (e ∙ ap pin_count all) (omega (arith, l)) (subst (λ (boxes : List Pins). ChoicesSuit spec imp (point_pins boxes pre)) all suit))
   lost_game (box ∷ rest) done split pre w e l some wins =
       let k = length box.ins in
       let m = length box.outs in
@@ -118,7 +118,7 @@ module _ (quantifiers : QuantifierLaws) (tables : TableLaws) (functions : Functi
       let reply = wins ins against.1 in
       lost_game rest (done ++ box ∷ []) (next_split done rest box split) (pre ++ (ins ++ reply.0)) v (omega (arith, count_push done box, length-append pre (ins ++ reply.0), length-append ins reply.0, e, against.1, reply.1)) left
       (ap (λ t. truth_at t ((pre ++ (ins ++ reply.0)) ++ v)) (sym (next_table done rest box)) ∙ (sym (next_point u pre ins reply.0 v) ∙ against.2 reply.0 reply.1))
-      (subst (Wins (Suit spec imp) rest) (sym (bits_push done box pre ins reply.0 e against.1 reply.1)) reply.2)
+      (subst (InputsHaveOutputs (ChoicesSuit spec imp) rest) (sym (bits_push done box pre ins reply.0 e against.1 reply.1)) reply.2)
 
   -- at any point, the last function says whether choices suit
   pub lost_reports : (p : List Bool) → length p ≡ n → truth_at (lost spec imp) p ≡ true → NoChoicesSuit spec imp

@@ -9,7 +9,7 @@ use Rattle.bb_bits.specs.Tables.{TableBits, HasAllBits, row_of, table_bit}
 use Rattle.bb_bits.specs.Truth.{Truth, truth_at}
 use Rattle.bb_bits.specs.Laws.TruthLaws.{QuantifierLaws}
 use Rattle.bb_net.specs.Equivalence.{AllRight, TablesMakeEquivalent}
-use Rattle.bb_net.specs.Conditions.{all_outs, all_ins, Suit, Wins, SomeChoicesSuit}
+use Rattle.bb_net.specs.Conditions.{all_outs, all_ins, ChoicesSuit, InputsHaveOutputs, SomeChoicesSuit}
 use Rattle.bb_net.specs.Netlists.{Netlist, Pins, IsNetlist, box_at}
 use Rattle.bb_net.specs.Pairs.{pin_count}
 use Rattle.bb_net.specs.Values.{bit_of, flat, flat_with, free_bit, tabled_bit, table_at, output_pins, FitBoxes, ValueGoesByBoxes}
@@ -18,7 +18,7 @@ use Rattle.bb_sym.specs.Inside.Made.{Represents, ref_at}
 use Rattle.bb_sym.specs.Laws.{FunctionLaws, PointLaws}
 use Rattle.bb_uniq.specs.declared.store.Ref.{Ref}
 use Rattle.bb_input.specs.Inside.Answers.{AreLeastOutputs, AreLeastTables}
-use Rattle.bb_input.specs.InputFunctions.{pins_and_inputs, pin_bits, refuted, boxes_quantified}
+use Rattle.bb_input.specs.InputFunctions.{pins_and_inputs, point_pins, refuted, boxes_quantified}
 use Rattle.bb_input.specs.declared.staging.Prefix.{Prefix}
 use Rattle.bb_input.specs.Inside.Prefixes.{IsPrefix}
 use Rattle.bb_input.specs.Inside.Rows.{IsLeastRow, HasLeastRows}
@@ -42,20 +42,20 @@ module _ (quantifiers : QuantifierLaws) (functions : FunctionLaws) (points : Poi
   outs_are : output_pins imp.boxes ≡ m
   outs_are = let e = ap output_pins one in let f = sum_by-cons (λ (pins : Pins). length pins.outs) box [] in omega (arith, e, f)
 
-  chosen_is : (ins outs : List Bool) → length ins ≡ k → length outs ≡ m → pin_bits imp.boxes (ins ++ outs) ≡ record { ins = ins; outs = outs } ∷ []
-  chosen_is ins outs f g = ap (λ (boxes : List Pins). pin_bits boxes (ins ++ outs)) one ∙ bits_push [] box [] ins outs refl f g
+  chosen_is : (ins outs : List Bool) → length ins ≡ k → length outs ≡ m → point_pins imp.boxes (ins ++ outs) ≡ record { ins = ins; outs = outs } ∷ []
+  chosen_is ins outs f g = ap (λ (boxes : List Pins). point_pins boxes (ins ++ outs)) one ∙ bits_push [] box [] ins outs refl f g
 
   prefix : (ins outs : List Bool) → length ins ≡ k → length outs ≡ m → length (ins ++ outs) ≡ pin_count imp.boxes
   prefix ins outs f g = omega (arith, length-append ins outs, f, g, pins_are)
 
-  suit_of_zero : (ins outs w : List Bool) → length ins ≡ k → length outs ≡ m → length w ≡ imp.inputs → truth_at t ((ins ++ outs) ++ w) ≡ false → Suit spec imp (record { ins = ins; outs = outs } ∷ [])
-  suit_of_zero ins outs w f g l none = subst (Suit spec imp) (chosen_is ins outs f g) (suits_of_false quantifiers functions spec imp (ins ++ outs) w (prefix ins outs f g) l none)
+  suit_of_zero : (ins outs w : List Bool) → length ins ≡ k → length outs ≡ m → length w ≡ imp.inputs → truth_at t ((ins ++ outs) ++ w) ≡ false → ChoicesSuit spec imp (record { ins = ins; outs = outs } ∷ [])
+  suit_of_zero ins outs w f g l none = subst (ChoicesSuit spec imp) (chosen_is ins outs f g) (suits_of_false quantifiers functions spec imp (ins ++ outs) w (prefix ins outs f g) l none)
 
-  zero_of_suit : (ins outs w : List Bool) → length ins ≡ k → length outs ≡ m → length w ≡ imp.inputs → Suit spec imp (record { ins = ins; outs = outs } ∷ []) → truth_at t ((ins ++ outs) ++ w) ≡ false
-  zero_of_suit ins outs w f g l suit = false_of_suits quantifiers functions spec imp (ins ++ outs) w (prefix ins outs f g) l (subst (Suit spec imp) (sym (chosen_is ins outs f g)) suit)
+  zero_of_suit : (ins outs w : List Bool) → length ins ≡ k → length outs ≡ m → length w ≡ imp.inputs → ChoicesSuit spec imp (record { ins = ins; outs = outs } ∷ []) → truth_at t ((ins ++ outs) ++ w) ≡ false
+  zero_of_suit ins outs w f g l suit = false_of_suits quantifiers functions spec imp (ins ++ outs) w (prefix ins outs f g) l (subst (ChoicesSuit spec imp) (sym (chosen_is ins outs f g)) suit)
 
-  answer : SomeChoicesSuit spec imp → (ins : List Bool) → length ins ≡ k → (outs : List Bool) × (length outs ≡ m) × Suit spec imp (record { ins = ins; outs = outs } ∷ [])
-  answer choices = subst (λ (boxes : List Pins). Wins (Suit spec imp) boxes []) one choices
+  answer : SomeChoicesSuit spec imp → (ins : List Bool) → length ins ≡ k → (outs : List Bool) × (length outs ≡ m) × ChoicesSuit spec imp (record { ins = ins; outs = outs } ∷ [])
+  answer choices = subst (λ (boxes : List Pins). InputsHaveOutputs (ChoicesSuit spec imp) boxes []) one choices
 
   -- for all bits at the input pins there is a point
   pub some_point : SomeChoicesSuit spec imp → (n : ℕ) → n ≡ pins_and_inputs imp → (ins : List Bool) → length ins ≡ k → (q : List Bool) × (length q ≡ n) × (take k q ≡ ins) × (truth_at t q ≡ false)
@@ -111,7 +111,7 @@ module _ (quantifiers : QuantifierLaws) (functions : FunctionLaws) (points : Poi
       let same : found.0 ≡ outs = empty found.0 (found.1 ∙ e) ∙ sym none in
       record {
         whole = ap length none ∙ sym (outs_are ∙ e);
-        suit = subst (λ (z : List Bool). Suit spec imp (record { ins = ins; outs = z } ∷ [])) same found.2;
+        suit = subst (λ (z : List Bool). ChoicesSuit spec imp (record { ins = ins; outs = z } ∷ [])) same found.2;
         least = λ others long suit. let h = ap number_of none in omega (arith, h);
       }
     where
@@ -170,7 +170,7 @@ module _ (quantifiers : QuantifierLaws) (functions : FunctionLaws) (points : Poi
 -- without boxes there is no table
 pub least_none : (swap : ValueGoesByBoxes) (spec imp : Netlist) → IsNetlist imp → imp.boxes ≡ [] → SomeChoicesSuit spec imp → AreLeastTables spec imp []
 least_none swap spec imp kept none choices =
-    let suit : Suit spec imp [] = subst (λ (boxes : List Pins). Wins (Suit spec imp) boxes []) none choices in
+    let suit : ChoicesSuit spec imp [] = subst (λ (boxes : List Pins). InputsHaveOutputs (ChoicesSuit spec imp) boxes []) none choices in
     let no : (b : ℕ) → b < length imp.boxes → ⊥ = λ b l. (let e = ap length none in omega (arith, l, e)) in
     record {
       completion = record {

@@ -11,20 +11,20 @@ use Rattle.bb_net.specs.Netlists.{Netlist, Pins, box_at}
 use Rattle.bb_net.specs.Pairs.{pin_count}
 use Rattle.bb_net.specs.Values.{bit_of, output_pins}
 use Rattle.bb_sym.specs.Plain.{AreVariables, IsReadSo}
-use Rattle.bb_input.specs.InputFunctions.{pins_and_inputs, pin_bits, boxes_first, in_places}
+use Rattle.bb_input.specs.InputFunctions.{pins_and_inputs, point_pins, boxes_first, in_places}
 use Rattle.bb_input.specs.Inside.Order.{in_variables}
 use Rattle.bb_input.proofs.OrderLemmas.{pins_of, fits_more}
 
 -- the bit at an output pin
 pins_read : (boxes : List Pins) (b pin : ℕ) → pin < length (box_at boxes b).outs → (first : ℕ) (p : List Bool) → first + pin_count boxes ≤ length p →
-    bit_of (all_outs (pin_bits boxes (drop first p))) (output_pins (take b boxes) + pin) ≡ bit_of p (first + (pin_count (take b boxes) + (length (box_at boxes b).ins + pin)))
+    bit_of (all_outs (point_pins boxes (drop first p))) (output_pins (take b boxes) + pin) ≡ bit_of p (first + (pin_count (take b boxes) + (length (box_at boxes b).ins + pin)))
 pins_read [] b pin l first p fit = absurd (omega (arith, l))
 pins_read (box ∷ boxes) zero pin l first p fit =
     let k = length box.ins in
     let m = length box.outs in
     let q = drop first p in
     let own = take m (drop k q) in
-    let rest = all_outs (pin_bits boxes (drop (k + m) q)) in
+    let rest = all_outs (point_pins boxes (drop (k + m) q)) in
     let long : pin < length own = omega (arith, l, fit, sum_by-cons pins_of box boxes, length-take m (drop k q), length-drop k q, length-drop first p) in
     ap (bit_of (own ++ rest)) (let e : 0 + pin ≡ pin = omega arith in e)
     ∙ (get_or_append_left own rest false pin long ∙ (get_or-take m (drop k q) pin false l ∙ (get_or-drop k q pin false ∙ (get_or-drop first p (k + pin) false
@@ -34,12 +34,12 @@ pins_read (box ∷ boxes) (suc b) pin l first p fit =
     let m = length box.outs in
     let q = drop first p in
     let own = take m (drop k q) in
-    let rest = all_outs (pin_bits boxes (drop (k + m) q)) in
+    let rest = all_outs (point_pins boxes (drop (k + m) q)) in
     let sums = sum_by-cons pins_of box boxes in
     let long : length own ≡ m = omega (arith, fit, sums, length-take m (drop k q), length-drop k q, length-drop first p) in
     ap (bit_of (own ++ rest)) (let e : output_pins (take (suc b) (box ∷ boxes)) + pin ≡ length own + (output_pins (take b boxes) + pin) = omega (arith, long, sum_by-cons (λ (pins : Pins). length pins.outs) box (take b boxes)) in e)
     ∙ (get_or-append-add own rest (output_pins (take b boxes) + pin) false
-    ∙ (ap (λ (w : List Bool). bit_of (all_outs (pin_bits boxes w)) (output_pins (take b boxes) + pin)) (drop-drop (k + m) first p)
+    ∙ (ap (λ (w : List Bool). bit_of (all_outs (point_pins boxes w)) (output_pins (take b boxes) + pin)) (drop-drop (k + m) first p)
     ∙ (pins_read boxes b pin l (first + (k + m)) p (omega (arith, fit, sums))
     ∙ ap (bit_of p) (let e : (first + (k + m)) + (pin_count (take b boxes) + (length (box_at boxes b).ins + pin)) ≡ first + (pin_count (box ∷ take b boxes) + (length (box_at boxes b).ins + pin)) = omega (arith, sum_by-cons pins_of box (take b boxes)) in e))))
 
@@ -77,14 +77,14 @@ bits_there first (suc k) p fit =
     ap (take (suc k)) (drop-cons p first false (omega (arith, fit)))
     ∙ ap (λ (w : List Bool). bit_of p first ∷ w) (ap (λ n. take k (drop n p)) (let e : suc first ≡ first + 1 = omega arith in e) ∙ bits_there (first + 1) k p (omega (arith, fit)))
 
-pub ins_read : (boxes : List Pins) (first : ℕ) (p : List Bool) → first + pin_count boxes ≤ length p → flat_map (λ (bits : PinBits). bits.ins) (pin_bits boxes (drop first p)) ≡ map (bit_of p) (in_variables first boxes)
+pub ins_read : (boxes : List Pins) (first : ℕ) (p : List Bool) → first + pin_count boxes ≤ length p → flat_map (λ (bits : PinBits). bits.ins) (point_pins boxes (drop first p)) ≡ map (bit_of p) (in_variables first boxes)
 ins_read [] first p fit = refl
 ins_read (box ∷ boxes) first p fit =
     let k = length box.ins in
     let next = first + pins_of box in
     let sums = sum_by-cons pins_of box boxes in
     ap₂ (λ (v w : List Bool). v ++ w) (bits_there first k p (omega (arith, fit, sums)))
-    (ap (λ (w : List Bool). flat_map (λ (bits : PinBits). bits.ins) (pin_bits boxes w)) (drop-drop (pins_of box) first p) ∙ ins_read boxes next p (omega (arith, fit, sums)))
+    (ap (λ (w : List Bool). flat_map (λ (bits : PinBits). bits.ins) (point_pins boxes w)) (drop-drop (pins_of box) first p) ∙ ins_read boxes next p (omega (arith, fit, sums)))
     ∙ sym (map-append (bit_of p) (range_with_len first k) (in_variables next boxes))
 
 pub variables_within : (boxes : List Pins) (first n : ℕ) → first + pin_count boxes ≤ n → (j d : ℕ) → j < length (in_variables first boxes) → get_or (in_variables first boxes) j d < n

@@ -7,7 +7,7 @@ use Rattle.bb_uniq.specs.Inside.Nodes.{NodeStore}
 use Rattle.bb_uniq.specs.Inside.Meaning.{truth_of, Adds, IsTooMany}
 use Rattle.bb_sym.specs.Laws.{FunctionLaws, MakingLaws}
 use Rattle.bb_sym.specs.Inside.Made.{Makes, AreTooMany, Represents}
-use Rattle.bb_sym.specs.Plain.{table, tables, outputs, one_of, first_of}
+use Rattle.bb_sym.specs.Plain.{table, tables, output_numbers, one_of, first_of}
 use Rattle.bb_input.specs.InputFunctions.{pins_and_inputs, is_wrong_output, has_wrong, is_missed, in_places, leads, refutes, wrong_functions, missed_functions}
 
 -- the first tables are among all
@@ -16,7 +16,7 @@ prefix_refused making s ts us = making.refused_more s ts (ts ++ us) (λ b h. (ma
 
 -- where outputs are wrong, over so many variables
 abbrev pub wrong_over : ℕ → Netlist → Netlist → List Truth
-wrong_over k spec imp = tables k (map (is_wrong_output spec imp) (outputs imp)) ++ tables k (map (first_of (is_wrong_output spec imp)) (outputs imp))
+wrong_over k spec imp = tables k (map (is_wrong_output spec imp) (output_numbers imp)) ++ tables k (map (first_of (is_wrong_output spec imp)) (output_numbers imp))
 
 module _ (functions : FunctionLaws) (making : MakingLaws) (spec imp : Netlist) (a : NodeStore) (v : pins_and_inputs imp ≡ a.vars) where
   abbrev n : ℕ

@@ -13,7 +13,7 @@ use Rattle.bb_lemmas.proofs.Chosen.{choose}
 use Rattle.bb_lemmas.proofs.LeastBits.{Below, least_or_none}
 use Rattle.bb_lemmas.proofs.Vectors.{vec_of}
 use Rattle.bb_net.specs.Completions.{table_bits}
-use Rattle.bb_net.specs.Conditions.{PinBits, Suit, Wins, SomeChoicesSuit, NoChoicesSuit}
+use Rattle.bb_net.specs.Conditions.{PinBits, ChoicesSuit, InputsHaveOutputs, SomeChoicesSuit, NoChoicesSuit}
 use Rattle.bb_net.specs.Netlists.{Netlist, Pins, IsNetlist}
 use Rattle.bb_net.specs.Values.{output_pins, ValueGoesByBoxes}
 use Rattle.bb_sym.specs.Laws.{FunctionLaws, PointLaws}
@@ -34,18 +34,18 @@ pub record LawsBelow : Type 0 where
   pub tables : RowsHaveTable
   pub chosen : RowsAreChosen
   pub swap : ValueGoesByBoxes
-  pub suit : (spec imp : Netlist) (chosen : List PinBits) → Suit spec imp chosen ⊎ (Suit spec imp chosen → ⊥)
+  pub suit : (spec imp : Netlist) (chosen : List PinBits) → ChoicesSuit spec imp chosen ⊎ (ChoicesSuit spec imp chosen → ⊥)
   pub choices : (spec imp : Netlist) → NoChoicesSuit spec imp ⊎ SomeChoicesSuit spec imp
 
 module _ (laws : LawsBelow) (spec imp : Netlist) (kept : IsNetlist imp) (choices : SomeChoicesSuit spec imp) where
   module _ (box : Pins) (one : imp.boxes ≡ box ∷ []) where
     abbrev SuitsWith : List Bool → List Bool → Type 0
-    SuitsWith ins outs = Suit spec imp (record { ins = ins; outs = outs } ∷ [])
+    SuitsWith ins outs = ChoicesSuit spec imp (record { ins = ins; outs = outs } ∷ [])
 
     -- the least outputs for some inputs
     least_outputs : (ins : List Bool) → length ins ≡ length box.ins → (outs : List Bool) × AreLeastOutputs spec imp ins outs
     least_outputs ins long =
-        let found = subst (λ (boxes : List Pins). Wins (Suit spec imp) boxes []) one choices ins long in
+        let found = subst (λ (boxes : List Pins). InputsHaveOutputs (ChoicesSuit spec imp) boxes []) one choices ins long in
         let count : output_pins imp.boxes ≡ length box.outs = ap output_pins one ∙ omega arith in
         elim (least_or_none laws.below (SuitsWith ins) (λ outs. SuitsWith ins outs → ⊥) (λ outs yes not. not yes) (length box.outs) (λ outs len. laws.suit spec imp (record { ins = ins; outs = outs } ∷ []))) [
           | inl is ↦ let least = is.1 in (is.0, record { whole = least.long ∙ sym count; suit = least.holds; least = λ others len suit. least.least others (len ∙ count) suit })

@@ -4,11 +4,11 @@ use Rattle.std.proofs.lemmas.List.Sums.{sum_by-append}
 use Rattle.bb_lemmas.proofs.Bits.{not_true}
 use Rattle.bb_bits.specs.Truth.{Truth, truth_at}
 use Rattle.bb_bits.specs.Laws.TruthLaws.{QuantifierLaws, TableLaws}
-use Rattle.bb_net.specs.Conditions.{Suit, Wins, SomeChoicesSuit}
+use Rattle.bb_net.specs.Conditions.{ChoicesSuit, InputsHaveOutputs, SomeChoicesSuit}
 use Rattle.bb_net.specs.Netlists.{Netlist, Pins}
 use Rattle.bb_net.specs.Pairs.{pin_count}
 use Rattle.bb_sym.specs.Laws.{FunctionLaws}
-use Rattle.bb_input.specs.InputFunctions.{pins_and_inputs, pin_bits, refuted, lost, stage, boxes_quantified}
+use Rattle.bb_input.specs.InputFunctions.{pins_and_inputs, point_pins, refuted, lost, stage, boxes_quantified}
 use Rattle.bb_input.proofs.Game.{won, lost_game}
 use Rattle.bb_input.proofs.OrderLemmas.{pins_of}
 use Rattle.bb_input.proofs.Points.{bits_prefix}
@@ -35,17 +35,17 @@ module _ (quantifiers : QuantifierLaws) (tables : TableLaws) (functions : Functi
     point = ap (truth_at t) (take-append-drop at p)
 
     -- the bits after do not matter
-    bits : pin_bits done p ≡ pin_bits done (take at p)
-    bits = ap (pin_bits done) (sym (take-append-drop at p)) ∙ bits_prefix done (take at p) (drop at p) (omega (arith, prefix))
+    bits : point_pins done p ≡ point_pins done (take at p)
+    bits = ap (point_pins done) (sym (take-append-drop at p)) ∙ bits_prefix done (take at p) (drop at p) (omega (arith, prefix))
 
-    pub boxes_say : (truth_at t p ≡ false) ↔ Wins (Suit spec imp) rest (pin_bits done p)
+    pub boxes_say : (truth_at t p ≡ false) ↔ InputsHaveOutputs (ChoicesSuit spec imp) rest (point_pins done p)
     boxes_say = (
-      (λ none. subst (Wins (Suit spec imp) rest) (sym bits) (won quantifiers tables functions spec imp rest done split (take at p) (drop at p) prefix after (point ∙ none))),
-      (λ wins. not_true (truth_at t p) (λ some. lost_game quantifiers tables functions spec imp rest done split (take at p) (drop at p) prefix after (point ∙ some) (subst (Wins (Suit spec imp) rest) bits wins))),
+      (λ none. subst (InputsHaveOutputs (ChoicesSuit spec imp) rest) (sym bits) (won quantifiers tables functions spec imp rest done split (take at p) (drop at p) prefix after (point ∙ none))),
+      (λ wins. not_true (truth_at t p) (λ some. lost_game quantifiers tables functions spec imp rest done split (take at p) (drop at p) prefix after (point ∙ some) (subst (InputsHaveOutputs (ChoicesSuit spec imp) rest) bits wins))),
     )
 
   pub stages_say : (b : ℕ) → b < length imp.boxes → (p : List Bool) → length p ≡ pins_and_inputs imp
-      → (truth_at (stage spec imp b) p ≡ false) ↔ Wins (Suit spec imp) (drop (b + 1) imp.boxes) (pin_bits (take (b + 1) imp.boxes) p)
+      → (truth_at (stage spec imp b) p ≡ false) ↔ InputsHaveOutputs (ChoicesSuit spec imp) (drop (b + 1) imp.boxes) (point_pins (take (b + 1) imp.boxes) p)
   stages_say b l p whole = boxes_say (take (b + 1) imp.boxes) (drop (b + 1) imp.boxes) (sym (take-append-drop (b + 1) imp.boxes)) p whole
 
   pub last_reports : (p : List Bool) → length p ≡ pins_and_inputs imp → (truth_at (lost spec imp) p ≡ false) ↔ SomeChoicesSuit spec imp

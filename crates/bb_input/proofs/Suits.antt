@@ -7,13 +7,13 @@ use Rattle.bb_bits.specs.Bits.{xor}
 use Rattle.bb_bits.specs.Truth.{IsTruthTable, truth_at}
 use Rattle.bb_bits.specs.Laws.TruthLaws.{QuantifierLaws}
 use Rattle.bb_net.specs.Equivalence.{AllRight, out_bit, wanted_bit}
-use Rattle.bb_net.specs.Conditions.{PinBits, all_outs, all_ins, Suit}
+use Rattle.bb_net.specs.Conditions.{PinBits, all_outs, all_ins, ChoicesSuit}
 use Rattle.bb_net.specs.Netlists.{Netlist}
 use Rattle.bb_net.specs.Pairs.{pin_count}
 use Rattle.bb_net.specs.Values.{bit_of, flat}
 use Rattle.bb_sym.specs.Laws.{FunctionLaws}
 use Rattle.bb_sym.specs.Plain.{table, one_of}
-use Rattle.bb_input.specs.InputFunctions.{pins_and_inputs, pin_bits, given_ins, in_places, is_missed, is_wrong_output, has_wrong, refutes, refuted}
+use Rattle.bb_input.specs.InputFunctions.{pins_and_inputs, point_pins, given_ins, in_places, is_missed, is_wrong_output, has_wrong, refutes, refuted}
 use Rattle.bb_input.proofs.Points.{bits_prefix, ins_joined, ins_split, ins_count}
 
 xor_same : (a b : Bool) → xor a b ≡ false → a ≡ b
@@ -44,15 +44,15 @@ module _ (functions : FunctionLaws) (spec imp : Netlist) (pre x : List Bool) (e 
   p = pre ++ x
 
   abbrev bits : List Bool
-  bits = flat imp x (all_outs (pin_bits imp.boxes pre))
+  bits = flat imp x (all_outs (point_pins imp.boxes pre))
 
   inputs_is : drop (pin_count imp.boxes) p ≡ x
   inputs_is = ap (λ k. drop k p) (sym e) ∙ drop-append_seam pre x
 
-  pins_is : pin_bits imp.boxes p ≡ pin_bits imp.boxes pre
+  pins_is : point_pins imp.boxes p ≡ point_pins imp.boxes pre
   pins_is = bits_prefix imp.boxes pre x (omega (arith, e))
 
-  value_is : flat imp (drop (pin_count imp.boxes) p) (all_outs (pin_bits imp.boxes p)) ≡ bits
+  value_is : flat imp (drop (pin_count imp.boxes) p) (all_outs (point_pins imp.boxes p)) ≡ bits
   value_is = ap₂ (λ (v : List Bool) (cs : List PinBits). flat imp v (all_outs cs)) inputs_is pins_is
 
   wrong_is : (j : ℕ) → is_wrong_output spec imp j p ≡ xor (wanted_bit spec x j) (out_bit imp bits j)
@@ -61,25 +61,25 @@ module _ (functions : FunctionLaws) (spec imp : Netlist) (pre x : List Bool) (e 
   missed_is : (q : ℕ) → is_missed imp q p ≡ xor (bit_of (given_ins imp pre) q) (bit_of bits (slice_index (in_places imp.boxes) q))
   missed_is q = ap₂ xor (ap (λ (cs : List PinBits). bit_of (flat_map (λ (c : PinBits). c.ins) cs) q) pins_is) (ap (λ (v : List Bool). bit_of v (slice_index (in_places imp.boxes) q)) value_is)
 
-  count_is : length (flat_map (λ (c : PinBits). c.ins) (pin_bits imp.boxes pre)) ≡ length (in_places imp.boxes)
+  count_is : length (flat_map (λ (c : PinBits). c.ins) (point_pins imp.boxes pre)) ≡ length (in_places imp.boxes)
   count_is = ins_count imp.boxes pre (omega (arith, e))
 
   place_bit : (q : ℕ) → q < length (in_places imp.boxes) → bit_of (map (bit_of bits) (in_places imp.boxes)) q ≡ bit_of bits (slice_index (in_places imp.boxes) q)
   place_bit q l = get_or-map (bit_of bits) (in_places imp.boxes) q 0 false l
 
   -- the inputs lead to the bits exactly where none is missed
-  led_missed : all_ins imp.boxes bits ≡ map (λ (c : PinBits). c.ins) (pin_bits imp.boxes pre) → one_of (is_missed imp) (length (in_places imp.boxes)) p ≡ false
+  led_missed : all_ins imp.boxes bits ≡ map (λ (c : PinBits). c.ins) (point_pins imp.boxes pre) → one_of (is_missed imp) (length (in_places imp.boxes)) p ≡ false
   led_missed led =
       (functions.one_false (is_missed imp) (length (in_places imp.boxes)) p).1 (λ q l.
       missed_is q ∙ same_xor (bit_of (given_ins imp pre) q) (bit_of bits (slice_index (in_places imp.boxes) q))
       (ap (λ (v : List Bool). bit_of v q) (ins_joined imp.boxes bits pre (omega (arith, e)) led) ∙ place_bit q l))
 
-  missed_led : one_of (is_missed imp) (length (in_places imp.boxes)) p ≡ false → all_ins imp.boxes bits ≡ map (λ (c : PinBits). c.ins) (pin_bits imp.boxes pre)
+  missed_led : one_of (is_missed imp) (length (in_places imp.boxes)) p ≡ false → all_ins imp.boxes bits ≡ map (λ (c : PinBits). c.ins) (point_pins imp.boxes pre)
   missed_led none =
       let each = (functions.one_false (is_missed imp) (length (in_places imp.boxes)) p).0 none in
       let long = length-map (in_places imp.boxes) (bit_of bits) in
       ins_split imp.boxes bits pre (omega (arith, e))
-      (ext_get_or false (flat_map (λ (c : PinBits). c.ins) (pin_bits imp.boxes pre)) (map (bit_of bits) (in_places imp.boxes)) (count_is ∙ sym long) (λ q l.
+      (ext_get_or false (flat_map (λ (c : PinBits). c.ins) (point_pins imp.boxes pre)) (map (bit_of bits) (in_places imp.boxes)) (count_is ∙ sym long) (λ q l.
       let here : q < length (in_places imp.boxes) = omega (arith, l, count_is) in
       xor_same (bit_of (given_ins imp pre) q) (bit_of bits (slice_index (in_places imp.boxes) q)) (sym (missed_is q) ∙ each q here) ∙ sym (place_bit q here)))
 
@@ -89,10 +89,10 @@ module _ (functions : FunctionLaws) (spec imp : Netlist) (pre x : List Bool) (e 
   right_none : AllRight spec imp x bits → has_wrong spec imp p ≡ false
   right_none right = (functions.one_false (is_wrong_output spec imp) (length imp.outs) p).1 (λ j l. wrong_is j ∙ same_xor (wanted_bit spec x j) (out_bit imp bits j) (sym (right j l)))
 
-  pub suits_at : refutes spec imp p ≡ false → all_ins imp.boxes bits ≡ map (λ (c : PinBits). c.ins) (pin_bits imp.boxes pre) → AllRight spec imp x bits
+  pub suits_at : refutes spec imp p ≡ false → all_ins imp.boxes bits ≡ map (λ (c : PinBits). c.ins) (point_pins imp.boxes pre) → AllRight spec imp x bits
   suits_at none led = all_right (refuted_not (has_wrong spec imp p) (one_of (is_missed imp) (length (in_places imp.boxes)) p) none (led_missed led))
 
-  pub at_suits : (all_ins imp.boxes bits ≡ map (λ (c : PinBits). c.ins) (pin_bits imp.boxes pre) → AllRight spec imp x bits) → refutes spec imp p ≡ false
+  pub at_suits : (all_ins imp.boxes bits ≡ map (λ (c : PinBits). c.ins) (point_pins imp.boxes pre) → AllRight spec imp x bits) → refutes spec imp p ≡ false
   at_suits right = not_refuted (has_wrong spec imp p) (one_of (is_missed imp) (length (in_places imp.boxes)) p) (λ none. right_none (right (missed_led none)))
 
 module _ (quantifiers : QuantifierLaws) (functions : FunctionLaws) (spec imp : Netlist) (pre w : List Bool) (e : length pre ≡ pin_count imp.boxes) (l : length w ≡ imp.inputs) where
@@ -107,11 +107,11 @@ module _ (quantifiers : QuantifierLaws) (functions : FunctionLaws) (spec imp : N
   whole : truth_at (refuted spec imp) (pre ++ w) ≡ truth_at (refuted spec imp) (pre ++ (w ++ []))
   whole = ap (λ (v : List Bool). truth_at (refuted spec imp) (pre ++ v)) (sym (append-nil w))
 
-  pub suits_of_false : truth_at (refuted spec imp) (pre ++ w) ≡ false → Suit spec imp (pin_bits imp.boxes pre)
+  pub suits_of_false : truth_at (refuted spec imp) (pre ++ w) ≡ false → ChoicesSuit spec imp (point_pins imp.boxes pre)
   suits_of_false none x vector led =
       let each = (quantifiers.some_false (pin_count imp.boxes) imp.inputs (table (pins_and_inputs imp) (refutes spec imp)) pre w [] e l sized).0 (sym whole ∙ none) x vector in
       suits_at functions spec imp pre x e (sym (point_is x vector) ∙ each) led
 
-  pub false_of_suits : Suit spec imp (pin_bits imp.boxes pre) → truth_at (refuted spec imp) (pre ++ w) ≡ false
+  pub false_of_suits : ChoicesSuit spec imp (point_pins imp.boxes pre) → truth_at (refuted spec imp) (pre ++ w) ≡ false
   false_of_suits suit =
       whole ∙ (quantifiers.some_false (pin_count imp.boxes) imp.inputs (table (pins_and_inputs imp) (refutes spec imp)) pre w [] e l sized).1 (λ x vector. point_is x vector ∙ at_suits functions spec imp pre x e (suit x vector))

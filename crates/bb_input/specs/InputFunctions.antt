@@ -9,25 +9,25 @@ use Rattle.bb_net.specs.Conditions.{PinBits, all_outs}
 use Rattle.bb_net.specs.Netlists.{Netlist, Pins}
 use Rattle.bb_net.specs.Pairs.{pin_count}
 use Rattle.bb_net.specs.Values.{bit_of}
-use Rattle.bb_sym.specs.Plain.{Function, Reading, table, tables, outputs, differ, one_of, first_of, cell_bit, is_wrong_at, plain_functions_at, block_functions}
+use Rattle.bb_sym.specs.Plain.{Function, Reading, table, tables, output_numbers, differ, one_of, first_of, cell_bit, is_wrong_at, plain_functions_at, block_functions}
 
 -- how many variables there are
 abbrev pub pins_and_inputs : Netlist → ℕ
 pins_and_inputs imp = pin_count imp.boxes + imp.inputs
 
 -- the bits that a point gives to the pins of boxes
-abbrev pub pin_bits : List Pins → List Bool → List PinBits
-pin_bits [] p = []
-pin_bits (box ∷ boxes) p =
-    record { ins = take (length box.ins) p; outs = take (length box.outs) (drop (length box.ins) p) } ∷ pin_bits boxes (drop (length box.ins + length box.outs) p)
+abbrev pub point_pins : List Pins → List Bool → List PinBits
+point_pins [] p = []
+point_pins (box ∷ boxes) p =
+    record { ins = take (length box.ins) p; outs = take (length box.outs) (drop (length box.ins) p) } ∷ point_pins boxes (drop (length box.ins + length box.outs) p)
 
 -- the inputs are what follows the pins
 abbrev pub boxes_first : Netlist → Reading
-boxes_first imp = record { inputs = drop (pin_count imp.boxes); pins = λ p. all_outs (pin_bits imp.boxes p) }
+boxes_first imp = record { inputs = drop (pin_count imp.boxes); pins = λ p. all_outs (point_pins imp.boxes p) }
 
 -- the bits that a point gives to the input pins, box after box, and the cells there
 abbrev pub given_ins : Netlist → List Bool → List Bool
-given_ins imp p = flat_map (λ bits. bits.ins) (pin_bits imp.boxes p)
+given_ins imp p = flat_map (λ bits. bits.ins) (point_pins imp.boxes p)
 
 abbrev pub in_places : List Pins → List ℕ
 in_places boxes = flat_map (λ pins. pins.ins) boxes
@@ -98,7 +98,7 @@ stage spec imp b = boxes_quantified (pin_count (take (b + 1) imp.boxes)) (drop (
 
 -- where outputs are wrong, and where input pins have other bits than their cells: each function, and their folds by or
 abbrev pub wrong_functions : Netlist → Netlist → List Truth
-wrong_functions spec imp = tables (pins_and_inputs imp) (map (is_wrong_output spec imp) (outputs imp)) ++ tables (pins_and_inputs imp) (map (first_of (is_wrong_output spec imp)) (outputs imp))
+wrong_functions spec imp = tables (pins_and_inputs imp) (map (is_wrong_output spec imp) (output_numbers imp)) ++ tables (pins_and_inputs imp) (map (first_of (is_wrong_output spec imp)) (output_numbers imp))
 
 abbrev pub missed_functions : Netlist → List Truth
 missed_functions imp = tables (pins_and_inputs imp) (map (is_missed imp) (in_pins imp)) ++ tables (pins_and_inputs imp) (map (first_of (is_missed imp)) (in_pins imp))

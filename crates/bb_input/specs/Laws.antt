@@ -3,10 +3,10 @@ use Rattle.std.specs.Prelude.{◌≡◌, ◌↔◌, ◌<◌, ℕ, ◌+◌, Bool,
 use Rattle.std.specs.declared.alloc.Global.{Global}
 use Rattle.bb_bits.specs.Tables.{TableBits}
 use Rattle.bb_bits.specs.Truth.{truth_at}
-use Rattle.bb_net.specs.Conditions.{Suit, Wins, SomeChoicesSuit}
+use Rattle.bb_net.specs.Conditions.{ChoicesSuit, InputsHaveOutputs, SomeChoicesSuit}
 use Rattle.bb_net.specs.Netlists.{Netlist, IsNetlist}
 use Rattle.bb_input.specs.Inside.Answers.{IsAnswer}
-use Rattle.bb_input.specs.InputFunctions.{pins_and_inputs, pin_bits, lost, stage}
+use Rattle.bb_input.specs.InputFunctions.{pins_and_inputs, point_pins, lost, stage}
 use Rattle.bb_input.specs.declared.InputAnswer.{InputAnswer}
 use Rattle.bb_input.specs.declared.InputAnswer.TheVariants.{Error, Clear, Repair}
 
@@ -28,7 +28,7 @@ AnswersExist = (spec imp : Netlist) → IsNetlist imp → (a : InputAnswer) × I
 -- gives to the pins of those before
 abbrev pub StagesSay : Type 0
 StagesSay = (spec imp : Netlist) (b : ℕ) → b < length imp.boxes → (p : List Bool) → length p ≡ pins_and_inputs imp
-    → (truth_at (stage spec imp b) p ≡ false) ↔ Wins (Suit spec imp) (drop (b + 1) imp.boxes) (pin_bits (take (b + 1) imp.boxes) p)
+    → (truth_at (stage spec imp b) p ≡ false) ↔ InputsHaveOutputs (ChoicesSuit spec imp) (drop (b + 1) imp.boxes) (point_pins (take (b + 1) imp.boxes) p)
 
 -- and the last one where all can be
 abbrev pub LastReports : Type 0

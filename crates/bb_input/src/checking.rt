@@ -30,7 +30,8 @@ pub fn input(alloc: Global, pair: &Pair, nodes: u32, cache: u32) -> Result<Input
     requires cache_least { 1 ≤ cache }
     requires cache_most { cache ≤ 1048576 }
     ensures answer { IfOk result (IsAnswer pair.now.spec pair.now.imp) }
-    ensures nodes { IsErrOf result RungFault.Nodes → HasMoreThan (IsBeadOfAny (input_functions pair.now.spec pair.now.imp)) nodes }
+    ensures nodes { IsErrOf result RungFault.Nodes
+        → HasMoreThan (IsBeadOfAny (input_functions pair.now.spec pair.now.imp)) nodes }
     ensures within { HasMoreThan (IsBeadOfAny (input_functions pair.now.spec pair.now.imp)) nodes → OnOk result ⊥ }
 {
     let made = make_prefix(alloc, pair, nodes, cache)?;

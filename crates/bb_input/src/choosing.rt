@@ -2,7 +2,8 @@
 //! choice for a box may depend on everything before it. The functions are 1 where no choices suit, so the quantifiers
 //! are the opposite ones.
 
-ghost use Rattle.std.specs.Prelude.{◌≡◌, ◌+◌, ◌-◌, ◌<◌, ◌≤◌, ℕ, length, take, drop, IfOk, OnOk, IsErrOf, slice_index_or};
+ghost use Rattle.std.specs.Prelude.{◌≡◌, ◌+◌, ◌-◌, ◌<◌, ◌≤◌, ℕ, length, take, drop, IfOk, OnOk, IsErrOf};
+ghost use Rattle.std.specs.Prelude.{slice_index_or};
 ghost use Rattle.bb_net.specs.Netlists.{box_at};
 ghost use Rattle.bb_net.specs.Pairs.{pin_count};
 ghost use Rattle.bb_uniq.specs.Inside.Nodes.{IsRef};
@@ -38,8 +39,10 @@ pub(crate) fn quantify_boxes(
     ensures stages { OnOk result ((b : ℕ) → b < length boxes.now
         → Represents d.new.store (boxes_after (b + 1) boxes.now (truth_of d.old.store f.0)) (ref_at stages.new b)) }
     ensures result { IfOk result (Represents d.new.store (boxes_quantified 0 boxes.now (truth_of d.old.store f.0))) }
-    ensures makes { OnOk result (Makes d.old.store d.new.store (boxes_functions 0 boxes.now (truth_of d.old.store f.0))) }
-    ensures nodes { IsErrOf result RungFault.Nodes → AreTooMany d.old.store (boxes_functions 0 boxes.now (truth_of d.old.store f.0)) }
+    ensures makes { OnOk result (Makes d.old.store d.new.store (boxes_functions 0 boxes.now
+        (truth_of d.old.store f.0))) }
+    ensures nodes { IsErrOf result RungFault.Nodes
+        → AreTooMany d.old.store (boxes_functions 0 boxes.now (truth_of d.old.store f.0)) }
 {
     laws::making();
     let mut r = f;
@@ -64,9 +67,12 @@ fn quantify_box(
     requires before { length pins.now.ins ≤ start }
     requires vars { start + length pins.now.outs ≤ d.old.store.vars }
     requires few { d.old.store.vars ≤ 2048 }
-    ensures result { IfOk result (Represents d.new.store (box_quantified (start - length pins.now.ins) pins.now (truth_of d.old.store f.0))) }
-    ensures makes { OnOk result (Makes d.old.store d.new.store (box_functions (start - length pins.now.ins) pins.now (truth_of d.old.store f.0))) }
-    ensures nodes { IsErrOf result RungFault.Nodes → AreTooMany d.old.store (box_functions (start - length pins.now.ins) pins.now (truth_of d.old.store f.0)) }
+    ensures result { IfOk result (Represents d.new.store (box_quantified (start - length pins.now.ins) pins.now
+        (truth_of d.old.store f.0))) }
+    ensures makes { OnOk result (Makes d.old.store d.new.store (box_functions (start - length pins.now.ins) pins.now
+        (truth_of d.old.store f.0))) }
+    ensures nodes { IsErrOf result RungFault.Nodes
+        → AreTooMany d.old.store (box_functions (start - length pins.now.ins) pins.now (truth_of d.old.store f.0)) }
 {
     laws::making();
     let ins = pins.ins().len() as u32;

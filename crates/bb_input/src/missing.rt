@@ -24,9 +24,10 @@ pub(crate) fn some_missed(
     requires vars { pins_and_inputs pair.now.imp ≡ d.old.store.vars }
     requires variables { RepresentAll d.old.store (variable d.old.store.vars) made.now.variables.items }
     requires count { length made.now.variables.items ≡ d.old.store.vars }
-    requires cells { HaveCells d.old.store (boxes_first pair.now.imp) pair.now.spec pair.now.imp made.now.spec.items made.now.imp.items }
-    ensures result { IfOk result
-        (Represents d.new.store (table (pins_and_inputs pair.now.imp) (one_of (is_missed pair.now.imp) (length (in_places pair.now.imp.boxes))))) }
+    requires cells { HaveCells d.old.store (boxes_first pair.now.imp) pair.now.spec pair.now.imp made.now.spec.items
+        made.now.imp.items }
+    ensures result { IfOk result (Represents d.new.store (table (pins_and_inputs pair.now.imp) (one_of
+        (is_missed pair.now.imp) (length (in_places pair.now.imp.boxes))))) }
     ensures makes { OnOk result (Makes d.old.store d.new.store (missed_functions pair.now.imp)) }
     ensures nodes { IsErrOf result RungFault.Nodes → AreTooMany d.old.store (missed_functions pair.now.imp) }
 {

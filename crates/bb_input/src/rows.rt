@@ -31,7 +31,8 @@ pub(crate) fn least_table(
     requires some { IsFalseForEach d.now.store.vars (truth_of d.now.store f.0) inputs }
     ensures inputs { IfOk result (λ table. table.inputs ≡ inputs) }
     ensures outputs { IfOk result (λ table. table.outputs ≡ outputs) }
-    ensures rows { 0 < outputs → IfOk result (λ table. HasLeastRows d.now.store.vars (truth_of d.now.store f.0) table (2 ^ inputs)) }
+    ensures rows { 0 < outputs
+        → IfOk result (λ table. HasLeastRows d.now.store.vars (truth_of d.now.store f.0) table (2 ^ inputs)) }
 {
     let mut table = Table::zeros(alloc, inputs, outputs)?;
     if outputs > 0 {
@@ -73,7 +74,8 @@ fn fill_row(d: &Diagrams, f: Ref, table: &mut Table, row: u32, point: &mut [bool
     ensures begins { take table.old.inputs point.new ≡ take table.old.inputs point.old }
     ensures inputs { table.new.inputs ≡ table.old.inputs }
     ensures outputs { table.new.outputs ≡ table.old.outputs }
-    ensures row { IsLeastRow d.now.store.vars (truth_of d.now.store f.0) table.new.outputs (take table.new.inputs point.old) (row_of table.new row) }
+    ensures row { IsLeastRow d.now.store.vars (truth_of d.now.store f.0) table.new.outputs
+        (take table.new.inputs point.old) (row_of table.new row) }
     ensures others { (other : ℕ) → other < row → row_of table.new other ≡ row_of table.old other }
 {
     let inputs = table.inputs() as usize;

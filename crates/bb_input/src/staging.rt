@@ -44,7 +44,8 @@ pub fn make_prefix(alloc: Global, pair: &Pair, nodes: u32, cache: u32) -> Result
     requires cache_least { 1 ≤ cache }
     requires cache_most { cache ≤ 1048576 }
     ensures made { IfOk result (IsPrefix pair.now.spec pair.now.imp) }
-    ensures nodes { IsErrOf result RungFault.Nodes → HasMoreThan (IsBeadOfAny (input_functions pair.now.spec pair.now.imp)) nodes }
+    ensures nodes { IsErrOf result RungFault.Nodes
+        → HasMoreThan (IsBeadOfAny (input_functions pair.now.spec pair.now.imp)) nodes }
     ensures within { HasMoreThan (IsBeadOfAny (input_functions pair.now.spec pair.now.imp)) nodes → OnOk result ⊥ }
 {
     laws::making();
@@ -67,7 +68,8 @@ fn input_diagrams(
     requires pins { pins ≡ pin_count pair.now.imp.boxes }
     requires vars { pins + inputs ≡ d.store.vars }
     ensures made { IfOk result (IsPrefix pair.now.spec pair.now.imp) }
-    ensures makes { IfOk result (λ made. Makes d.store made.diagrams.store (input_functions pair.now.spec pair.now.imp)) }
+    ensures makes { IfOk result (λ made.
+        Makes d.store made.diagrams.store (input_functions pair.now.spec pair.now.imp)) }
     ensures nodes { IsErrOf result RungFault.Nodes → AreTooMany d.store (input_functions pair.now.spec pair.now.imp) }
 {
     laws::making();

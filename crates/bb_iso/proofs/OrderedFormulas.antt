@@ -5,7 +5,7 @@ use Rattle.std.proofs.lemmas.Bool.{cases_lt}
 use Rattle.bb_net.specs.declared.cell.Cell.{Cell}
 use Rattle.bb_net.specs.declared.loose.LooseCell.{LooseCell}
 use Rattle.bb_net.specs.declared.loose.LooseCell.TheVariants as loose
-use Rattle.bb_net.specs.Loose.{LooseList, IsLoose, loose_at, operands}
+use Rattle.bb_net.specs.Loose.{LooseList, IsLoose, loose_at, operand_places}
 use Rattle.bb_net.specs.Netlists.{Netlist, Pins, cell_at, ReadsBefore, IsNetlist}
 use Rattle.bb_net.specs.Orders.{IsNoCopy, IsCopySource, IsMoved, IsOrderOf}
 use Rattle.bb_iso.specs.Laws.Formulas.{Formula, Not, And, Or, Xor, Mux, BoxOut, cell_formula, formula_at}
@@ -32,7 +32,7 @@ one_place numbers apart b c here there same = elim (cases_lt b c) [
 
 module _ (numbers : List ℕ) (apart : AllPairs ◌≢◌ numbers) (to : ℕ → ℕ) (inputs count place : ℕ) (old new : List Pins) (at w : ℕ → Formula) where
   -- what meets the equation of a cell is the formula of the moved cell, where that is so for its operands, which precede it
-  formula_moved : (c : LooseCell) (d : Cell) (f : Formula) → IsFormulaOf numbers at c f → IsMoved to numbers c d → ReadsBefore inputs new place d → All (λ k. k < count) (operands old c)
+  formula_moved : (c : LooseCell) (d : Cell) (f : Formula) → IsFormulaOf numbers at c f → IsMoved to numbers c d → ReadsBefore inputs new place d → All (λ k. k < count) (operand_places old c)
       → ((k : ℕ) → k < count → to k < place → at k ≡ w (to k)) → f ≡ cell_formula w d
   formula_moved (loose.Const b) d f is m read there same = is ∙ ap (cell_formula w) (sym m)
   formula_moved (loose.Input i) d f is m read there same = is ∙ ap (cell_formula w) (sym m)
@@ -60,7 +60,7 @@ module _ (numbers : List ℕ) (apart : AllPairs ◌≢◌ numbers) (to : ℕ →
   formula_moved (loose.Copy p) d f is m read there same = absurd m
 
   -- and the formula of the moved cell meets the equation
-  formula_back : (c : LooseCell) (d : Cell) (f : Formula) → f ≡ cell_formula w d → IsMoved to numbers c d → All (λ k. k < count) (operands old c) → ((k : ℕ) → k < count → at k ≡ w (to k)) → IsFormulaOf numbers at c f
+  formula_back : (c : LooseCell) (d : Cell) (f : Formula) → f ≡ cell_formula w d → IsMoved to numbers c d → All (λ k. k < count) (operand_places old c) → ((k : ℕ) → k < count → at k ≡ w (to k)) → IsFormulaOf numbers at c f
   formula_back (loose.Const b) d f is m there same = is ∙ ap (cell_formula w) m
   formula_back (loose.Input i) d f is m there same = is ∙ ap (cell_formula w) m
   formula_back (loose.Not a) d f is m there same = is ∙ ap (cell_formula w) m ∙ ap Not (sym (same a (there 0 0 (omega arith))))
@@ -116,7 +116,7 @@ module _ (l : LooseList) (net : Netlist) (numbers : List ℕ) (list : IsLoose l)
   is_solution same k h = elim (copy_or_kept (loose_at l k)) [
     | inl copy ↦
         let p = copy.0 in
-        let low : p < length l.cells = subst (λ c. All (λ j. j < length l.cells) (operands l.boxes c)) copy.1 (list.there k h) 0 0 (omega arith) in
+        let low : p < length l.cells = subst (λ c. All (λ j. j < length l.cells) (operand_places l.boxes c)) copy.1 (list.there k h) 0 0 (omega arith) in
         subst (λ c. IsFormulaOf numbers at c (at k)) (sym copy.1) (same k h ∙ ap (formula_at net.cells) (o.copies k p h copy.1) ∙ sym (same p low))
     | inr keep ↦
         formula_back numbers o.numbers_apart o.to net.inputs (length l.cells) (o.to k) l.boxes net.boxes at (formula_at net.cells) (loose_at l k) (cell_at net.cells (o.to k)) (at k) (same k h ∙ formula_at-cell net kept.ordered (o.to k) (o.there k h)) (o.moved k h keep) (list.there k h) same

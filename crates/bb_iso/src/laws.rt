@@ -1,6 +1,8 @@
 //! Laws of isomorphic netlists. Each function has a law as its contract and does nothing.
 
-ghost use Rattle.bb_iso.specs.Laws.{FormulasAreOfCells, IsomorphismIsMutual, IsomorphicNetsHaveCells, IsomorphicCellsHaveOneBit, IsomorphicCellsAreKnownTheSame, RearrangedStayIsomorphic};
+ghost use Rattle.bb_iso.specs.Laws.{FormulasAreOfCells, IsomorphismIsMutual, IsomorphicNetsHaveCells};
+ghost use Rattle.bb_iso.specs.Laws.{IsomorphicCellsHaveOneBit, IsomorphicCellsAreKnownTheSame};
+ghost use Rattle.bb_iso.specs.Laws.{RearrangedStayIsomorphic};
 ghost use Rattle.bb_iso.specs.Laws.LooseFormulas.{OrderKeepsFormulas};
 
 use bb_net::{tern_exists, value_exists};

@@ -5,12 +5,12 @@ use Rattle.bb_outside.specs.Counts.{IsRead, Reads}
 use Rattle.bb_frontend.specs.declared.limit.TheConstants.{READ_LIMIT}
 use Rattle.bb_make.specs.Adders.{made_imp, made_spec}
 use Rattle.bb_args.specs.Requests.{MadePair, Refutation, requested_made_pair, requested_refutation}
-use Rattle.bb_args.specs.Laws.{WordsRequestOnce}
+use Rattle.bb_args.specs.Laws.{WordsRequestAtMostOne}
 use Rattle.bb_ladder.specs.Calls.{Call}
 use Rattle.bb_verdict.specs.declared.requested.TextComparison.{TextComparison}
 use Rattle.bb_ladder.specs.Answers.{PairRequest, AfterSpec, ImpUnread, ImpLong, BothRead, OfFiles, SpecUnread, SpecLong, SpecRead, MayAnswer, Usage, Comparing, Making, Refuting, AreHeldBytes, pair_request_of}
 use Rattle.bb_ladder.specs.MadePairs.{request_for}
-use Rattle.bb_ladder.specs.CallRefusals.{IsCallRefusal, OfWords, OfComparison, OfMadePair, OfRefutation, IsFilesRefusal, OfSpecLength, OfImpLength, OfTexts, AreReported, AreReportedOf, CallRefusalsAreOne, RefusalsAreReported, RefusedCallsAreReported}
+use Rattle.bb_ladder.specs.CallRefusals.{IsCallRefusal, OfWords, OfComparison, OfMadePair, OfRefutation, IsFilesRefusal, OfSpecLength, OfImpLength, OfTexts, AreReadsKnown, AreReadsKnownOf, CallRefusalsAreOne, RefusalsAreReported, RefusedCallsAreReported}
 use Rattle.bb_frontend.specs.RefusalLines.{refusal_line}
 use Rattle.bb_ladder.specs.Refutations.{CheckLaws, Checks, Faulty, IsCheckRefusal}
 use Rattle.bb_ladder.specs.Sources.{AreBytes, IsFirstFile, MayHaveFailed, TextSource}
@@ -45,7 +45,7 @@ module _ (judged : List ℕ → List ℕ → ℕ → List ℕ → Type 0) (refus
   spec_refusal between spec bytes gave there g short c d =
       subst (λ z. length z < READ_LIMIT) (given_whole from bytes spec (given_first holds first second from before between after spec bytes gave there g c d) short) short
 
-  pub files_refusal : AreReportedOf from holds before after first second → OfFiles judged holds first second before after 2 line → IsFilesRefusal refuses from holds before after first second line
+  pub files_refusal : AreReadsKnownOf from holds before after first second → OfFiles judged holds first second before after 2 line → IsFilesRefusal refuses from holds before after first second line
   files_refusal reported (SpecUnread c s t) = absurd (omega (arith, s))
   files_refusal (spec, there, rest) (SpecLong bytes g full c s t) = OfSpecLength spec there (given_long from bytes spec (given_alone holds first second from before after spec bytes there g c) full) t
   files_refusal (spec, there, rest) (SpecRead bytes between g short c (ImpUnread d s t)) = absurd (omega (arith, s))
@@ -68,7 +68,7 @@ refusals_are_reported pairs laws call from line (Refuting f requests files) repo
 
 -- the same of a status that is 2
 pub reported_at_two : RefusalsAreReported → (call : Call) (from : TextSource) (status : ℕ) (line : List ℕ)
-    → MayAnswer call status line → status ≡ 2 → AreReported call from → IsCallRefusal call from line
+    → MayAnswer call status line → status ≡ 2 → AreReadsKnown call from → IsCallRefusal call from line
 reported_at_two law call from status line may two reported = law call from line (subst (λ n. MayAnswer call n line) two may) reported
 
 -- two refusals of the same files are one
@@ -161,7 +161,7 @@ check_one laws first second line other is also = (laws.stays_refused first secon
 
 -- the refusal of words that ask nothing, or for a comparison of files, a made pair or a refutation
 
-module _ (once : WordsRequestOnce) (call : Call) (from : TextSource) (line : List ℕ) where
+module _ (once : WordsRequestAtMostOne) (call : Call) (from : TextSource) (line : List ℕ) where
   words_refused : pair_request_of call.words ≡ None → requested_made_pair call.words ≡ None → requested_refutation call.words ≡ None → IsCallRefusal call from line → line ≡ codes "refused usage\n"
   words_refused none no_pair neither (OfWords also unmade nor is) = is
   words_refused none no_pair neither (OfComparison q requests refusal) = absurd (requests_no_comparison q (pair_request_of call.words) none requests)
@@ -188,7 +188,7 @@ module _ (once : WordsRequestOnce) (call : Call) (from : TextSource) (line : Lis
   refutation_refused f requests (OfRefutation g also refusal) =
       subst (λ (z : Refutation). IsFilesRefusal IsCheckRefusal from call.holds call.before call.after z.cnf z.adds line) (same_refutation g f (sym also ∙ requests)) refusal
 
-pub refused_calls_are_reported : WordsRequestOnce → CheckLaws → RefusedAreAnsweredOnce → RefusedCallsAreReported
+pub refused_calls_are_reported : WordsRequestAtMostOne → CheckLaws → RefusedAreAnsweredOnce → RefusedCallsAreReported
 refused_calls_are_reported once laws answered call from status text line (Usage none no_pair neither same s t) refused calm = (s, t ∙ sym (words_refused once call from line none no_pair neither refused))
 refused_calls_are_reported once laws answered call from status text line (Comparing q requests files) refused calm =
     files_reported (Judges q.requested) (IsPairRefusal q.requested) (pair_reported answered q.requested) from call.holds q.spec q.imp call.before call.after line status text calm (comparison_refused once call from line q requests refused) files
@@ -198,7 +198,7 @@ refused_calls_are_reported once laws answered call from status text line (Making
 refused_calls_are_reported once laws answered call from status text line (Refuting f requests files) refused calm =
     files_reported Checks IsCheckRefusal (λ first second reported n check_result checks is. laws.stays_refused first second n check_result reported checks is) from call.holds f.cnf f.adds call.before call.after line status text calm (refutation_refused once call from line f requests refused) files
 
-pub call_refusals_are_one : WordsRequestOnce → CheckLaws → RefusalsAreOne → CallRefusalsAreOne
+pub call_refusals_are_one : WordsRequestAtMostOne → CheckLaws → RefusalsAreOne → CallRefusalsAreOne
 call_refusals_are_one once laws one call from line other refused also = by (pair_request_of call.words) refl (requested_made_pair call.words) refl (requested_refutation call.words) refl
   where
     by : (o : Option PairRequest) → pair_request_of call.words ≡ o → (p : Option MadePair) → requested_made_pair call.words ≡ p → (r : Option Refutation) → requested_refutation call.words ≡ r → line ≡ other

@@ -9,7 +9,7 @@ use Rattle.bb_cnf.specs.Clauses.{Formula}
 use Rattle.bb_cnf.specs.declared.clauses.Lit.{Lit}
 use Rattle.bb_make.specs.Adders.{made_imp, made_spec}
 use Rattle.bb_args.specs.Requests.{Refutation, requested_made_pair, requested_refutation}
-use Rattle.bb_args.specs.Laws.{WordsRequestOnce}
+use Rattle.bb_args.specs.Laws.{WordsRequestAtMostOne}
 use Rattle.bb_ladder.specs.Answers.{PairRequest, AfterSpec, ImpUnread, ImpLong, BothRead, OfFiles, SpecUnread, SpecLong, SpecRead, MayAnswer, Usage, Comparing, Making, Refuting, AreRefutationTexts, AreTexts, FileTexts, MadeTexts, AreHeldBytes, pair_request_of}
 use Rattle.bb_ladder.specs.MadePairs.{JudgesMade, request_for}
 use Rattle.bb_ladder.specs.Refutations.{AreRead, CheckLaws, Checks, ReportsWhether}
@@ -40,7 +40,7 @@ module _ (judged : List ℕ → List ℕ → ℕ → List ℕ → Type 0) (spec 
   files_answered status text (SpecRead bytes between g short c a) = after_answered between bytes status text g short c a
 
 -- the same of a comparison
-module _ (once : WordsRequestOnce) (P : TextComparison → List ℕ → List ℕ → Type 0) (S : ℕ → Type 0) (answered : (requested : TextComparison) (spec imp : List ℕ) (status : ℕ) (text : List ℕ) → Judges requested spec imp status text → P requested spec imp → S status)
+module _ (once : WordsRequestAtMostOne) (P : TextComparison → List ℕ → List ℕ → Type 0) (S : ℕ → Type 0) (answered : (requested : TextComparison) (spec imp : List ℕ) (status : ℕ) (text : List ℕ) → Judges requested spec imp status text → P requested spec imp → S status)
     (requested : TextComparison) (spec imp : List ℕ) (spec_short : length spec < READ_LIMIT) (imp_short : length imp < READ_LIMIT) (is : P requested spec imp) where
   words_answered : (call : Call) (from : TextSource) (status : ℕ) (text : List ℕ) → AreTexts call from requested spec imp → (MayHaveFailed from call.before call.after → ⊥)
       → MayAnswer call status text → S status
@@ -57,18 +57,18 @@ module _ (once : WordsRequestOnce) (P : TextComparison → List ℕ → List ℕ
       answered (request_for m.fill m.options) (made_spec m.n) (made_imp m.n) status of_m.0 of_m.1 (subst (λ z. P (request_for m.fill m.options) (made_spec m.n) z) y (subst (λ z. P (request_for m.fill m.options) z imp) x (subst (λ z. P z spec imp) a is)))
   words_answered call from status text (MadeTexts m makes a x y) calm (Refuting f e files) = absurd (once.not_made_and_refuted call.words m f makes e)
 
-pub decided_sound : WordsRequestOnce → DecidedAreAnswered → (requested : TextComparison) (spec imp : List ℕ) → length spec < READ_LIMIT → length imp < READ_LIMIT → AreDecided requested spec imp
+pub decided_sound : WordsRequestAtMostOne → DecidedAreAnswered → (requested : TextComparison) (spec imp : List ℕ) → length spec < READ_LIMIT → length imp < READ_LIMIT → AreDecided requested spec imp
     → (call : Call) (from : TextSource) (status : ℕ) (text : List ℕ) → AreTexts call from requested spec imp → (MayHaveFailed from call.before call.after → ⊥)
     → MayAnswer call status text → (status ≡ 0) ⊎ (status ≡ 1)
 decided_sound once = words_answered once AreDecided (λ status. (status ≡ 0) ⊎ (status ≡ 1))
 
-pub open_complete : WordsRequestOnce → StayingOpenAreAnswered → (requested : TextComparison) (spec imp : List ℕ) → length spec < READ_LIMIT → length imp < READ_LIMIT → AreStayingOpen requested spec imp
+pub open_complete : WordsRequestAtMostOne → StayingOpenAreAnswered → (requested : TextComparison) (spec imp : List ℕ) → length spec < READ_LIMIT → length imp < READ_LIMIT → AreStayingOpen requested spec imp
     → (call : Call) (from : TextSource) (status : ℕ) (text : List ℕ) → AreTexts call from requested spec imp → (MayHaveFailed from call.before call.after → ⊥)
     → MayAnswer call status text → status ≡ 3
 open_complete once = words_answered once AreStayingOpen (λ status. status ≡ 3)
 
 -- and of a refutation
-pub refuted_sound : WordsRequestOnce → CheckLaws → (f : Refutation) (first second : List ℕ) (formula : Formula) (adds : List (List Lit)) → length first < READ_LIMIT → length second < READ_LIMIT → AreRead first second formula adds
+pub refuted_sound : WordsRequestAtMostOne → CheckLaws → (f : Refutation) (first second : List ℕ) (formula : Formula) (adds : List (List Lit)) → length first < READ_LIMIT → length second < READ_LIMIT → AreRead first second formula adds
     → (call : Call) (from : TextSource) (status : ℕ) (text : List ℕ) → AreRefutationTexts call from f first second → (MayHaveFailed from call.before call.after → ⊥)
     → MayAnswer call status text → ReportsWhether formula adds status
 refuted_sound once laws f first second formula adds short also read call from status text texts calm (Usage none no_pair neither c s t) = absurd (requests_no_refutation f (requested_refutation call.words) neither texts.requests)

@@ -4,10 +4,10 @@ use Rattle.bb_outside.specs.Counts.{FileRead, Reads}
 use Rattle.bb_frontend.specs.declared.limit.TheConstants.{READ_LIMIT}
 use Rattle.bb_make.specs.Adders.{made_imp, made_spec}
 use Rattle.bb_args.specs.Requests.{Refutation, requested_refutation}
-use Rattle.bb_args.specs.Laws.{WordsRequestOnce}
+use Rattle.bb_args.specs.Laws.{WordsRequestAtMostOne}
 use Rattle.bb_ladder.specs.Calls.{Call}
 use Rattle.bb_ladder.specs.Answers.{PairRequest, ImpUnread, ImpLong, BothRead, OfFiles, SpecUnread, SpecLong, SpecRead, MayAnswer, Usage, Comparing, Making, Refuting, FileTexts, MadeTexts, IsVerdict, pair_request_of}
-use Rattle.bb_ladder.specs.CallRefusals.{AreReportedOf}
+use Rattle.bb_ladder.specs.CallRefusals.{AreReadsKnownOf}
 use Rattle.bb_ladder.specs.GivenTexts.{AnsweredHaveGiven, Checked, Compared, HaveTexts}
 use Rattle.bb_ladder.specs.MadePairs.{request_for}
 use Rattle.bb_ladder.specs.Refutations.{Checks}
@@ -32,7 +32,7 @@ module _ (judged : List ℕ → List ℕ → ℕ → List ℕ → Type 0) (holds
   files_gave is (SpecRead bytes between g short c (BothRead other h low d j)) =
       (bytes, other, (earlier, known, reported_after_two before between after first second (Some bytes) (Some other) earlier c d known))
 
-  pub files_reported_of : status ≡ 2 → OfFiles judged holds first second before after status text → AreReportedOf Given holds before after first second
+  pub files_reported_of : status ≡ 2 → OfFiles judged holds first second before after status text → AreReadsKnownOf Given holds before after first second
   files_reported_of two (SpecUnread c s t) = absurd (no_unread status two s)
   files_reported_of two (SpecLong bytes g full c s t) =
       (bytes, ([], (earlier, known, reported_after_one before after first (Some bytes) earlier c known)), λ low. absurd (not_less (length bytes) READ_LIMIT full low))
@@ -44,7 +44,7 @@ module _ (judged : List ℕ → List ℕ → ℕ → List ℕ → Type 0) (holds
       let were : AreBytes Given holds before after first second bytes other = (earlier, known, reported_after_two before between after first second (Some bytes) (Some other) earlier c d known) in
       (bytes, (read_of second other ∷ [], were), λ low. (other, were))
 
-module _ (once : WordsRequestOnce) (call : Call) (status : ℕ) (text : List ℕ) (earlier : List FileRead) (known : call.before.reported ≡ Some earlier) where
+module _ (once : WordsRequestAtMostOne) (call : Call) (status : ℕ) (text : List ℕ) (earlier : List FileRead) (known : call.before.reported ≡ Some earlier) where
   texts_given : MayAnswer call status text → IsVerdict status → HaveTexts call
   texts_given (Usage none no_pair neither same s t) is = absurd (no_refusal status is s)
   texts_given (Comparing q requests files) is =
@@ -55,21 +55,21 @@ module _ (once : WordsRequestOnce) (call : Call) (status : ℕ) (text : List ℕ
       let gave = files_gave Checks call.holds f.cnf f.adds call.before call.after status text earlier known is files in
       Checked f gave.0 gave.1 (record { requests = requests; bytes = gave.2 })
 
-  comparison_reported : status ≡ 2 → MayAnswer call status text → (q : PairRequest) → pair_request_of call.words ≡ Some q → AreReportedOf Given call.holds call.before call.after q.spec q.imp
+  comparison_reported : status ≡ 2 → MayAnswer call status text → (q : PairRequest) → pair_request_of call.words ≡ Some q → AreReadsKnownOf Given call.holds call.before call.after q.spec q.imp
   comparison_reported two (Usage none no_pair neither same s t) q requests = absurd (requests_no_comparison q (pair_request_of call.words) none requests)
   comparison_reported two (Comparing p also files) q requests =
-      subst (λ (z : PairRequest). AreReportedOf Given call.holds call.before call.after z.spec z.imp) (same_question p q (sym also ∙ requests)) (files_reported_of (Judges p.requested) call.holds p.spec p.imp call.before call.after status text earlier known two files)
+      subst (λ (z : PairRequest). AreReadsKnownOf Given call.holds call.before call.after z.spec z.imp) (same_question p q (sym also ∙ requests)) (files_reported_of (Judges p.requested) call.holds p.spec p.imp call.before call.after status text earlier known two files)
   comparison_reported two (Making m makes quiet judges) q requests = absurd (never_files_and_made once call.words q m requests makes)
   comparison_reported two (Refuting f also files) q requests = absurd (never_both once call.words q f requests also)
 
-  refutation_reported : status ≡ 2 → MayAnswer call status text → (f : Refutation) → requested_refutation call.words ≡ Some f → AreReportedOf Given call.holds call.before call.after f.cnf f.adds
+  refutation_reported : status ≡ 2 → MayAnswer call status text → (f : Refutation) → requested_refutation call.words ≡ Some f → AreReadsKnownOf Given call.holds call.before call.after f.cnf f.adds
   refutation_reported two (Usage none no_pair neither same s t) f requests = absurd (requests_no_refutation f (requested_refutation call.words) neither requests)
   refutation_reported two (Comparing q also files) f requests = absurd (never_both once call.words q f also requests)
   refutation_reported two (Making m makes quiet judges) f requests = absurd (once.not_made_and_refuted call.words m f makes requests)
   refutation_reported two (Refuting g also files) f requests =
-      subst (λ (z : Refutation). AreReportedOf Given call.holds call.before call.after z.cnf z.adds) (same_refutation g f (sym also ∙ requests)) (files_reported_of Checks call.holds g.cnf g.adds call.before call.after status text earlier known two files)
+      subst (λ (z : Refutation). AreReadsKnownOf Given call.holds call.before call.after z.cnf z.adds) (same_refutation g f (sym also ∙ requests)) (files_reported_of Checks call.holds g.cnf g.adds call.before call.after status text earlier known two files)
 
-pub answered_have_given : WordsRequestOnce → AnsweredHaveGiven
+pub answered_have_given : WordsRequestAtMostOne → AnsweredHaveGiven
 answered_have_given once call status text earlier may known = record {
   verdict = texts_given once call status text earlier known may;
   refusal = λ two. record {

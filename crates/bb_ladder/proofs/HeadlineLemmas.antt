@@ -9,7 +9,7 @@ use Rattle.bb_frontend.specs.declared.limit.TheConstants.{READ_LIMIT}
 use Rattle.bb_verdict.specs.declared.requested.TextComparison.{TextComparison}
 use Rattle.bb_make.specs.Adders.{made_imp, made_spec}
 use Rattle.bb_args.specs.Requests.{MadePair, Refutation, Request, requested, requested_made_pair, requested_refutation}
-use Rattle.bb_args.specs.Laws.{WordsRequestOnce}
+use Rattle.bb_args.specs.Laws.{WordsRequestAtMostOne}
 use Rattle.bb_ladder.specs.Answers.{AnswersSpeakOfTexts, PairRequest, AfterSpec, ImpUnread, ImpLong, BothRead, OfFiles, SpecUnread, SpecLong, SpecRead, MayAnswer, Usage, Comparing, Making, Refuting, AreRefutationTexts, AreTexts, FileTexts, MadeTexts, AreHeldBytes, IsReport, IsVerdict, pair_request, pair_request_of}
 use Rattle.bb_ladder.specs.Calls.{Call}
 use Rattle.bb_ladder.specs.MadePairs.{JudgesMade, request_for, head_by, head_of, made_head, made_text}
@@ -25,7 +25,7 @@ pub same_question : (a b : PairRequest) → Some a ≡ Some b → a ≡ b
 same_question a b e = cc
 
 -- no words ask for both
-pub never_both : WordsRequestOnce → (words : List (List ℕ)) (q : PairRequest) (f : Refutation) → pair_request_of words ≡ Some q → requested_refutation words ≡ Some f → ⊥
+pub never_both : WordsRequestAtMostOne → (words : List (List ℕ)) (q : PairRequest) (f : Refutation) → pair_request_of words ≡ Some q → requested_refutation words ≡ Some f → ⊥
 never_both once words q f requests refutes = by (requested words) refl requests
   where
     no : None ≡ Some q → ⊥
@@ -35,7 +35,7 @@ never_both once words q f requests refutes = by (requested words) refl requests
     by None e none = no none
     by (Some r) e some = once.not_both words r f e refutes
 
-pub never_files_and_made : WordsRequestOnce → (words : List (List ℕ)) (q : PairRequest) (m : MadePair) → pair_request_of words ≡ Some q → requested_made_pair words ≡ Some m → ⊥
+pub never_files_and_made : WordsRequestAtMostOne → (words : List (List ℕ)) (q : PairRequest) (m : MadePair) → pair_request_of words ≡ Some q → requested_made_pair words ≡ Some m → ⊥
 never_files_and_made once words q m requests makes = by (requested words) refl requests
   where
     no : None ≡ Some q → ⊥
@@ -55,7 +55,7 @@ pub same_pair : (a b : MadePair) → Some a ≡ Some b → a ≡ b
 same_pair a b e = cc
 
 -- before the report of files there is nothing
-no_head : WordsRequestOnce → (words : List (List ℕ)) (q : PairRequest) (text : List ℕ) → pair_request_of words ≡ Some q → text ≡ head_of words ++ text
+no_head : WordsRequestAtMostOne → (words : List (List ℕ)) (q : PairRequest) (text : List ℕ) → pair_request_of words ≡ Some q → text ≡ head_of words ++ text
 no_head once words q text requests = by (requested_made_pair words) refl
   where
     by : (o : Option MadePair) → requested_made_pair words ≡ o → text ≡ head_by o ++ text
@@ -118,7 +118,7 @@ module _ (judged : List ℕ → List ℕ → ℕ → List ℕ → Type 0) (so : 
       after_so from holds first second before between after spec imp other text status both g short c a is
 
 -- the same of a comparison, of files or of a made pair
-module _ (once : WordsRequestOnce) (so : TextComparison → List ℕ → List ℕ → List ℕ → Type 0) (n : ℕ) (not_refused : n ≡ 2 → ⊥) (not_unread : n ≡ 4 → ⊥)
+module _ (once : WordsRequestAtMostOne) (so : TextComparison → List ℕ → List ℕ → List ℕ → Type 0) (n : ℕ) (not_refused : n ≡ 2 → ⊥) (not_unread : n ≡ 4 → ⊥)
     (judged : (requested : TextComparison) (spec imp : List ℕ) (status : ℕ) (text : List ℕ) → Judges requested spec imp status text → status ≡ n → so requested spec imp text) where
   made_so : (words : List (List ℕ)) (status : ℕ) (text : List ℕ) (known m : MadePair) → JudgesMade known status text → requested_made_pair words ≡ Some m → known ≡ m → status ≡ n
       → IsReport so words (request_for m.fill m.options) (made_spec m.n) (made_imp m.n) text
@@ -145,7 +145,7 @@ module _ (once : WordsRequestOnce) (so : TextComparison → List ℕ → List �
   answer_so call from status text requested spec imp (Refuting f e files) is (MadeTexts m makes a x y) = absurd (once.not_made_and_refuted call.words m f makes e)
 
 -- and of a refutation
-module _ (once : WordsRequestOnce) (so : List ℕ → List ℕ → List ℕ → Type 0) (n : ℕ) (not_refused : n ≡ 2 → ⊥) (not_unread : n ≡ 4 → ⊥)
+module _ (once : WordsRequestAtMostOne) (so : List ℕ → List ℕ → List ℕ → Type 0) (n : ℕ) (not_refused : n ≡ 2 → ⊥) (not_unread : n ≡ 4 → ⊥)
     (checked : (first second : List ℕ) (status : ℕ) (text : List ℕ) → Checks first second status text → status ≡ n → so first second text) where
   refutation_so : (call : Call) (from : TextSource) (status : ℕ) (text : List ℕ) (f : Refutation) (first second : List ℕ) → MayAnswer call status text → status ≡ n
       → AreRefutationTexts call from f first second → so first second text
@@ -169,7 +169,7 @@ no_failure status (inl (inr one)) four = omega (arith, one, four)
 no_failure status (inr three) four = omega (arith, three, four)
 
 -- what each status says of the texts of a call
-module _ (once : WordsRequestOnce) (fit : AnsweredFit) (finish : RepairsFinish) (refute : ErrorsRefute) (show : ErrorsAreShown) (leave : OpenAnswersLeaveOpen)
+module _ (once : WordsRequestAtMostOne) (fit : AnsweredFit) (finish : RepairsFinish) (refute : ErrorsRefute) (show : ErrorsAreShown) (leave : OpenAnswersLeaveOpen)
     (reports : OpenAnswersAreReports) where
   pub answers_speak : AnswersSpeakOfTexts
   answers_speak call from status text requested spec imp may texts = record {
@@ -187,11 +187,11 @@ module _ (once : WordsRequestOnce) (fit : AnsweredFit) (finish : RepairsFinish) 
   }
 
 -- with --rup what is written is the answer to the two texts
-pub yes_sound : WordsRequestOnce → CheckLaws → (call : Call) (from : TextSource) (status : ℕ) (text : List ℕ) (f : Refutation) (first second : List ℕ) → MayAnswer call status text → status ≡ 0
+pub yes_sound : WordsRequestAtMostOne → CheckLaws → (call : Call) (from : TextSource) (status : ℕ) (text : List ℕ) (f : Refutation) (first second : List ℕ) → MayAnswer call status text → status ≡ 0
     → AreRefutationTexts call from f first second → (text ≡ codes "rup yes\n") × Refutes first second
 yes_sound once laws = refutation_so once (λ first second text. (text ≡ codes "rup yes\n") × Refutes first second) 0 (λ e. omega (arith, e)) (λ e. omega (arith, e)) laws.yes
 
-pub no_sound : WordsRequestOnce → CheckLaws → (call : Call) (from : TextSource) (status : ℕ) (text : List ℕ) (f : Refutation) (first second : List ℕ) → MayAnswer call status text → status ≡ 1
+pub no_sound : WordsRequestAtMostOne → CheckLaws → (call : Call) (from : TextSource) (status : ℕ) (text : List ℕ) (f : Refutation) (first second : List ℕ) → MayAnswer call status text → status ≡ 1
     → AreRefutationTexts call from f first second → (n : ℕ) × (text ≡ no_line n) × FailsAt first second n
 no_sound once laws = refutation_so once (λ first second text. (n : ℕ) × (text ≡ no_line n) × FailsAt first second n) 1 (λ e. omega (arith, e)) (λ e. omega (arith, e)) laws.no
 
@@ -246,7 +246,7 @@ none_counted call status text (Making m e quiet judges) small = ap (λ (r : Read
 none_counted call status text (Refuting f e files) small = files_gave_bytes Checks call.holds f.cnf f.adds call.before call.after status text files small
 
 -- of a made pair none is reported
-pub made_is_read : WordsRequestOnce → (m : MadePair) (call : Call) (status : ℕ) (text : List ℕ) → requested_made_pair call.words ≡ Some m → MayAnswer call status text → status ≡ 4 → ⊥
+pub made_is_read : WordsRequestAtMostOne → (m : MadePair) (call : Call) (status : ℕ) (text : List ℕ) → requested_made_pair call.words ≡ Some m → MayAnswer call status text → status ≡ 4 → ⊥
 made_is_read once m call status text makes (Usage none no_pair neither c s t) four = omega (arith, s, four)
 made_is_read once m call status text makes (Comparing q e files) four = never_files_and_made once call.words q m e makes
 made_is_read once m call status text makes (Making known e quiet judges) four = never_unread (request_for known.fill known.options) (made_spec known.n) (made_imp known.n) status judges.0 judges.1 four
@@ -260,7 +260,7 @@ files_never_open laws holds first second before after status text (SpecRead spec
 files_never_open laws holds first second before after status text (SpecRead spec between g short c (ImpLong imp h l d s t)) three = omega (arith, s, three)
 files_never_open laws holds first second before after status text (SpecRead spec between g short c (BothRead imp h low d j)) three = (laws.small spec imp status text j).0 three
 
-pub open_compares : WordsRequestOnce → CheckLaws → (call : Call) (status : ℕ) (text : List ℕ) → MayAnswer call status text → status ≡ 3
+pub open_compares : WordsRequestAtMostOne → CheckLaws → (call : Call) (status : ℕ) (text : List ℕ) → MayAnswer call status text → status ≡ 3
     → requested_refutation call.words ≡ None
 open_compares once laws call status text (Usage none no_pair neither c s t) three = neither
 open_compares once laws call status text (Refuting f e files) three = absurd (files_never_open laws call.holds f.cnf f.adds call.before call.after status text files three)

@@ -3,7 +3,7 @@ use Rattle.std.proofs.Common.{◌≡◌, ◌⊎◌, ℕ, List, refl, arith, inl,
 use Rattle.bb_outside.specs.Counts.{Reads, Rose}
 use Rattle.bb_outside.specs.Inside.QuietFiles.{ReadFiles, holds_of}
 use Rattle.bb_outside.specs.Inside.MemFiles.{text_under}
-use Rattle.bb_ladder.specs.CallRefusals.{AreReported}
+use Rattle.bb_ladder.specs.CallRefusals.{AreReadsKnown}
 use Rattle.bb_ladder.specs.Sources.{Given, Held, MayHaveFailed, TextSource}
 
 -- a count that stays 0 did not rise
@@ -16,7 +16,7 @@ never_failed Given before after zero still failed = failed
 
 -- it is known what is held of any file
 pub all_held : (words : List (List ℕ)) (files : ReadFiles) (before after : Reads)
-    → AreReported (record { words = words; holds = holds_of files; before = before; after = after }) Held
+    → AreReadsKnown (record { words = words; holds = holds_of files; before = before; after = after }) Held
 all_held words files before after = record {
   comparison = λ q requests. (text_under files.files q.spec, refl, λ short. (text_under files.files q.imp, (refl, refl)));
   refutation = λ f requests. (text_under files.files f.cnf, refl, λ short. (text_under files.files f.adds, (refl, refl)));

@@ -27,10 +27,10 @@ ok_err a b r x y = no (sym x ∙ y)
 
 -- texts that are read are not refused
 read_unrefused : (first second line : List ℕ) (formula : Formula) (adds : List (List Lit)) → AreRead first second formula adds → IsCheckRefusal first second line → ⊥
-read_unrefused first second line formula adds read (OfFormula fault reports t) = ok_err formula fault (dimacs_of first) read.reports_formula reports
+read_unrefused first second line formula adds read (OfFormula fault reports t) = ok_err formula fault (dimacs_of first) read.reads_formula reports
 read_unrefused first second line formula adds read (OfAdditions other fault reports wrong t) =
-    let same : other ≡ formula = ok_same other formula (dimacs_of first) reports read.reports_formula in
-    ok_err adds fault (additions_of second formula.vars) read.reports_additions (subst (λ (z : Formula). additions_of second z.vars ≡ Err fault) same wrong)
+    let same : other ≡ formula = ok_same other formula (dimacs_of first) reports read.reads_formula in
+    ok_err adds fault (additions_of second formula.vars) read.reads_additions (subst (λ (z : Formula). additions_of second z.vars ≡ Err fault) same wrong)
 
 -- they have one refusal
 one_refusal : (first second line other : List ℕ) → IsCheckRefusal first second line → IsCheckRefusal first second other → line ≡ other
@@ -44,11 +44,11 @@ one_refusal first second line other (OfAdditions f a x w t) (OfAdditions g b y v
 
 -- and are read once
 same_formula : (first second : List ℕ) (f g : Formula) (a b : List (List Lit)) → AreRead first second f a → AreRead first second g b → f ≡ g
-same_formula first second f g a b x y = ok_same f g (dimacs_of first) x.reports_formula y.reports_formula
+same_formula first second f g a b x y = ok_same f g (dimacs_of first) x.reads_formula y.reads_formula
 
 same_adds : (first second : List ℕ) (f g : Formula) (a b : List (List Lit)) → AreRead first second f a → AreRead first second g b → a ≡ b
 same_adds first second f g a b x y =
-    ok_same a b (additions_of second f.vars) x.reports_additions (subst (λ (z : Formula). additions_of second z.vars ≡ Ok b) (sym (same_formula first second f g a b x y)) y.reports_additions)
+    ok_same a b (additions_of second f.vars) x.reads_additions (subst (λ (z : Formula). additions_of second z.vars ≡ Ok b) (sym (same_formula first second f g a b x y)) y.reads_additions)
 
 module _ (laws : AdditionsLaws) where
   -- what is reported of additions is one
@@ -81,7 +81,7 @@ module _ (laws : AdditionsLaws) where
       with_formula : (formula : Formula) → dimacs_of first ≡ Ok formula → (r : Result (List (List Lit)) RupFault) → additions_of second formula.vars ≡ r → (status : ℕ) × (text : List ℕ) × Checks first second status text
       with_formula formula e (Err fault) g = (2, refusal (codes "rup") (rup_words fault), Faulty (OfAdditions formula fault e g refl) refl)
       with_formula formula e (Ok adds) g =
-          let t = reports_some formula.clauses adds in (t.0, t.1, Checked formula adds (record { reports_formula = e; reports_additions = g }) t.2)
+          let t = reports_some formula.clauses adds in (t.0, t.1, Checked formula adds (record { reads_formula = e; reads_additions = g }) t.2)
 
       by : (r : Result Formula RupFault) → dimacs_of first ≡ r → (status : ℕ) × (text : List ℕ) × Checks first second status text
       by (Err fault) e = (2, refusal (codes "cnf") (rup_words fault), Faulty (OfFormula fault e refl) refl)
@@ -139,7 +139,7 @@ additions_refused formula second fault may (Err e) s t never = s
 
 pub checked : {E : Type 0} (formula : Formula) (second : List ℕ) (adds : List (List Lit)) → additions_of second formula.vars ≡ Ok adds → (result : Result Answer E)
     → IfOk result (λ a. IsRefutationReport formula.clauses adds a.status a.report.items) → IfOk result (λ a. (first : List ℕ) → dimacs_of first ≡ Ok formula → Checks first second a.status a.report.items)
-checked formula second adds read (Ok a) is_report = λ first reports. Checked formula adds (record { reports_formula = reports; reports_additions = read }) is_report
+checked formula second adds read (Ok a) is_report = λ first reports. Checked formula adds (record { reads_formula = reports; reads_additions = read }) is_report
 checked formula second adds read (Err e) h = h
 
 pub no_reported : {E : Type 0} (clauses adds : List (List Lit)) (n : ℕ) (result : Result Answer E) → IsFirstWithout clauses adds n

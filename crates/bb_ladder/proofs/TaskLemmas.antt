@@ -2,7 +2,7 @@
 use Rattle.std.proofs.Common.{◌≡◌, ℕ, List, Some, None, ap, option_map}
 use Rattle.bb_options.specs.Rungs.{AreBounds}
 use Rattle.bb_args.specs.Requests.{RequestNothing, MadePair, requested, requested_made_pair, request_of}
-use Rattle.bb_args.specs.Laws.{WordsRequestOnce}
+use Rattle.bb_args.specs.Laws.{WordsRequestAtMostOne}
 use Rattle.bb_args.specs.declared.requested.FileComparison.{FileComparison}
 use Rattle.bb_ladder.specs.Calls.{Call}
 use Rattle.bb_ladder.specs.Answers.{OfFiles, MayAnswer, Comparing, Refuting, pair_request, pair_request_of}
@@ -29,6 +29,6 @@ no_question words nothing = ap (option_map pair_request) nothing.comparison
 pub ruleset questions_requested = (requests_comparison, comparison_bounded, no_question)
 
 -- words that ask for something of two files ask for no made pair
-pub task_or_pair : WordsRequestOnce → (words : List (List ℕ)) (first second : List ℕ) (task : Task) (m : MadePair) → RequestTask words first second task → requested_made_pair words ≡ Some m → ⊥
+pub task_or_pair : WordsRequestAtMostOne → (words : List (List ℕ)) (first second : List ℕ) (task : Task) (m : MadePair) → RequestTask words first second task → requested_made_pair words ≡ Some m → ⊥
 task_or_pair once words first second (Comparison requested) m requests makes = never_files_and_made once words (record { spec = first; imp = second; requested = requested }) m requests makes
 task_or_pair once words first second Refutation m requests makes = once.not_made_and_refuted words m (record { cnf = first; adds = second }) makes requests

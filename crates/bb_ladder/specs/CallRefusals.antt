@@ -40,16 +40,16 @@ pub data IsCallRefusal (call : Call) (from : TextSource) (line : List ℕ) : Typ
       → IsCallRefusal call from line
 
 -- it is known what is read of two files: of the first, and of the second where the first is not too long
-abbrev pub AreReportedOf : TextSource → (List ℕ → Option (List ℕ)) → Reads → Reads → List ℕ → List ℕ → Type 0
-AreReportedOf from holds before after first second = (spec : List ℕ) × IsFirstFile from holds before after first spec
+abbrev pub AreReadsKnownOf : TextSource → (List ℕ → Option (List ℕ)) → Reads → Reads → List ℕ → List ℕ → Type 0
+AreReadsKnownOf from holds before after first second = (spec : List ℕ) × IsFirstFile from holds before after first spec
     × (length spec < READ_LIMIT → (imp : List ℕ) × AreBytes from holds before after first second spec imp)
 
 -- it is known what is read of the files that the words name, if they name any
-pub record AreReported (call : Call) (from : TextSource) : Type 0 where
+pub record AreReadsKnown (call : Call) (from : TextSource) : Type 0 where
   pub comparison : (q : PairRequest) → pair_request_of call.words ≡ Some q
-      → AreReportedOf from call.holds call.before call.after q.spec q.imp
+      → AreReadsKnownOf from call.holds call.before call.after q.spec q.imp
   pub refutation : (f : Refutation) → requested_refutation call.words ≡ Some f
-      → AreReportedOf from call.holds call.before call.after f.cnf f.adds
+      → AreReadsKnownOf from call.holds call.before call.after f.cnf f.adds
 
 -- laws that a reader expects
 
@@ -61,7 +61,7 @@ CallRefusalsAreOne = (call : Call) (from : TextSource) (line other : List ℕ)
 -- status 2 reports the first refusal of the call
 abbrev pub RefusalsAreReported : Type 0
 RefusalsAreReported = (call : Call) (from : TextSource) (line : List ℕ)
-    → MayAnswer call 2 line → AreReported call from → IsCallRefusal call from line
+    → MayAnswer call 2 line → AreReadsKnown call from → IsCallRefusal call from line
 
 -- and where a call has one and no read may have failed, it is reported
 abbrev pub RefusedCallsAreReported : Type 0

@@ -5,7 +5,7 @@ use Rattle.bb_outside.specs.Counts.{FileRead}
 use Rattle.bb_verdict.specs.declared.requested.TextComparison.{TextComparison}
 use Rattle.bb_ladder.specs.Answers.{AreRefutationTexts, AreTexts, IsVerdict, MayAnswer}
 use Rattle.bb_ladder.specs.Calls.{Call}
-use Rattle.bb_ladder.specs.CallRefusals.{AreReported}
+use Rattle.bb_ladder.specs.CallRefusals.{AreReadsKnown}
 use Rattle.bb_ladder.specs.Sources.{Given}
 use Rattle.bb_args.specs.Requests.{Refutation}
 
@@ -18,7 +18,7 @@ pub data HaveTexts (call : Call) : Type 0 where
 -- is a refusal
 pub record HaveGiven (call : Call) (status : ℕ) : Type 0 where
   pub verdict : IsVerdict status → HaveTexts call
-  pub refusal : status ≡ 2 → AreReported call Given
+  pub refusal : status ≡ 2 → AreReadsKnown call Given
 
 -- The law of it: where the reads are listed, they have.
 abbrev pub AnsweredHaveGiven : Type 0

@@ -3,7 +3,7 @@ pub mod Sources
 pub mod MadePairs
 pub mod Calls
 pub mod Answers
-pub mod Clauses
+pub mod ContractForms
 pub mod CallRefusals
 pub mod GivenTexts
 pub mod Inside

@@ -26,8 +26,8 @@ no_line n = codes "rup no " ++ decimal n ++ codes "\n"
 
 -- the first text is this formula, and the second these additions over its variables
 pub record AreRead (first second : List ℕ) (formula : Formula) (adds : List (List Lit)) : Type 0 where
-  pub reports_formula : dimacs_of first ≡ Ok formula
-  pub reports_additions : additions_of second formula.vars ≡ Ok adds
+  pub reads_formula : dimacs_of first ≡ Ok formula
+  pub reads_additions : additions_of second formula.vars ≡ Ok adds
 
 -- it is the line of the first fault of the two texts: that of the first text comes before that of the second
 pub data IsCheckRefusal (first second line : List ℕ) : Type 0 where

@@ -10,7 +10,7 @@ ghost use Rattle.bb_args.specs.Requests.{MadePair, requested_made_pair, requeste
 ghost use Rattle.bb_ladder.specs.Answers.{IsVerdict, MayAnswer};
 ghost use Rattle.bb_ladder.specs.CallRefusals.{IsCallRefusal};
 ghost use Rattle.bb_ladder.specs.Calls.{called};
-ghost use Rattle.bb_ladder.specs.Clauses.{OfRefutations, OfTexts, OfWholeRefutations, OfWholeTexts};
+ghost use Rattle.bb_ladder.specs.ContractForms.{OfRefutations, OfTexts, OfWholeRefutations, OfWholeTexts};
 ghost use Rattle.bb_ladder.specs.Refutations.{AreRead, FailsAt, Refutes, ReportsWhether};
 ghost use Rattle.bb_verdict.specs.OpenReports.{IsOpenReport};
 ghost use Rattle.bb_verdict.specs.ShownMistakes.{AreShown};

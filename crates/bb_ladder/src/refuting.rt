@@ -7,7 +7,8 @@ ghost use Rattle.bb_rup.specs.Dimacs.{dimacs_of};
 ghost use Rattle.bb_rup.specs.declared.fault.RupFault.{RupFault};
 ghost use Rattle.bb_frontend.specs.declared.limit.TheConstants.{READ_LIMIT};
 ghost use Rattle.bb_frontend.specs.Refusals.{refusal};
-ghost use Rattle.bb_ladder.specs.Refutations.{CheckLaws, Checks, FailsAt, IsCheckRefusal, Refutes, IsRefutationReport, no_line};
+ghost use Rattle.bb_ladder.specs.Refutations.{CheckLaws, Checks, FailsAt, IsCheckRefusal, Refutes, IsRefutationReport};
+ghost use Rattle.bb_ladder.specs.Refutations.{no_line};
 ghost use Rattle.bb_ladder.specs.Refutations.{rup_words};
 
 use bb_bits::NoMemory;

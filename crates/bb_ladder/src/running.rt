@@ -13,9 +13,10 @@ ghost use Rattle.bb_cnf.specs.declared.clauses.Lit.{Lit};
 ghost use Rattle.bb_args.specs.Requests.{MadePair, requested_made_pair, requested_refutation};
 ghost use Rattle.bb_frontend.specs.declared.limit.TheConstants.{READ_LIMIT};
 ghost use Rattle.bb_ladder.specs.Answers.{AfterSpec, IsVerdict, MayAnswer, OfFiles};
-ghost use Rattle.bb_ladder.specs.CallRefusals.{AreReported, IsCallRefusal};
+ghost use Rattle.bb_ladder.specs.CallRefusals.{AreReadsKnown, IsCallRefusal};
 ghost use Rattle.bb_ladder.specs.Calls.{called};
-ghost use Rattle.bb_ladder.specs.Clauses.{OfRefutations, OfTexts, OfWholeRefutations, OfWholeTexts, Reports, Writes};
+ghost use Rattle.bb_ladder.specs.ContractForms.{OfRefutations, OfTexts, OfWholeRefutations, OfWholeTexts, Reports};
+ghost use Rattle.bb_ladder.specs.ContractForms.{Writes};
 ghost use Rattle.bb_ladder.specs.GivenTexts.{HaveGiven};
 ghost use Rattle.bb_ladder.specs.Refutations.{AreRead, FailsAt, Refutes, ReportsWhether, no_line};
 ghost use Rattle.bb_verdict.specs.OpenReports.{IsOpenReport};
@@ -58,9 +59,9 @@ fn read_imp<F: Files>(
 ) -> Result<Answer, NoMemory>
     requires short { length spec.now < READ_LIMIT }
     requires bounds { IsBounded pair_request.now.task }
-    ensures answer { IfOk result (λ answer.
-        AfterSpec (judged_by pair_request.now.task) (F.holds files.old pair_request.now.imp.now) pair_request.now.imp.now
-        (F.reads files.old) (F.reads files.new) spec.now answer.status answer.report.items) }
+    ensures answer { IfOk result (λ answer. AfterSpec (judged_by pair_request.now.task)
+        (F.holds files.old pair_request.now.imp.now) pair_request.now.imp.now (F.reads files.old)
+        (F.reads files.new) spec.now answer.status answer.report.items) }
     ensures never_falls { (F.reads files.old).faults ≤ (F.reads files.new).faults }
     ensures kept { (n : List ℕ) → F.holds files.new n ≡ F.holds files.old n }
 {
@@ -202,8 +203,10 @@ pub fn run<F: Files, K: Sink>(alloc: Global, words: &[String], files: &mut F, ou
 
     // Status 2 names the first thing for which the call is refused: its words, the length of a file, or what is wrong
     // with the two texts.
-    ensures refused { result ≡ 2 → (from : TextSource) → AreReported (called words.now F.holds F.reads files.old files.new) from
-        → Writes K.written out.old out.new (IsCallRefusal (called words.now F.holds F.reads files.old files.new) from) }
+    ensures refused { result ≡ 2 → (from : TextSource)
+        → AreReadsKnown (called words.now F.holds F.reads files.old files.new) from
+        → Writes K.written out.old out.new (IsCallRefusal (called words.now F.holds F.reads files.old files.new)
+        from) }
 
     // And where the call is to be refused and no read may have failed, that is the answer, unless memory runs out.
     ensures stays_refused { (from : TextSource) (line : List ℕ)

@@ -1,7 +1,12 @@
 //! Laws of cuts, tokens and numbers. The definitions are relations on a whole text, so that there is one cut, that it
 //! exists or fails, and that reading from the start finds it are facts of their own; no code runs here.
 
-ghost use Rattle.bb_lex.specs.Laws.{CutsAreOne, TokensAreOne, BadPlacesAreOne, BadLinesAreOne, CutOrBad, NotBoth, TokensOrBadLine, NotTokensAndBadLine, TokensAreInText, TokensRise, LowBitsSpell, EndsAtFirstPlace, TokensEndPastTheirPlaces, TokensAreFew, NamesArePrintable, SizedTokensSayBits, SizedBitsAreOne, SizedBitsFit, PlainValuesFit, ReadBitsAreMeant, ReadPiecesAreLongest, LongestPiecesAreRead, NoneIsReadWhereNoneBegins};
+ghost use Rattle.bb_lex.specs.Laws.{CutsAreOne, TokensAreOne, BadPlacesAreOne, BadLinesAreOne, CutOrBad, NotBoth};
+ghost use Rattle.bb_lex.specs.Laws.{TokensOrBadLine, NotTokensAndBadLine, TokensAreInText, TokensRise, LowBitsSpell};
+ghost use Rattle.bb_lex.specs.Laws.{EndsAtFirstPlace, TokensEndPastTheirPlaces, TokensAreFew, NamesArePrintable};
+ghost use Rattle.bb_lex.specs.Laws.{SizedTokensSayBits, SizedBitsAreOne, SizedBitsFit, PlainValuesFit};
+ghost use Rattle.bb_lex.specs.Laws.{ReadBitsAreMeant, ReadPiecesAreLongest, LongestPiecesAreRead};
+ghost use Rattle.bb_lex.specs.Laws.{NoneIsReadWhereNoneBegins};
 
 /// The longest piece at each place leaves no choice.
 pub fn cuts_are_one()

@@ -2,7 +2,8 @@
 //! and directives are pieces too, without a token, so that the pieces joined are the text and a place where none begins
 //! is a fault. Lines are counted as pieces are passed.
 
-ghost use Rattle.std.specs.Prelude.{◌≡◌, ◌⊎◌, ◌<◌, ◌≤◌, ◌^◌, ◌==◌, ◌++◌, List, length, count_by, OnOk, IfOk, IfErr, MatchResult};
+ghost use Rattle.std.specs.Prelude.{◌≡◌, ◌⊎◌, ◌<◌, ◌≤◌, ◌^◌, ◌==◌, ◌++◌, List, length, count_by, OnOk, IfOk, IfErr};
+ghost use Rattle.std.specs.Prelude.{MatchResult};
 ghost use Rattle.bb_lex.specs.declared.token.Token.{Token};
 ghost use Rattle.bb_lex.specs.declared.fault.LexFault.{LexFault};
 ghost use Rattle.bb_lex.specs.Cut.{AreTokens};

@@ -7,7 +7,8 @@ ghost use Rattle.std.specs.List.{list_all};
 ghost use Rattle.std.specs.Char.{digit_value, is_digit};
 ghost use Rattle.bb_lex.specs.Numbers.{number, radix_of};
 ghost use Rattle.bb_lex.specs.Inside.Found.{seen};
-ghost use Rattle.bb_lex.specs.Inside.Numbers.{is_digit_run, value_fits, size_fits, after_digits, after_base, number_at, joined, joined_low, plain_after, sized_after, based_value};
+ghost use Rattle.bb_lex.specs.Inside.Numbers.{is_digit_run, value_fits, size_fits, after_digits, after_base, number_at};
+ghost use Rattle.bb_lex.specs.Inside.Numbers.{joined, joined_low, plain_after, sized_after, based_value};
 
 use crate::class::{Class, past, run};
 use crate::piece::Found;

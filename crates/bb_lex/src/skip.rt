@@ -3,7 +3,8 @@
 //! the text goes wrong at its first byte. Its content is not parsed, since no attribute changes what a netlist means.
 
 ghost use Rattle.std.specs.Prelude.{◌≡◌, option_copied, codes, ◌||◌, bytes_eq};
-ghost use Rattle.bb_lex.specs.Inside.Skips.{after_pair, after_quote, after_slash, after_part, after_close, after_parts, after_attribute, after_comment, is_directive, after_directive};
+ghost use Rattle.bb_lex.specs.Inside.Skips.{after_pair, after_quote, after_slash, after_part, after_close, after_parts};
+ghost use Rattle.bb_lex.specs.Inside.Skips.{after_attribute, after_comment, is_directive, after_directive};
 
 use crate::class::{Class, past, run};
 

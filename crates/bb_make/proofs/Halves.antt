@@ -3,7 +3,7 @@ use Rattle.std.proofs.Common.{◌≡◌, ◌≢◌, ◌∙◌, ◌≤◌, ◌<�
 use Rattle.std.proofs.lemmas.Grind.{common_steps}
 use Rattle.std.specs.List.{flat_map, range_with_len}
 use Rattle.std.proofs.lemmas.List.Concat.{flat_map-append}
-use Rattle.bb_make.specs.Adders.{adder, cell, end_line, full_adder, header, hole, inputs, made_spec, outputs, stage_line}
+use Rattle.bb_make.specs.Adders.{adder, cell, end_line, full_adder, header, hole, inputs, made_spec, adder_outputs, stage_line}
 use Rattle.bb_make.specs.Laws.{AreOneWordApart, MadePairsAreOneWordApart}
 
 range-plus : (a m k : ℕ) → range_with_len a (m + k) ≡ range_with_len a m ++ range_with_len (a + m) k
@@ -43,7 +43,7 @@ own_cell k = let e : (k == k) ≡ true = grind arith in rw e refl
 
 module _ (n k m : ℕ) (long : n ≡ k + suc m) where
   abbrev top : List ℕ
-  top = header (codes "add") (inputs n) (outputs n)
+  top = header (codes "add") (inputs n) (adder_outputs n)
 
   abbrev full : ℕ → List ℕ
   full i = stage_line (codes "fa") n i

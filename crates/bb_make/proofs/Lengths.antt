@@ -4,7 +4,7 @@ use Rattle.std.proofs.lemmas.Grind.{common_steps}
 use Rattle.std.specs.List.{flat_map, range_with_len}
 use Rattle.std.proofs.lemmas.List.{length-append}
 use Rattle.std.proofs.lemmas.Fmt.{length-decimal-le}
-use Rattle.bb_make.specs.Adders.{adder, carry, cell, stage_connections, end_line, full_adder, header, hole, inputs, made_spec, numbered, outputs, places, stage_line}
+use Rattle.bb_make.specs.Adders.{adder, carry, cell, stage_connections, end_line, full_adder, header, hole, inputs, made_spec, numbered, adder_outputs, bit_numbers, stage_line}
 use Rattle.bb_make.specs.Commas.{comma_separated}
 use Rattle.bb_make.proofs.Joined.{inputs_by_place, one_sum, outputs_by_place, ports_joined, two_bits}
 
@@ -28,10 +28,10 @@ by_range f c a zero short = omega arith
 by_range f c a (suc m) short =
     omega (arith, length-append (f a) (flat_map f (range_with_len (a + 1) m)), short a (omega arith), by_range f c (a + 1) m (λ i within. short i (omega (arith, within))))
 
-by_places : (f : ℕ → List ℕ) (c n : ℕ) → ((i : ℕ) → i < n → length (f i) ≤ c) → length (flat_map f (places n)) ≤ n * c
+by_places : (f : ℕ → List ℕ) (c n : ℕ) → ((i : ℕ) → i < n → length (f i) ≤ c) → length (flat_map f (bit_numbers n)) ≤ n * c
 by_places f c zero short = omega arith
 by_places f c (suc n) short =
-    omega (arith, length-append (f n) (flat_map f (places n)), short n (omega arith), by_places f c n (λ i within. short i (omega (arith, within))))
+    omega (arith, length-append (f n) (flat_map f (bit_numbers n)), short n (omega arith), by_places f c n (λ i within. short i (omega (arith, within))))
 
 five : (a b c d e : List ℕ) → length (comma_separated (a ∷ b ∷ c ∷ d ∷ e ∷ [])) ≡ length a + length b + length c + length d + length e + 4
 five a b c d e = grind (arith, common_steps)
@@ -77,30 +77,30 @@ sum-length i small = omega (arith, length-append (numbered (codes "s") i) (codes
 inputs-length : (n : ℕ) → n ≤ 256 → length (comma_separated (inputs n)) ≤ 2562
 inputs-length n small =
     let each = by_places two_bits 10 n (λ i within. two-length i (omega (arith, within, small))) in
-    omega (arith, small, ap length (inputs_by_place n), length-append (flat_map two_bits (places n)) (codes "ci"), each)
+    omega (arith, small, ap length (inputs_by_place n), length-append (flat_map two_bits (bit_numbers n)) (codes "ci"), each)
 
-outputs-length : (n : ℕ) → n ≤ 256 → length (comma_separated (outputs n)) ≤ 1282
+outputs-length : (n : ℕ) → n ≤ 256 → length (comma_separated (adder_outputs n)) ≤ 1282
 outputs-length n small =
     let each = by_places one_sum 5 n (λ i within. sum-length i (omega (arith, within, small))) in
-    omega (arith, small, ap length (outputs_by_place n), length-append (flat_map one_sum (places n)) (codes "co"), each)
+    omega (arith, small, ap length (outputs_by_place n), length-append (flat_map one_sum (bit_numbers n)) (codes "co"), each)
 
-ports-length : (n : ℕ) → n ≤ 256 → length (comma_separated (inputs n ++ outputs n)) ≤ 3845
+ports-length : (n : ℕ) → n ≤ 256 → length (comma_separated (inputs n ++ adder_outputs n)) ≤ 3845
 ports-length n small =
-    omega (arith, ap length (ports_joined n), shape (comma_separated (inputs n)) (codes ",") (comma_separated (outputs n)), inputs-length n small, outputs-length n small)
+    omega (arith, ap length (ports_joined n), shape (comma_separated (inputs n)) (codes ",") (comma_separated (adder_outputs n)), inputs-length n small, outputs-length n small)
   where
     shape : (a b c : List ℕ) → length (a ++ b ++ c) ≡ length a + length b + length c
     shape a b c = grind (arith, common_steps)
 
-header-length : (n : ℕ) → n ≤ 256 → length (header (codes "add") (inputs n) (outputs n)) ≤ 8000
+header-length : (n : ℕ) → n ≤ 256 → length (header (codes "add") (inputs n) (adder_outputs n)) ≤ 8000
 header-length n small =
-    let line = codes "module " ++ codes "add" ++ codes "(" ++ comma_separated (inputs n ++ outputs n) ++ codes ");\n" in
+    let line = codes "module " ++ codes "add" ++ codes "(" ++ comma_separated (inputs n ++ adder_outputs n) ++ codes ");\n" in
     omega (
       arith,
       ports-length n small,
       inputs-length n small,
       outputs-length n small,
-      five_parts (codes "module ") (codes "add") (codes "(") (comma_separated (inputs n ++ outputs n)) (codes ");\n"),
-      seven_parts line (codes "input ") (comma_separated (inputs n)) (codes ";\n") (codes "output ") (comma_separated (outputs n)) (codes ";\n"),
+      five_parts (codes "module ") (codes "add") (codes "(") (comma_separated (inputs n ++ adder_outputs n)) (codes ");\n"),
+      seven_parts line (codes "input ") (comma_separated (inputs n)) (codes ";\n") (codes "output ") (comma_separated (adder_outputs n)) (codes ";\n"),
     )
   where
     five_parts : (a b c d e : List ℕ) → length (a ++ b ++ c ++ d ++ e) ≡ length a + length b + length c + length d + length e
@@ -119,7 +119,7 @@ adder-length gap n small =
       small,
       header-length n small,
       lines,
-      shape (header (codes "add") (inputs n) (outputs n)) (flat_map (λ i. stage_line (cell gap i) n i) (range_with_len 0 n)) end_line full_adder,
+      shape (header (codes "add") (inputs n) (adder_outputs n)) (flat_map (λ i. stage_line (cell gap i) n i) (range_with_len 0 n)) end_line full_adder,
     )
   where
     shape : (a b c d : List ℕ) → length (a ++ b ++ c ++ d) ≡ length a + length b + length c + length d

@@ -16,17 +16,17 @@ abbrev pub carry : ℕ → ℕ → List ℕ
 carry n i = if i == 0 then codes "ci" else if i == n then codes "co" else numbered (codes "c") i
 
 -- the places of n bits, the highest first
-abbrev pub places : ℕ → List ℕ
-places zero = []
-places (suc i) = i ∷ places i
+abbrev pub bit_numbers : ℕ → List ℕ
+bit_numbers zero = []
+bit_numbers (suc i) = i ∷ bit_numbers i
 
 -- the inputs of the adder: the two numbers interleaved bit by bit, then the carry
 abbrev pub inputs : ℕ → List (List ℕ)
-inputs n = flat_map (λ i. numbered (codes "a") i ∷ numbered (codes "b") i ∷ []) (places n) ++ codes "ci" ∷ []
+inputs n = flat_map (λ i. numbered (codes "a") i ∷ numbered (codes "b") i ∷ []) (bit_numbers n) ++ codes "ci" ∷ []
 
 -- its outputs: the sum, then the carry
-abbrev pub outputs : ℕ → List (List ℕ)
-outputs n = map (numbered (codes "s")) (places n) ++ codes "co" ∷ []
+abbrev pub adder_outputs : ℕ → List (List ℕ)
+adder_outputs n = map (numbered (codes "s")) (bit_numbers n) ++ codes "co" ∷ []
 
 -- the header of a module with these inputs and outputs, which are its ports in this order, and their declarations
 abbrev pub header : List ℕ → List (List ℕ) → List (List ℕ) → List ℕ
@@ -69,7 +69,7 @@ cell (Some gap) i = if i == gap then codes "hole" else codes "fa"
 
 -- the module add with its stages, and the full adder
 abbrev pub adder : Option ℕ → ℕ → List ℕ
-adder gap n = header (codes "add") (inputs n) (outputs n) ++ flat_map (λ i. stage_line (cell gap i) n i) (range_with_len 0 n) ++ end_line ++ full_adder
+adder gap n = header (codes "add") (inputs n) (adder_outputs n) ++ flat_map (λ i. stage_line (cell gap i) n i) (range_with_len 0 n) ++ end_line ++ full_adder
 
 -- the specification: each stage is a full adder
 abbrev pub made_spec : ℕ → List ℕ

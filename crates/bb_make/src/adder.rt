@@ -42,7 +42,8 @@ fn cell(gap: Option<u32>, i: u32) -> &'static str
 }
 
 fn push_stages(text: &mut Vec<u8>, gap: Option<u32>, n: u32) -> Result<(), NoMemory>
-    ensures text { OnOk result (text.new.items ≡ text.old.items ++ flat_map (λ i. stage_line (cell gap i) n i) (range_with_len 0 n)) }
+    ensures text { OnOk result (text.new.items
+        ≡ text.old.items ++ flat_map (λ i. stage_line (cell gap i) n i) (range_with_len 0 n)) }
 {
     for i in 0..n {
         push_stage(text, cell(gap, i), n, i)?;

@@ -1,5 +1,5 @@
 //! The two texts of a made pair. The box is the stage in the middle, so that carries reach it from below and leave it
-//! upwards. That the texts read and fit is tested at seventeen widths from 1 to 256 and not proved, so a caller needs a
+//! upwards. That the texts read and fit is tested at sixteen widths from 1 to 256 and not proved, so a caller needs a
 //! case for a refusal.
 
 ghost use Rattle.std.specs.Prelude.{◌≡◌, ◌≤◌, ◌<◌, length, IfOk};

@@ -3,7 +3,7 @@
 //! width, while one number after the other makes them exponential (Knuth, TAOCP 4A, 7.1.4).
 
 ghost use Rattle.std.specs.Prelude.{◌≡◌, ◌≤◌, ◌++◌, codes, length, OnOk};
-ghost use Rattle.bb_make.specs.Adders.{carry, header, inputs, numbered, outputs};
+ghost use Rattle.bb_make.specs.Adders.{carry, header, inputs, numbered, adder_outputs};
 ghost use Rattle.bb_make.specs.Commas.{comma_separated};
 
 use bb_bits::NoMemory;
@@ -42,7 +42,8 @@ pub fn input_count(n: u32) -> u32
 }
 
 fn push_bits(text: &mut Vec<u8>, i: u32) -> Result<(), NoMemory>
-    ensures text { OnOk result (text.new.items ≡ text.old.items ++ (numbered (codes "a") i ++ codes "," ++ numbered (codes "b") i ++ codes ",")) }
+    ensures text { OnOk result (text.new.items
+        ≡ text.old.items ++ (numbered (codes "a") i ++ codes "," ++ numbered (codes "b") i ++ codes ",")) }
 {
     push_numbered(text, "a", i)?;
     text.extend_from_slice(b",")?;
@@ -70,7 +71,7 @@ fn push_sum(text: &mut Vec<u8>, i: u32) -> Result<(), NoMemory>
 }
 
 fn push_outputs(text: &mut Vec<u8>, n: u32) -> Result<(), NoMemory>
-    ensures text { OnOk result (text.new.items ≡ text.old.items ++ comma_separated (outputs n)) }
+    ensures text { OnOk result (text.new.items ≡ text.old.items ++ comma_separated (adder_outputs n)) }
 {
     for i in (0..n).rev() {
         push_sum(text, i)?;
@@ -81,7 +82,7 @@ fn push_outputs(text: &mut Vec<u8>, n: u32) -> Result<(), NoMemory>
 
 /// Ports are in the order of the header: all inputs and then all outputs, from the highest bit down.
 pub fn push_header(text: &mut Vec<u8>, n: u32) -> Result<(), NoMemory>
-    ensures text { OnOk result (text.new.items ≡ text.old.items ++ header (codes "add") (inputs n) (outputs n)) }
+    ensures text { OnOk result (text.new.items ≡ text.old.items ++ header (codes "add") (inputs n) (adder_outputs n)) }
 {
     text.extend_from_slice(b"module add(")?;
     push_inputs(text, n)?;

@@ -5,7 +5,7 @@ use Rattle.std.proofs.lemmas.List.{length-drop, length-map}
 use Rattle.std.proofs.lemmas.Option.{slice_get-get_or, slice_get_within}
 use Rattle.bb_care.specs.Constrained.{constrained, specification_copies, copy_place, guarded, with_copies}
 use Rattle.bb_care.specs.Laws.{ConstrainedPairsArePairs, HasRoom}
-use Rattle.bb_subst.specs.Embeddings.{moved}
+use Rattle.bb_subst.specs.Embeddings.{renumbered}
 use Rattle.bb_lemmas.proofs.Picked.{one_place}
 use Rattle.bb_net.specs.declared.cell.Cell.TheVariants.{And}
 use Rattle.bb_net.specs.Netlists.{Netlist}
@@ -78,7 +78,7 @@ constrained_small care p a b c d =
     let other = copy_place p.spec p.imp care in
     let others : length (map (λ out. And out other) p.imp.outs) ≡ length p.imp.outs = length-map p.imp.outs (λ out. And out other) in
     let kept = drop (p.spec.inputs + 2) p.spec.cells in
-    let count : length (specification_copies p.spec p.imp) ≡ length kept = length-map kept (moved (copy_place p.spec p.imp)) in (
+    let count : length (specification_copies p.spec p.imp) ≡ length kept = length-map kept (renumbered (copy_place p.spec p.imp)) in (
       omega (arith, a, c, ands, length-append p.spec.cells (map (λ out. And out care) p.spec.outs)),
       omega (
         arith,

@@ -8,7 +8,7 @@ use Rattle.bb_lemmas.proofs.Bits.{same_or_not}
 use Rattle.bb_bits.specs.Names.{same_name}
 use Rattle.bb_net.specs.declared.flat.Reg.{Reg}
 use Rattle.bb_net.specs.Flats.{FlatNet}
-use Rattle.bb_net.specs.CutPoints.{register_texts, clock_text}
+use Rattle.bb_net.specs.CutPoints.{state_texts, clock_text}
 use Rattle.bb_match.specs.Inside.Places.{ArePlaces, text_place}
 use Rattle.bb_match.specs.Refusals.{IsClockedApart, HasSameClock}
 use Rattle.bb_lemmas.proofs.Orders.{less_or_same}
@@ -34,7 +34,7 @@ one_place regs j k q apart lj lk same = elim (less_or_same j k) [
     long = length-map regs (λ r. r.text)
 
 -- the register that is at the place of a text
-place_there : (g : FlatNet) (entries : List (List ℕ × ℕ)) (q : Reg) → ArePlaces (register_texts g) entries → Contains g.regs q
+place_there : (g : FlatNet) (entries : List (List ℕ × ℕ)) (q : Reg) → ArePlaces (state_texts g) entries → Contains g.regs q
     → (text_place entries q.text < length g.regs) × ((get_or g.regs (text_place entries q.text) q).text ≡ q.text)
 place_there g entries q places has =
     let texts = map (λ r. r.text) g.regs in
@@ -45,13 +45,13 @@ place_there g entries q places has =
     (within, sym (get_or-map (λ r. r.text) g.regs (text_place entries q.text) q q.text within) ∙ get_or_from_slice_get texts (text_place entries q.text) q.text q.text got)
 
 -- no register is there
-pub isomorphic_past : (f g : FlatNet) (r : Reg) (entries : List (List ℕ × ℕ)) (regs : List Reg) (k : ℕ) → ArePlaces (register_texts g) entries → regs ≡ g.regs → k ≡ text_place entries r.text → length regs ≤ k → HasSameClock f g r
+pub isomorphic_past : (f g : FlatNet) (r : Reg) (entries : List (List ℕ × ℕ)) (regs : List Reg) (k : ℕ) → ArePlaces (state_texts g) entries → regs ≡ g.regs → k ≡ text_place entries r.text → length regs ≤ k → HasSameClock f g r
 isomorphic_past f g r entries regs k places all at past q has same =
     let there = place_there g entries q places has in
     absurd (omega (arith, past, ap length all, at, subst (λ t. text_place entries t < length g.regs) same there.0))
 
 -- one of another text is there
-pub isomorphic_other : (f g : FlatNet) (r p : Reg) (entries : List (List ℕ × ℕ)) (regs : List Reg) (k : ℕ) → ArePlaces (register_texts g) entries → regs ≡ g.regs → k ≡ text_place entries r.text → p ≡ get_or regs k p → same_name p.text r.text ≡ false
+pub isomorphic_other : (f g : FlatNet) (r p : Reg) (entries : List (List ℕ × ℕ)) (regs : List Reg) (k : ℕ) → ArePlaces (state_texts g) entries → regs ≡ g.regs → k ≡ text_place entries r.text → p ≡ get_or regs k p → same_name p.text r.text ≡ false
     → HasSameClock f g r
 isomorphic_other f g r p entries regs k places all place at off q has same =
     let there = place_there g entries q places has in
@@ -61,7 +61,7 @@ isomorphic_other f g r p entries regs k places all place at off q has same =
     absurd (true≢false (sym ((bytes_eq-Decides p.text r.text).1 is) ∙ off))
 
 -- the one of that text is there
-isomorphic_there : (f g : FlatNet) (r p : Reg) (k : ℕ) → AllPairs ◌≢◌ (register_texts g) → p ≡ get_or g.regs k p → k < length g.regs → p.text ≡ r.text → (p.falling ≡ r.falling) × (clock_text g p ≡ clock_text f r) → HasSameClock f g r
+isomorphic_there : (f g : FlatNet) (r p : Reg) (k : ℕ) → AllPairs ◌≢◌ (state_texts g) → p ≡ get_or g.regs k p → k < length g.regs → p.text ≡ r.text → (p.falling ≡ r.falling) × (clock_text g p ≡ clock_text f r) → HasSameClock f g r
 isomorphic_there f g r p k apart at within is alike q has same =
     let p_at : p ≡ get_or g.regs k q = at ∙ get_or_default g.regs k p q within in
     let one : has.0 ≡ k = one_place g.regs has.0 k q apart has.1 within (ap (λ x. x.text) has.2 ∙ same ∙ sym is ∙ ap (λ x. x.text) p_at) in
@@ -76,7 +76,7 @@ apart_there f g r p k at within is off = (p, (k, within, sym at), is, by (same_o
     by (inl edge) (inr clock) = inr clock
     by (inl edge) (inl clock) = absurd (off (edge, clock))
 
-pub reported_there : (f g : FlatNet) (r p : Reg) (entries : List (List ℕ × ℕ)) (regs : List Reg) (k : ℕ) (b : Bool) → AllPairs ◌≢◌ (register_texts g) → regs ≡ g.regs → p ≡ get_or regs k p → k < length regs → same_name p.text r.text ≡ true
+pub reported_there : (f g : FlatNet) (r p : Reg) (entries : List (List ℕ × ℕ)) (regs : List Reg) (k : ℕ) (b : Bool) → AllPairs ◌≢◌ (state_texts g) → regs ≡ g.regs → p ≡ get_or regs k p → k < length regs → same_name p.text r.text ≡ true
     → (IsTrue b ↔ ((p.falling ≡ r.falling) × (clock_text g p ≡ clock_text f r))) → MatchBool (not b) (IsClockedApart f g r) (HasSameClock f g r)
 reported_there f g r p entries regs k b apart all at within same reported =
     let p_at : p ≡ get_or g.regs k p = at ∙ ap (λ l. get_or l k p) all in

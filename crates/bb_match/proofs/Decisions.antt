@@ -11,7 +11,7 @@ use Rattle.bb_net.specs.declared.flat.Reg.{Reg}
 use Rattle.bb_bits.specs.Closures.{IsFirst}
 use Rattle.bb_net.specs.Flats.{FlatNet, HaveClocks}
 use Rattle.bb_match.specs.declared.fault.MatchFault.{MatchFault}
-use Rattle.bb_net.specs.CutPoints.{register_texts, clock_text}
+use Rattle.bb_net.specs.CutPoints.{state_texts, clock_text}
 use Rattle.bb_match.specs.Refusals.{IsMissing, IsFirstMissing, AreAmong, compared, HasNoClock, IsFirstWithoutClock, IsClockedApart, IsFirstClockedApart, HasSameClock, HaveSameClocks, most_pins, input_and_pin_count, PairCause, Box, Care, SpecInput, SpecOutput, ImpInput, ImpOutput, SpecRegister, ImpRegister, SpecClock, ImpClock, Clocks, Pins, pair_cause_rank, match_fault_of, IsReported, IsAbsent, Fit, IsFirstPairRefusal}
 use Rattle.bb_match.specs.Laws.{FitOrRefused}
 use Rattle.bb_lemmas.proofs.Orders.{less_or_same}
@@ -137,8 +137,8 @@ reported_or_absent care spec imp SpecInput = missing spec.ins imp.ins
 reported_or_absent care spec imp SpecOutput = missing (compared care spec.outs) imp.outs
 reported_or_absent care spec imp ImpInput = missing imp.ins spec.ins
 reported_or_absent care spec imp ImpOutput = missing imp.outs (compared care spec.outs)
-reported_or_absent care spec imp SpecRegister = missing (register_texts spec) (register_texts imp)
-reported_or_absent care spec imp ImpRegister = missing (register_texts imp) (register_texts spec)
+reported_or_absent care spec imp SpecRegister = missing (state_texts spec) (state_texts imp)
+reported_or_absent care spec imp ImpRegister = missing (state_texts imp) (state_texts spec)
 reported_or_absent care spec imp SpecClock = without_clock spec
 reported_or_absent care spec imp ImpClock = without_clock imp
 reported_or_absent care spec imp Clocks = clocked_apart spec imp

@@ -10,7 +10,7 @@ use Rattle.std.proofs.lemmas.Slice.Zip.{AllZip-long}
 use Rattle.indexmap.specs.IndexSet.{insert_key}
 use Rattle.bb_bits.specs.Names.{same_name}
 use Rattle.bb_net.specs.Flats.{PinsGoByModules}
-use Rattle.bb_net.specs.Kinds.{AreNumberedInOrder, AreKinds, FitKinds, shown}
+use Rattle.bb_net.specs.Kinds.{AreNumberedInOrder, AreKinds, FitKinds, representatives}
 use Rattle.bb_net.specs.Laws.KindLaws.{KindsAreOne, KindsGrowAgain, KindsGrowNew, ModulesFit, PlacesAreKinds, PlacesFit}
 use Rattle.bb_net.specs.Netlists.{Pins}
 use Rattle.bb_net.specs.Pairs.{BoxTexts, NamesPins, box_key}
@@ -19,16 +19,16 @@ use Rattle.bb_lemmas.proofs.Members.{none_of}
 -- the kinds of keys, and the keys that they show
 pub record AreKindsSo (keys : List (List ℕ)) (kinds : List ℕ) (seen : List (List ℕ)) : Type 0 where
   pub are : AreKinds keys kinds
-  pub shows : seen ≡ shown kinds keys
+  pub shows : seen ≡ representatives kinds keys
   pub few : length seen ≤ length keys
 
 -- laws of kinds with one key more
 pub record Growth : Type 0 where
   pub again : KindsGrowAgain
   pub new : KindsGrowNew
-  pub shown_again : (kinds : List ℕ) (keys : List (List ℕ)) (kind : ℕ) (key : List ℕ) → length keys ≡ length kinds → Contains kinds kind → shown (kinds ++ kind ∷ []) (keys ++ key ∷ []) ≡ shown kinds keys
-  pub shown_new : (kinds : List ℕ) (keys : List (List ℕ)) (kind : ℕ) (key : List ℕ) → length keys ≡ length kinds → (Contains kinds kind → ⊥) → shown (kinds ++ kind ∷ []) (keys ++ key ∷ []) ≡ shown kinds keys ++ key ∷ []
-  pub counts : (kinds : List ℕ) (keys : List (List ℕ)) (kind : ℕ) → AreNumberedInOrder kinds → length keys ≡ length kinds → (kind < length (shown kinds keys)) ↔ Contains kinds kind
+  pub shown_again : (kinds : List ℕ) (keys : List (List ℕ)) (kind : ℕ) (key : List ℕ) → length keys ≡ length kinds → Contains kinds kind → representatives (kinds ++ kind ∷ []) (keys ++ key ∷ []) ≡ representatives kinds keys
+  pub shown_new : (kinds : List ℕ) (keys : List (List ℕ)) (kind : ℕ) (key : List ℕ) → length keys ≡ length kinds → (Contains kinds kind → ⊥) → representatives (kinds ++ kind ∷ []) (keys ++ key ∷ []) ≡ representatives kinds keys ++ key ∷ []
+  pub counts : (kinds : List ℕ) (keys : List (List ℕ)) (kind : ℕ) → AreNumberedInOrder kinds → length keys ≡ length kinds → (kind < length (representatives kinds keys)) ↔ Contains kinds kind
 
 pub kinds_begin : (keys : List (List ℕ)) (kinds : List ℕ) (seen : List (List ℕ)) → keys ≡ [] → kinds ≡ [] → seen ≡ [] → AreKindsSo keys kinds seen
 kinds_begin [] [] [] a b c = record {
@@ -46,16 +46,16 @@ module _ (growth : Growth) (keys : List (List ℕ)) (kinds : List ℕ) (seen now
 
   grow_again : now ≡ seen → AreKindsSo (keys ++ key ∷ []) (kinds ++ kind ∷ []) now
   grow_again stays = record {
-    are = growth.again keys kinds key kind so.are there (get_or_from_slice_get (shown kinds keys) kind key [] at);
+    are = growth.again keys kinds key kind so.are there (get_or_from_slice_get (representatives kinds keys) kind key [] at);
     shows = stays ∙ so.shows ∙ sym (growth.shown_again kinds keys kind key long ((growth.counts kinds keys kind so.are.ordered long).0 there));
     few = omega (arith, so.few, ap length stays, length-append keys (key ∷ []));
   }
     where
-      at : slice_get (shown kinds keys) kind ≡ Some key
+      at : slice_get (representatives kinds keys) kind ≡ Some key
       at = ap (λ l. slice_get l kind) (sym (stays ∙ so.shows)) ∙ occurs
 
-      there : kind < length (shown kinds keys)
-      there = slice_get_within (shown kinds keys) kind key at
+      there : kind < length (representatives kinds keys)
+      there = slice_get_within (representatives kinds keys) kind key at
 
   grow_new : now ≡ seen ++ key ∷ [] → (Contains seen key → ⊥) → AreKindsSo (keys ++ key ∷ []) (kinds ++ kind ∷ []) now
   grow_new more none = record {
@@ -77,7 +77,7 @@ module _ (growth : Growth) (keys : List (List ℕ)) (kinds : List ℕ) (seen now
         | inr past ↦ omega (arith, past, within, length-append seen (key ∷ []))
       ]
 
-      last : kind ≡ length (shown kinds keys)
+      last : kind ≡ length (representatives kinds keys)
       last = place ∙ ap length so.shows
 
 pub grow : (growth : Growth) (keys : List (List ℕ)) (kinds : List ℕ) (seen now : List (List ℕ)) (key : List ℕ) (kind : ℕ) → AreKindsSo keys kinds seen → now ≡ insert_key same_name seen key

@@ -14,7 +14,7 @@ use Rattle.bb_net.specs.Laws.KindLaws.{KindsAreOne}
 use Rattle.bb_net.specs.Pairs.{NetPair, box_key}
 use Rattle.bb_net.specs.Rearrangements.{IsRearranged, new_place}
 use Rattle.bb_net.specs.Flats.{FlatNet, IsFlat}
-use Rattle.bb_net.specs.CutPoints.{TopInput, State, TopOutput, NextState, register_texts, cut_inputs, cut_outputs}
+use Rattle.bb_net.specs.CutPoints.{TopInput, State, TopOutput, NextState, state_texts, cut_inputs, cut_outputs}
 use Rattle.bb_match.specs.Refusals.{AreAmong, Fit, SpecInput, SpecRegister}
 use Rattle.bb_match.specs.Pairing.{IsPlainPairOf, Picks}
 use Rattle.bb_lemmas.proofs.Apart.{pairs_tail}
@@ -41,12 +41,12 @@ cross_map f g off xs ys = All-map (λ x. All (λ y. x ≢ y) (map g ys)) f xs (�
 
 pub inputs_apart : (f : FlatNet) → IsFlat f → AllPairs ◌≢◌ (cut_inputs f)
 inputs_apart f flat =
-    apart_both (map TopInput f.ins) (map State (register_texts f)) (apart_map TopInput (λ a b e. cc e) f.ins flat.apart.ins) (apart_map State (λ a b e. cc e) (register_texts f) flat.apart.regs) (cross_map TopInput State (λ a b e. cc e) f.ins (register_texts f))
+    apart_both (map TopInput f.ins) (map State (state_texts f)) (apart_map TopInput (λ a b e. cc e) f.ins flat.apart.ins) (apart_map State (λ a b e. cc e) (state_texts f) flat.apart.regs) (cross_map TopInput State (λ a b e. cc e) f.ins (state_texts f))
 
 pub outputs_apart : (f : FlatNet) → IsFlat f → AllPairs ◌≢◌ (cut_outputs f)
 outputs_apart f flat =
-    apart_both (map TopOutput f.outs) (map NextState (register_texts f)) (apart_map TopOutput (λ a b e. cc e) f.outs flat.apart.outs) (apart_map NextState (λ a b e. cc e) (register_texts f) flat.apart.regs)
-    (cross_map TopOutput NextState (λ a b e. cc e) f.outs (register_texts f))
+    apart_both (map TopOutput f.outs) (map NextState (state_texts f)) (apart_map TopOutput (λ a b e. cc e) f.outs flat.apart.outs) (apart_map NextState (λ a b e. cc e) (state_texts f) flat.apart.regs)
+    (cross_map TopOutput NextState (λ a b e. cc e) f.outs (state_texts f))
 
 -- inputs, or outputs, whose texts are among those of another netlist are among its
 
@@ -59,11 +59,11 @@ among_both f g ns ms others more a b =
     All-append (Contains all) (map f ns) (map g ms) (All-map (Contains all) f ns (All-weaker (Contains others) (λ n. Contains all (f n)) (λ n has. Contains-append_left (map f others) (map g more) (f n) (mapped f others n has)) ns a))
     (All-map (Contains all) g ms (All-weaker (Contains more) (λ n. Contains all (g n)) (λ n has. Contains-append_right (map f others) (map g more) (g n) (mapped g more n has)) ms b))
 
-pub inputs_among : (f g : FlatNet) → AreAmong f.ins g.ins → AreAmong (register_texts f) (register_texts g) → All (Contains (cut_inputs g)) (cut_inputs f)
-inputs_among f g = among_both TopInput State f.ins (register_texts f) g.ins (register_texts g)
+pub inputs_among : (f g : FlatNet) → AreAmong f.ins g.ins → AreAmong (state_texts f) (state_texts g) → All (Contains (cut_inputs g)) (cut_inputs f)
+inputs_among f g = among_both TopInput State f.ins (state_texts f) g.ins (state_texts g)
 
-pub outputs_among : (f g : FlatNet) → AreAmong f.outs g.outs → AreAmong (register_texts f) (register_texts g) → All (Contains (cut_outputs g)) (cut_outputs f)
-outputs_among f g = among_both TopOutput NextState f.outs (register_texts f) g.outs (register_texts g)
+pub outputs_among : (f g : FlatNet) → AreAmong f.outs g.outs → AreAmong (state_texts f) (state_texts g) → All (Contains (cut_outputs g)) (cut_outputs f)
+outputs_among f g = among_both TopOutput NextState f.outs (state_texts f) g.outs (state_texts g)
 
 -- so each number is the number of an input
 pub number_found : (spec imp : FlatNet) (numbers : List ℕ) (i : ℕ) → IsFlat spec → Fit None spec imp → Picks (cut_inputs spec) numbers (cut_inputs imp) → i < spec.net.inputs → (j : ℕ) × (slice_get numbers j ≡ Some i)

@@ -15,7 +15,7 @@ use Rattle.bb_net.specs.Pairs.{NetPair, BoxTexts, NamesPins, box_key, pin_count,
 use Rattle.bb_net.specs.Rearrangements.{IsRearranged, new_place}
 use Rattle.bb_net.specs.declared.flat.Reg.{Reg}
 use Rattle.bb_net.specs.Flats.{FlatNet, IsFlat}
-use Rattle.bb_net.specs.CutPoints.{CutInput, TopInput, State, CutOutput, TopOutput, NextState, register_texts, cut_inputs, cut_outputs}
+use Rattle.bb_net.specs.CutPoints.{CutInput, TopInput, State, CutOutput, TopOutput, NextState, state_texts, cut_inputs, cut_outputs}
 use Rattle.bb_match.specs.Refusals.{Box, SpecInput, SpecOutput, ImpInput, SpecRegister, ImpRegister, Fit, Pins as TooManyPins}
 use Rattle.bb_match.specs.Inside.Places.{ArePlaces, text_place}
 use Rattle.bb_match.specs.Pairing.{Picks, IsPlainPairOf, input_text, output_name}
@@ -28,22 +28,22 @@ use Rattle.bb_match.proofs.PickLemmas.{placed, at_prefix, at_back, picks_both, p
 pub input_count : (f : FlatNet) → IsFlat f → length (cut_inputs f) ≡ f.net.inputs
 input_count f flat =
     let a : length (map TopInput f.ins) ≡ length f.ins = length-map f.ins TopInput in
-    let b : length (map State (register_texts f)) ≡ length (register_texts f) = length-map (register_texts f) State in
-    let c : length (register_texts f) ≡ length f.regs = length-map f.regs (λ r. r.text) in
-    omega (arith, a, b, c, length-append (map TopInput f.ins) (map State (register_texts f)), flat.named.inputs)
+    let b : length (map State (state_texts f)) ≡ length (state_texts f) = length-map (state_texts f) State in
+    let c : length (state_texts f) ≡ length f.regs = length-map f.regs (λ r. r.text) in
+    omega (arith, a, b, c, length-append (map TopInput f.ins) (map State (state_texts f)), flat.named.inputs)
 
 pub output_count : (f : FlatNet) → IsFlat f → length (cut_outputs f) ≡ length f.net.outs
 output_count f flat =
     let a : length (map TopOutput f.outs) ≡ length f.outs = length-map f.outs TopOutput in
-    let b : length (map NextState (register_texts f)) ≡ length (register_texts f) = length-map (register_texts f) NextState in
-    let c : length (register_texts f) ≡ length f.regs = length-map f.regs (λ r. r.text) in
-    omega (arith, a, b, c, length-append (map TopOutput f.outs) (map NextState (register_texts f)), flat.named.outputs)
+    let b : length (map NextState (state_texts f)) ≡ length (state_texts f) = length-map (state_texts f) NextState in
+    let c : length (state_texts f) ≡ length f.regs = length-map f.regs (λ r. r.text) in
+    omega (arith, a, b, c, length-append (map TopOutput f.outs) (map NextState (state_texts f)), flat.named.outputs)
 
 pub same_registers : (spec imp : FlatNet) → IsFlat spec → IsFlat imp → Fit None spec imp → length spec.regs ≡ length imp.regs
 same_registers spec imp a b fit =
-    let s : length (register_texts spec) ≡ length spec.regs = length-map spec.regs (λ r. r.text) in
-    let i : length (register_texts imp) ≡ length imp.regs = length-map imp.regs (λ r. r.text) in
-    omega (arith, s, i, one_length (register_texts spec) (register_texts imp) a.apart.regs b.apart.regs (fit SpecRegister) (fit ImpRegister))
+    let s : length (state_texts spec) ≡ length spec.regs = length-map spec.regs (λ r. r.text) in
+    let i : length (state_texts imp) ≡ length imp.regs = length-map imp.regs (λ r. r.text) in
+    omega (arith, s, i, one_length (state_texts spec) (state_texts imp) a.apart.regs b.apart.regs (fit SpecRegister) (fit ImpRegister))
 
 pub same_inputs : (spec imp : FlatNet) → IsFlat spec → IsFlat imp → Fit None spec imp → spec.net.inputs ≡ imp.net.inputs
 same_inputs spec imp a b fit =
@@ -83,37 +83,37 @@ ins_places_fit f entries bound places flat h = place_fits f.ins entries 0 bound 
 pub outs_places_fit : (f : FlatNet) (entries : List (List ℕ × ℕ)) (bound : ℕ) → ArePlaces f.outs entries → IsFlat f → 2000000 < bound → (n : List ℕ) → 0 + text_place entries n < bound
 outs_places_fit f entries bound places flat h = place_fits f.outs entries 0 bound places (omega (arith, outs_below f bound flat h))
 
-pub states_places_fit : (f : FlatNet) (texts : List (List ℕ)) (entries : List (List ℕ × ℕ)) (bound : ℕ) → texts ≡ f.ins → ArePlaces (register_texts f) entries → IsFlat f → 2000000 < bound → (n : List ℕ) → length texts + text_place entries n < bound
+pub states_places_fit : (f : FlatNet) (texts : List (List ℕ)) (entries : List (List ℕ × ℕ)) (bound : ℕ) → texts ≡ f.ins → ArePlaces (state_texts f) entries → IsFlat f → 2000000 < bound → (n : List ℕ) → length texts + text_place entries n < bound
 states_places_fit f texts entries bound e places flat h =
-    let regs : length (register_texts f) ≡ length f.regs = length-map f.regs (λ r. r.text) in
-    place_fits (register_texts f) entries (length texts) bound places (omega (arith, ins_below f bound flat h, regs, ap length e))
+    let regs : length (state_texts f) ≡ length f.regs = length-map f.regs (λ r. r.text) in
+    place_fits (state_texts f) entries (length texts) bound places (omega (arith, ins_below f bound flat h, regs, ap length e))
 
-pub next_places_fit : (f : FlatNet) (texts : List (List ℕ)) (entries : List (List ℕ × ℕ)) (bound : ℕ) → texts ≡ f.outs → ArePlaces (register_texts f) entries → IsFlat f → 2000000 < bound → (n : List ℕ) → length texts + text_place entries n < bound
+pub next_places_fit : (f : FlatNet) (texts : List (List ℕ)) (entries : List (List ℕ × ℕ)) (bound : ℕ) → texts ≡ f.outs → ArePlaces (state_texts f) entries → IsFlat f → 2000000 < bound → (n : List ℕ) → length texts + text_place entries n < bound
 next_places_fit f texts entries bound e places flat h =
-    let regs : length (register_texts f) ≡ length f.regs = length-map f.regs (λ r. r.text) in
-    place_fits (register_texts f) entries (length texts) bound places (omega (arith, outs_below f bound flat h, regs, ap length e))
+    let regs : length (state_texts f) ≡ length f.regs = length-map f.regs (λ r. r.text) in
+    place_fits (state_texts f) entries (length texts) bound places (omega (arith, outs_below f bound flat h, regs, ap length e))
 
 -- inputs of the implementation in the specification, and outputs of the specification in the implementation
 
-pub numbers_picked : (spec imp : FlatNet) (ins regs : List (List ℕ × ℕ)) → ArePlaces spec.ins ins → ArePlaces (register_texts spec) regs → Fit None spec imp
-    → Picks (cut_inputs spec) (map (λ text. 0 + text_place ins text) imp.ins ++ map (λ text. length spec.ins + text_place regs text) (register_texts imp)) (cut_inputs imp)
+pub numbers_picked : (spec imp : FlatNet) (ins regs : List (List ℕ × ℕ)) → ArePlaces spec.ins ins → ArePlaces (state_texts spec) regs → Fit None spec imp
+    → Picks (cut_inputs spec) (map (λ text. 0 + text_place ins text) imp.ins ++ map (λ text. length spec.ins + text_place regs text) (state_texts imp)) (cut_inputs imp)
 numbers_picked spec imp ins regs at_ins at_regs fit =
     let prefix : List CutInput = map TopInput spec.ins in
     let long : length prefix ≡ length spec.ins = length-map spec.ins TopInput in
-    picks_both (cut_inputs spec) (map (λ text. 0 + text_place ins text) imp.ins) (map (λ text. length spec.ins + text_place regs text) (register_texts imp)) (map TopInput imp.ins) (map State (register_texts imp))
-    (placed TopInput (cut_inputs spec) 0 spec.ins ins imp.ins at_ins (at_prefix TopInput spec.ins (map State (register_texts spec))) (fit ImpInput))
-    (placed State (cut_inputs spec) (length spec.ins) (register_texts spec) regs (register_texts imp) at_regs
-    (λ k n e. subst (λ b. slice_get (cut_inputs spec) (b + k) ≡ Some (State n)) long (at_back State prefix (register_texts spec) k n e)) (fit ImpRegister))
+    picks_both (cut_inputs spec) (map (λ text. 0 + text_place ins text) imp.ins) (map (λ text. length spec.ins + text_place regs text) (state_texts imp)) (map TopInput imp.ins) (map State (state_texts imp))
+    (placed TopInput (cut_inputs spec) 0 spec.ins ins imp.ins at_ins (at_prefix TopInput spec.ins (map State (state_texts spec))) (fit ImpInput))
+    (placed State (cut_inputs spec) (length spec.ins) (state_texts spec) regs (state_texts imp) at_regs
+    (λ k n e. subst (λ b. slice_get (cut_inputs spec) (b + k) ≡ Some (State n)) long (at_back State prefix (state_texts spec) k n e)) (fit ImpRegister))
 
-pub outputs_picked : (spec imp : FlatNet) (outs regs : List (List ℕ × ℕ)) → ArePlaces imp.outs outs → ArePlaces (register_texts imp) regs → Fit None spec imp
-    → Picks (cut_outputs imp) (map (λ text. 0 + text_place outs text) spec.outs ++ map (λ text. length imp.outs + text_place regs text) (register_texts spec)) (cut_outputs spec)
+pub outputs_picked : (spec imp : FlatNet) (outs regs : List (List ℕ × ℕ)) → ArePlaces imp.outs outs → ArePlaces (state_texts imp) regs → Fit None spec imp
+    → Picks (cut_outputs imp) (map (λ text. 0 + text_place outs text) spec.outs ++ map (λ text. length imp.outs + text_place regs text) (state_texts spec)) (cut_outputs spec)
 outputs_picked spec imp outs regs at_outs at_regs fit =
     let prefix : List CutOutput = map TopOutput imp.outs in
     let long : length prefix ≡ length imp.outs = length-map imp.outs TopOutput in
-    picks_both (cut_outputs imp) (map (λ text. 0 + text_place outs text) spec.outs) (map (λ text. length imp.outs + text_place regs text) (register_texts spec)) (map TopOutput spec.outs) (map NextState (register_texts spec))
-    (placed TopOutput (cut_outputs imp) 0 imp.outs outs spec.outs at_outs (at_prefix TopOutput imp.outs (map NextState (register_texts imp))) (fit SpecOutput))
-    (placed NextState (cut_outputs imp) (length imp.outs) (register_texts imp) regs (register_texts spec) at_regs
-    (λ k n e. subst (λ b. slice_get (cut_outputs imp) (b + k) ≡ Some (NextState n)) long (at_back NextState prefix (register_texts imp) k n e)) (fit SpecRegister))
+    picks_both (cut_outputs imp) (map (λ text. 0 + text_place outs text) spec.outs) (map (λ text. length imp.outs + text_place regs text) (state_texts spec)) (map TopOutput spec.outs) (map NextState (state_texts spec))
+    (placed TopOutput (cut_outputs imp) 0 imp.outs outs spec.outs at_outs (at_prefix TopOutput imp.outs (map NextState (state_texts imp))) (fit SpecOutput))
+    (placed NextState (cut_outputs imp) (length imp.outs) (state_texts imp) regs (state_texts spec) at_regs
+    (λ k n e. subst (λ b. slice_get (cut_outputs imp) (b + k) ≡ Some (NextState n)) long (at_back NextState prefix (state_texts imp) k n e)) (fit SpecRegister))
 
 -- the places of texts in one list, and then of those in another after it
 abbrev After : List (List ℕ × ℕ) → List (List ℕ × ℕ) → List (List ℕ) → List (List ℕ) → List (List ℕ) → List ℕ
@@ -123,15 +123,15 @@ same_after : (first second : List (List ℕ × ℕ)) (base base' these these' th
 same_after first second base base' these these' those those' b t o =
     ap (λ l. After first second l these those) b ∙ ap (λ l. After first second base' l those) t ∙ ap (λ l. After first second base' these' l) o
 
-pub numbers_made : (spec imp : FlatNet) (ins regs : List (List ℕ × ℕ)) (spec_ins imp_ins reg_texts : List (List ℕ)) (numbers : List ℕ) → ArePlaces spec.ins ins → ArePlaces (register_texts spec) regs → Fit None spec imp
-    → spec_ins ≡ spec.ins → imp_ins ≡ imp.ins → reg_texts ≡ register_texts imp → numbers ≡ map (λ text. 0 + text_place ins text) imp_ins ++ map (λ text. length spec_ins + text_place regs text) reg_texts → Picks (cut_inputs spec) numbers (cut_inputs imp)
+pub numbers_made : (spec imp : FlatNet) (ins regs : List (List ℕ × ℕ)) (spec_ins imp_ins reg_texts : List (List ℕ)) (numbers : List ℕ) → ArePlaces spec.ins ins → ArePlaces (state_texts spec) regs → Fit None spec imp
+    → spec_ins ≡ spec.ins → imp_ins ≡ imp.ins → reg_texts ≡ state_texts imp → numbers ≡ map (λ text. 0 + text_place ins text) imp_ins ++ map (λ text. length spec_ins + text_place regs text) reg_texts → Picks (cut_inputs spec) numbers (cut_inputs imp)
 numbers_made spec imp ins regs spec_ins imp_ins reg_texts numbers at_ins at_regs fit s i r made =
-    subst (λ l. Picks (cut_inputs spec) l (cut_inputs imp)) (sym (made ∙ same_after ins regs spec_ins spec.ins imp_ins imp.ins reg_texts (register_texts imp) s i r)) (numbers_picked spec imp ins regs at_ins at_regs fit)
+    subst (λ l. Picks (cut_inputs spec) l (cut_inputs imp)) (sym (made ∙ same_after ins regs spec_ins spec.ins imp_ins imp.ins reg_texts (state_texts imp) s i r)) (numbers_picked spec imp ins regs at_ins at_regs fit)
 
-pub picks_made : (spec imp : FlatNet) (outs regs : List (List ℕ × ℕ)) (spec_outs imp_outs reg_texts : List (List ℕ)) (picks : List ℕ) → ArePlaces imp.outs outs → ArePlaces (register_texts imp) regs → Fit None spec imp
-    → spec_outs ≡ spec.outs → imp_outs ≡ imp.outs → reg_texts ≡ register_texts spec → picks ≡ map (λ text. 0 + text_place outs text) spec_outs ++ map (λ text. length imp_outs + text_place regs text) reg_texts → Picks (cut_outputs imp) picks (cut_outputs spec)
+pub picks_made : (spec imp : FlatNet) (outs regs : List (List ℕ × ℕ)) (spec_outs imp_outs reg_texts : List (List ℕ)) (picks : List ℕ) → ArePlaces imp.outs outs → ArePlaces (state_texts imp) regs → Fit None spec imp
+    → spec_outs ≡ spec.outs → imp_outs ≡ imp.outs → reg_texts ≡ state_texts spec → picks ≡ map (λ text. 0 + text_place outs text) spec_outs ++ map (λ text. length imp_outs + text_place regs text) reg_texts → Picks (cut_outputs imp) picks (cut_outputs spec)
 picks_made spec imp outs regs spec_outs imp_outs reg_texts picks at_outs at_regs fit s i r made =
-    subst (λ l. Picks (cut_outputs imp) l (cut_outputs spec)) (sym (made ∙ same_after outs regs imp_outs imp.outs spec_outs spec.outs reg_texts (register_texts spec) i s r)) (outputs_picked spec imp outs regs at_outs at_regs fit)
+    subst (λ l. Picks (cut_outputs imp) l (cut_outputs spec)) (sym (made ∙ same_after outs regs imp_outs imp.outs spec_outs spec.outs reg_texts (state_texts spec) i s r)) (outputs_picked spec imp outs regs at_outs at_regs fit)
 
 -- what is asked of a rearrangement
 
@@ -146,8 +146,8 @@ picks_there spec imp picks flat picked = subst (λ m. All (λ j. j < m) picks) (
 
 -- the texts of a pair
 
-pub ins_texts : (spec : FlatNet) → spec.ins ++ register_texts spec ≡ map input_text (cut_inputs spec)
-ins_texts spec = sym (map-append input_text (map TopInput spec.ins) (map State (register_texts spec)) ∙ ap₂ (λ l m. l ++ m) (tops spec.ins) (states (register_texts spec)))
+pub ins_texts : (spec : FlatNet) → spec.ins ++ state_texts spec ≡ map input_text (cut_inputs spec)
+ins_texts spec = sym (map-append input_text (map TopInput spec.ins) (map State (state_texts spec)) ∙ ap₂ (λ l m. l ++ m) (tops spec.ins) (states (state_texts spec)))
   where
     tops : (xs : List (List ℕ)) → map input_text (map TopInput xs) ≡ xs
     tops [] = refl
@@ -158,7 +158,7 @@ ins_texts spec = sym (map-append input_text (map TopInput spec.ins) (map State (
     states (x ∷ xs) = ap (λ l. x ∷ l) (states xs)
 
 pub outs_texts : (spec : FlatNet) → map (λ text. output_name (TopOutput text)) spec.outs ++ map (λ r. output_name (NextState r.text)) spec.regs ≡ map output_name (cut_outputs spec)
-outs_texts spec = sym (map-append output_name (map TopOutput spec.outs) (map NextState (register_texts spec)) ∙ ap₂ (λ l m. l ++ m) (tops spec.outs) (states spec.regs))
+outs_texts spec = sym (map-append output_name (map TopOutput spec.outs) (map NextState (state_texts spec)) ∙ ap₂ (λ l m. l ++ m) (tops spec.outs) (states spec.regs))
   where
     tops : (xs : List (List ℕ)) → map output_name (map TopOutput xs) ≡ map (λ text. output_name (TopOutput text)) xs
     tops [] = refl

@@ -7,7 +7,7 @@ use Rattle.bb_net.specs.Pairs.{BoxTexts}
 use Rattle.bb_net.specs.declared.flat.Reg.{Reg}
 use Rattle.bb_net.specs.Flats.{FlatNet, HaveClocks}
 use Rattle.bb_match.specs.declared.fault.MatchFault.TheVariants as faults
-use Rattle.bb_net.specs.CutPoints.{register_texts}
+use Rattle.bb_net.specs.CutPoints.{state_texts}
 use Rattle.bb_match.specs.Refusals.{IsMissing, IsFirstMissing, AreAmong, compared, HasNoClock, IsFirstWithoutClock, IsClockedApart, HasSameClock, PairCause, Box, Care, SpecInput, SpecOutput, ImpInput, ImpOutput, SpecRegister, ImpRegister, SpecClock, ImpClock, Clocks, Pins, pair_cause_rank, match_fault_of, IsReported, IsAbsent}
 use Rattle.bb_match.specs.Laws.{CausesAreRanked, NotFitAndRefused, FirstRefusalsAreOne}
 use Rattle.bb_lemmas.proofs.Orders.{less_or_same}
@@ -31,8 +31,8 @@ reported_not_absent care spec imp SpecInput n reported absent = missing_not_amon
 reported_not_absent care spec imp SpecOutput n reported absent = missing_not_among (compared care spec.outs) imp.outs n reported absent
 reported_not_absent care spec imp ImpInput n reported absent = missing_not_among imp.ins spec.ins n reported absent
 reported_not_absent care spec imp ImpOutput n reported absent = missing_not_among imp.outs (compared care spec.outs) n reported absent
-reported_not_absent care spec imp SpecRegister n reported absent = missing_not_among (register_texts spec) (register_texts imp) n reported absent
-reported_not_absent care spec imp ImpRegister n reported absent = missing_not_among (register_texts imp) (register_texts spec) n reported absent
+reported_not_absent care spec imp SpecRegister n reported absent = missing_not_among (state_texts spec) (state_texts imp) n reported absent
+reported_not_absent care spec imp ImpRegister n reported absent = missing_not_among (state_texts imp) (state_texts spec) n reported absent
 reported_not_absent care spec imp SpecClock n reported absent = no_clock_not_there spec n reported absent
 reported_not_absent care spec imp ImpClock n reported absent = no_clock_not_there imp n reported absent
 reported_not_absent care spec imp Clocks n reported absent =
@@ -52,8 +52,8 @@ reported_one care spec imp SpecInput n m a b = ap faults.PortDiffers (first_one 
 reported_one care spec imp SpecOutput n m a b = ap faults.PortDiffers (first_one (IsMissing imp.outs) (compared care spec.outs) n m a b)
 reported_one care spec imp ImpInput n m a b = ap faults.PortDiffers (first_one (IsMissing spec.ins) imp.ins n m a b)
 reported_one care spec imp ImpOutput n m a b = ap faults.PortDiffers (first_one (IsMissing (compared care spec.outs)) imp.outs n m a b)
-reported_one care spec imp SpecRegister n m a b = ap faults.RegDiffers (first_one (IsMissing (register_texts imp)) (register_texts spec) n m a b)
-reported_one care spec imp ImpRegister n m a b = ap faults.RegDiffers (first_one (IsMissing (register_texts spec)) (register_texts imp) n m a b)
+reported_one care spec imp SpecRegister n m a b = ap faults.RegDiffers (first_one (IsMissing (state_texts imp)) (state_texts spec) n m a b)
+reported_one care spec imp ImpRegister n m a b = ap faults.RegDiffers (first_one (IsMissing (state_texts spec)) (state_texts imp) n m a b)
 reported_one care spec imp SpecClock n m a b = ap faults.ClockNotInput (a.2 ∙ ap (λ (r : Reg). r.text) (first_one HasNoClock spec.regs a.0 b.0 a.1 b.1) ∙ sym b.2)
 reported_one care spec imp ImpClock n m a b = ap faults.ClockNotInput (a.2 ∙ ap (λ (r : Reg). r.text) (first_one HasNoClock imp.regs a.0 b.0 a.1 b.1) ∙ sym b.2)
 reported_one care spec imp Clocks n m a b = ap faults.ClockDiffers (a.2 ∙ ap (λ (r : Reg). r.text) (first_one (IsClockedApart spec imp) spec.regs a.0 b.0 a.1 b.1) ∙ sym b.2)

@@ -13,7 +13,7 @@ use Rattle.bb_bits.specs.Closures.{IsFirst}
 use Rattle.bb_net.specs.Flats.{FlatNet, HaveClocks}
 use Rattle.bb_match.specs.declared.fault.MatchFault.{MatchFault}
 use Rattle.bb_match.specs.declared.fault.MatchFault.TheVariants as faults
-use Rattle.bb_net.specs.CutPoints.{register_texts, clock_text}
+use Rattle.bb_net.specs.CutPoints.{state_texts, clock_text}
 
 -- texts of one list that the other lacks
 
@@ -121,8 +121,8 @@ IsReported care spec imp SpecInput n = IsFirstMissing spec.ins imp.ins n
 IsReported care spec imp SpecOutput n = IsFirstMissing (compared care spec.outs) imp.outs n
 IsReported care spec imp ImpInput n = IsFirstMissing imp.ins spec.ins n
 IsReported care spec imp ImpOutput n = IsFirstMissing imp.outs (compared care spec.outs) n
-IsReported care spec imp SpecRegister n = IsFirstMissing (register_texts spec) (register_texts imp) n
-IsReported care spec imp ImpRegister n = IsFirstMissing (register_texts imp) (register_texts spec) n
+IsReported care spec imp SpecRegister n = IsFirstMissing (state_texts spec) (state_texts imp) n
+IsReported care spec imp ImpRegister n = IsFirstMissing (state_texts imp) (state_texts spec) n
 IsReported care spec imp SpecClock n = IsFirstWithoutClock spec n
 IsReported care spec imp ImpClock n = IsFirstWithoutClock imp n
 IsReported care spec imp Clocks n = IsFirstClockedApart spec imp n
@@ -136,8 +136,8 @@ IsAbsent care spec imp SpecInput = AreAmong spec.ins imp.ins
 IsAbsent care spec imp SpecOutput = AreAmong (compared care spec.outs) imp.outs
 IsAbsent care spec imp ImpInput = AreAmong imp.ins spec.ins
 IsAbsent care spec imp ImpOutput = AreAmong imp.outs (compared care spec.outs)
-IsAbsent care spec imp SpecRegister = AreAmong (register_texts spec) (register_texts imp)
-IsAbsent care spec imp ImpRegister = AreAmong (register_texts imp) (register_texts spec)
+IsAbsent care spec imp SpecRegister = AreAmong (state_texts spec) (state_texts imp)
+IsAbsent care spec imp ImpRegister = AreAmong (state_texts imp) (state_texts spec)
 IsAbsent care spec imp SpecClock = HaveClocks spec
 IsAbsent care spec imp ImpClock = HaveClocks imp
 IsAbsent care spec imp Clocks = HaveSameClocks spec imp

@@ -26,7 +26,8 @@ fn place_of(texts: &[Name], text: &[u8]) -> Option<usize>
 /// `NoCare` where none of the outputs has this name.
 pub(crate) fn care_place(alloc: Global, outs: &[Name], care: &[u8]) -> Result<usize, MatchFault>
     ensures ok { IfOk result (λ place. slice_get outs.now place ≡ Some care.now) }
-    ensures fault { IfErr result (λ fault. (fault ≡ faults.NoMemory) ⊎ ((fault ≡ faults.NoCare care.now) × IsMissing outs.now care.now)) }
+    ensures fault { IfErr result (λ fault.
+        (fault ≡ faults.NoMemory) ⊎ ((fault ≡ faults.NoCare care.now) × IsMissing outs.now care.now)) }
 {
     match place_of(outs, care) {
         Some(place) => Ok(place),

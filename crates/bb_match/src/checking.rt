@@ -5,9 +5,10 @@ ghost use Rattle.bb_net.specs.Pairs.{BoxTexts, pin_count};
 ghost use Rattle.bb_bits.specs.Closures.{IsFirst};
 ghost use Rattle.bb_net.specs.declared.flat.Reg.{Reg};
 ghost use Rattle.bb_match.specs.declared.fault.MatchFault.TheVariants as faults;
-ghost use Rattle.bb_net.specs.CutPoints.{register_texts};
+ghost use Rattle.bb_net.specs.CutPoints.{state_texts};
 ghost use Rattle.bb_match.specs.Inside.Places.{ArePlaces, IsIndexOf};
-ghost use Rattle.bb_match.specs.Refusals.{AreAmong, HaveSameClocks, Fit, HasNoClock, IsFirstClockedApart, IsFirstMissing, IsFirstPairRefusal, most_pins};
+ghost use Rattle.bb_match.specs.Refusals.{AreAmong, HaveSameClocks, Fit, HasNoClock, IsFirstClockedApart};
+ghost use Rattle.bb_match.specs.Refusals.{IsFirstMissing, IsFirstPairRefusal, most_pins};
 
 use crate::clocks::{first_clocked_apart, first_without_clock};
 use crate::fault::MatchFault;
@@ -20,7 +21,8 @@ use bb_net::{BoxName, Flat, Net, Reg};
 /// A specification has to be complete.
 pub(crate) fn check_boxes(boxes: &[BoxName]) -> Result<(), MatchFault>
     ensures ok { OnOk result (boxes.now ≡ []) }
-    ensures fault { IfErr result (λ fault. (fault ≡ faults.NoMemory) ⊎ ((box : BoxTexts) × (rest : List BoxTexts) × (boxes.now ≡ box ∷ rest) × (fault ≡ faults.SpecBox box.path))) }
+    ensures fault { IfErr result (λ fault. (fault ≡ faults.NoMemory)
+        ⊎ ((box : BoxTexts) × (rest : List BoxTexts) × (boxes.now ≡ box ∷ rest) × (fault ≡ faults.SpecBox box.path))) }
 {
     match boxes.first() {
         None => Ok(()),
@@ -32,7 +34,9 @@ pub(crate) fn check_boxes(boxes: &[BoxName]) -> Result<(), MatchFault>
 
 fn check_ports(others: &Places, texts: &[Name]) -> Result<(), MatchFault>
     ensures ok { (list : List (List ℕ)) → ArePlaces list others.now.entries → OnOk result (AreAmong texts.now list) }
-    ensures fault { (list : List (List ℕ)) → ArePlaces list others.now.entries → IfErr result (λ fault. (fault ≡ faults.NoMemory) ⊎ ((n : List ℕ) × (fault ≡ faults.PortDiffers n) × IsFirstMissing texts.now list n)) }
+    ensures fault { (list : List (List ℕ)) → ArePlaces list others.now.entries
+        → IfErr result (λ fault. (fault ≡ faults.NoMemory)
+        ⊎ ((n : List ℕ) × (fault ≡ faults.PortDiffers n) × IsFirstMissing texts.now list n)) }
 {
     match first_missing(others, texts) {
         None => Ok(()),
@@ -44,7 +48,9 @@ fn check_ports(others: &Places, texts: &[Name]) -> Result<(), MatchFault>
 
 fn check_registers(others: &Places, texts: &[Name]) -> Result<(), MatchFault>
     ensures ok { (list : List (List ℕ)) → ArePlaces list others.now.entries → OnOk result (AreAmong texts.now list) }
-    ensures fault { (list : List (List ℕ)) → ArePlaces list others.now.entries → IfErr result (λ fault. (fault ≡ faults.NoMemory) ⊎ ((n : List ℕ) × (fault ≡ faults.RegDiffers n) × IsFirstMissing texts.now list n)) }
+    ensures fault { (list : List (List ℕ)) → ArePlaces list others.now.entries
+        → IfErr result (λ fault. (fault ≡ faults.NoMemory)
+        ⊎ ((n : List ℕ) × (fault ≡ faults.RegDiffers n) × IsFirstMissing texts.now list n)) }
 {
     match first_missing(others, texts) {
         None => Ok(()),
@@ -56,7 +62,8 @@ fn check_registers(others: &Places, texts: &[Name]) -> Result<(), MatchFault>
 
 fn check_clocks(regs: &[Reg]) -> Result<(), MatchFault>
     ensures ok { OnOk result (All (λ r. IsSome r.clock) regs.now) }
-    ensures fault { IfErr result (λ fault. (fault ≡ faults.NoMemory) ⊎ ((r : Reg) × IsFirst HasNoClock regs.now r × (fault ≡ faults.ClockNotInput r.text))) }
+    ensures fault { IfErr result (λ fault. (fault ≡ faults.NoMemory)
+        ⊎ ((r : Reg) × IsFirst HasNoClock regs.now r × (fault ≡ faults.ClockNotInput r.text))) }
 {
     match first_without_clock(regs) {
         None => Ok(()),
@@ -67,9 +74,10 @@ fn check_clocks(regs: &[Reg]) -> Result<(), MatchFault>
 }
 
 fn check_same_clocks(spec: &Flat, imp: &Flat, imp_regs: &Places) -> Result<(), MatchFault>
-    requires places { ArePlaces (register_texts imp.now) imp_regs.now.entries }
+    requires places { ArePlaces (state_texts imp.now) imp_regs.now.entries }
     ensures ok { OnOk result (HaveSameClocks spec.now imp.now) }
-    ensures fault { IfErr result (λ fault. (fault ≡ faults.NoMemory) ⊎ ((n : List ℕ) × (fault ≡ faults.ClockDiffers n) × IsFirstClockedApart spec.now imp.now n)) }
+    ensures fault { IfErr result (λ fault. (fault ≡ faults.NoMemory)
+        ⊎ ((n : List ℕ) × (fault ≡ faults.ClockDiffers n) × IsFirstClockedApart spec.now imp.now n)) }
 {
     match first_clocked_apart(spec, imp, imp_regs) {
         None => Ok(()),
@@ -81,7 +89,8 @@ fn check_same_clocks(spec: &Flat, imp: &Flat, imp_regs: &Places) -> Result<(), M
 
 fn check_pins(net: &Net) -> Result<(), MatchFault>
     ensures ok { OnOk result (net.now.inputs + pin_count net.now.boxes ≤ most_pins) }
-    ensures fault { IfErr result (λ fault. (fault ≡ faults.TooManyPins) × (most_pins < net.now.inputs + pin_count net.now.boxes)) }
+    ensures fault { IfErr result (λ fault.
+        (fault ≡ faults.TooManyPins) × (most_pins < net.now.inputs + pin_count net.now.boxes)) }
 {
     if are_too_many(net.inputs(), net.boxes()) {
         Err(MatchFault::TooManyPins)
@@ -97,8 +106,10 @@ pub(crate) fn check(
     imp: &Flat,
     of_imp: &Index,
 ) -> Result<(), MatchFault>
-    requires of_spec { IsIndexOf spec.now of_spec.now.reg_texts.items of_spec.now.ins.entries of_spec.now.regs.entries of_spec.now.outs.entries }
-    requires of_imp { IsIndexOf imp.now of_imp.now.reg_texts.items of_imp.now.ins.entries of_imp.now.regs.entries of_imp.now.outs.entries }
+    requires of_spec { IsIndexOf spec.now of_spec.now.reg_texts.items of_spec.now.ins.entries
+        of_spec.now.regs.entries of_spec.now.outs.entries }
+    requires of_imp { IsIndexOf imp.now of_imp.now.reg_texts.items of_imp.now.ins.entries of_imp.now.regs.entries
+        of_imp.now.outs.entries }
     ensures ok { OnOk result (Fit None spec.now imp.now) }
     ensures fault { IfErr result (λ fault. (fault ≡ faults.NoMemory) ⊎ IsFirstPairRefusal None spec.now imp.now fault) }
 {

@@ -3,7 +3,7 @@
 ghost use Rattle.std.specs.Prelude.{◌≡◌, ◌↔◌, All, IsTrue, IsSome, IfSome, IfNone, MatchBool, option_map};
 ghost use Rattle.bb_net.specs.declared.flat.Reg.{Reg};
 ghost use Rattle.bb_bits.specs.Closures.{IsFirst};
-ghost use Rattle.bb_net.specs.CutPoints.{register_texts, clock_text};
+ghost use Rattle.bb_net.specs.CutPoints.{state_texts, clock_text};
 ghost use Rattle.bb_match.specs.Inside.Places.{ArePlaces};
 ghost use Rattle.bb_match.specs.Refusals.{HasNoClock, IsClockedApart, HasSameClock, HaveSameClocks};
 
@@ -33,13 +33,14 @@ fn clock_text<'a>(flat: &'a Flat, reg: &Reg) -> Option<&'a Name>
 
 // Where this is called both clocks are inputs, so equal names mean one clock.
 fn have_same_clock(spec: &Flat, r: &Reg, imp: &Flat, q: &Reg) -> bool
-    ensures alike { IsTrue result ↔ ((q.now.falling ≡ r.now.falling) × (clock_text imp.now q.now ≡ clock_text spec.now r.now)) }
+    ensures alike { IsTrue result ↔ ((q.now.falling ≡ r.now.falling)
+        × (clock_text imp.now q.now ≡ clock_text spec.now r.now)) }
 {
     q.falling == r.falling && clock_text(imp, q) == clock_text(spec, r)
 }
 
 fn is_clocked_apart(spec: &Flat, imp: &Flat, places: &Places, r: &Reg) -> bool
-    requires places { ArePlaces (register_texts imp.now) places.now.entries }
+    requires places { ArePlaces (state_texts imp.now) places.now.entries }
     ensures apart { MatchBool result (IsClockedApart spec.now imp.now r.now) (HasSameClock spec.now imp.now r.now) }
 {
     match imp.regs().get(text_place(places, &r.text) as usize) {
@@ -54,7 +55,7 @@ pub(crate) fn first_clocked_apart<'a>(
     imp: &Flat,
     places: &Places,
 ) -> Option<&'a Reg>
-    requires places { ArePlaces (register_texts imp.now) places.now.entries }
+    requires places { ArePlaces (state_texts imp.now) places.now.entries }
     ensures some { IfSome result (λ r. IsFirst (IsClockedApart spec.now imp.now) spec.now.regs r.now) }
     ensures none { IfNone result (HaveSameClocks spec.now imp.now) }
 {

@@ -40,7 +40,8 @@ fn texts_of(alloc: Global, regs: &[Reg]) -> Result<Vec<Name>, NoMemory>
 
 /// The netlist keeps its names; the index has copies to look them up.
 pub(crate) fn index_of(alloc: Global, flat: &Flat) -> Result<Index, NoMemory>
-    ensures index { IfOk result (λ index. IsIndexOf flat.now index.reg_texts.items index.ins.entries index.regs.entries index.outs.entries) }
+    ensures index { IfOk result (λ index.
+        IsIndexOf flat.now index.reg_texts.items index.ins.entries index.regs.entries index.outs.entries) }
 {
     let reg_texts = texts_of(alloc, flat.regs())?;
     let ins = places_of(alloc, flat.ins())?;

@@ -2,7 +2,7 @@
 //! permuted, so a report lists everything as the specification does.
 ghost use Rattle.std.specs.Prelude.{◌≡◌, ◌++◌, length, map, None, IfOk, OnOk};
 ghost use Rattle.bb_net.specs.Flats.{IsFlat};
-ghost use Rattle.bb_net.specs.CutPoints.{TopOutput, NextState, register_texts, cut_inputs, cut_outputs};
+ghost use Rattle.bb_net.specs.CutPoints.{TopOutput, NextState, state_texts, cut_inputs, cut_outputs};
 ghost use Rattle.bb_match.specs.Pairing.{IsPlainPairOf, Picks, output_name};
 ghost use Rattle.bb_match.specs.Inside.Places.{IsIndexOf};
 ghost use Rattle.bb_match.specs.Refusals.{Fit};
@@ -24,8 +24,10 @@ pub(crate) fn input_numbers(
     of_imp: &Index,
 ) -> Result<Vec<u32>, NoMemory>
     requires fit { Fit None spec.now imp.now }
-    requires of_spec { IsIndexOf spec.now of_spec.now.reg_texts.items of_spec.now.ins.entries of_spec.now.regs.entries of_spec.now.outs.entries }
-    requires of_imp { IsIndexOf imp.now of_imp.now.reg_texts.items of_imp.now.ins.entries of_imp.now.regs.entries of_imp.now.outs.entries }
+    requires of_spec { IsIndexOf spec.now of_spec.now.reg_texts.items of_spec.now.ins.entries
+        of_spec.now.regs.entries of_spec.now.outs.entries }
+    requires of_imp { IsIndexOf imp.now of_imp.now.reg_texts.items of_imp.now.ins.entries of_imp.now.regs.entries
+        of_imp.now.outs.entries }
     ensures numbers { IfOk result (λ numbers. Picks (cut_inputs spec.now) numbers.items (cut_inputs imp.now)) }
 {
     let ins = spec.ins();
@@ -48,8 +50,10 @@ pub(crate) fn output_picks(
     of_imp: &Index,
 ) -> Result<Vec<u32>, NoMemory>
     requires fit { Fit None spec.now imp.now }
-    requires of_spec { IsIndexOf spec.now of_spec.now.reg_texts.items of_spec.now.ins.entries of_spec.now.regs.entries of_spec.now.outs.entries }
-    requires of_imp { IsIndexOf imp.now of_imp.now.reg_texts.items of_imp.now.ins.entries of_imp.now.regs.entries of_imp.now.outs.entries }
+    requires of_spec { IsIndexOf spec.now of_spec.now.reg_texts.items of_spec.now.ins.entries
+        of_spec.now.regs.entries of_spec.now.outs.entries }
+    requires of_imp { IsIndexOf imp.now of_imp.now.reg_texts.items of_imp.now.ins.entries of_imp.now.regs.entries
+        of_imp.now.outs.entries }
     ensures picks { IfOk result (λ picks. Picks (cut_outputs imp.now) picks.items (cut_outputs spec.now)) }
 {
     let outs = imp.outs();
@@ -64,7 +68,8 @@ pub(crate) fn output_picks(
 }
 
 fn add_outs(outs: Vec<Name>, names: &mut Vec<OutName>) -> Result<(), NoMemory>
-    ensures added { OnOk result (names.new.items ≡ names.old.items ++ map (λ text. output_name (TopOutput text)) outs.items) }
+    ensures added { OnOk result (names.new.items
+        ≡ names.old.items ++ map (λ text. output_name (TopOutput text)) outs.items) }
 {
     for text in outs {
         names.push(OutName { next: false, text })?;
@@ -73,7 +78,8 @@ fn add_outs(outs: Vec<Name>, names: &mut Vec<OutName>) -> Result<(), NoMemory>
 }
 
 fn add_next_states(regs: Vec<Reg>, names: &mut Vec<OutName>) -> Result<(), NoMemory>
-    ensures added { OnOk result (names.new.items ≡ names.old.items ++ map (λ r. output_name (NextState r.text)) regs.items) }
+    ensures added { OnOk result (names.new.items
+        ≡ names.old.items ++ map (λ r. output_name (NextState r.text)) regs.items) }
 {
     for r in regs {
         names.push(OutName {
@@ -86,7 +92,9 @@ fn add_next_states(regs: Vec<Reg>, names: &mut Vec<OutName>) -> Result<(), NoMem
 
 // In the order of a flat netlist's outputs.
 fn out_names(alloc: Global, outs: Vec<Name>, regs: Vec<Reg>) -> Result<Vec<OutName>, NoMemory>
-    ensures names { IfOk result (λ names. names.items ≡ map (λ text. output_name (TopOutput text)) outs.items ++ map (λ r. output_name (NextState r.text)) regs.items) }
+    ensures names { IfOk result (λ names. names.items
+        ≡ map (λ text. output_name (TopOutput text)) outs.items
+        ++ map (λ r. output_name (NextState r.text)) regs.items) }
 {
     let mut names = Vec::with_capacity(alloc, outs.len().saturating_add(regs.len()))?;
     add_outs(outs, &mut names)?;
@@ -105,7 +113,7 @@ pub(crate) fn joined(
     picks: &[u32],
 ) -> Result<PairParts, NoMemory>
     requires fit { Fit None spec imp }
-    requires texts { reg_texts.items ≡ register_texts spec }
+    requires texts { reg_texts.items ≡ state_texts spec }
     requires numbers { Picks (cut_inputs spec) numbers.now (cut_inputs imp) }
     requires picks { Picks (cut_outputs imp) picks.now (cut_outputs spec) }
     ensures pair { IfOk result (λ p. IsPlainPairOf shared spec imp p) }

@@ -1,6 +1,9 @@
 //! Laws of refusals, of pairs and of cut points. Each function has a law as its contract and does nothing.
 
-ghost use Rattle.bb_match.specs.Laws.{CausesAreRanked, NotFitAndRefused, FirstRefusalsAreOne, FitOrRefused, ComparedAreTheOthers, CareIsTakenOut, CareOutputsAreLeftOut, PairsAreOne, PairsFit, FittingHavePair, FittingHaveKeptPair, PairsAreKept, FlatNetsHaveCutsApart, WithoutOutputsAreFlat, FittingNetsHaveTheirOutputs};
+ghost use Rattle.bb_match.specs.Laws.{CausesAreRanked, NotFitAndRefused, FirstRefusalsAreOne, FitOrRefused};
+ghost use Rattle.bb_match.specs.Laws.{ComparedAreTheOthers, CareIsTakenOut, CareOutputsAreLeftOut, PairsAreOne};
+ghost use Rattle.bb_match.specs.Laws.{PairsFit, FittingHavePair, FittingHaveKeptPair, PairsAreKept};
+ghost use Rattle.bb_match.specs.Laws.{FlatNetsHaveCutsApart, WithoutOutputsAreFlat, FittingNetsHaveTheirOutputs};
 
 use bb_care::laws::constrained_pairs_are_pairs;
 use bb_net::{keys_are_shown, keys_have_kinds, kinds_may_differ, rearranged_nets_exist};

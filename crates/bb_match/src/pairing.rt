@@ -4,7 +4,7 @@
 //! looks things up, and those of the registers, which are names of inputs and of outputs.
 
 ghost use Rattle.std.specs.Prelude.{◌≡◌, ◌⊎◌, ◌≤◌, length, IfOk, IfErr, MatchResult, None, Some, option_copied};
-ghost use Rattle.bb_net.specs.CutPoints.{register_texts, cut_inputs, cut_outputs};
+ghost use Rattle.bb_net.specs.CutPoints.{state_texts, cut_inputs, cut_outputs};
 ghost use Rattle.bb_net.specs.Flats.{IsFlat};
 ghost use Rattle.bb_match.specs.declared.fault.MatchFault.{MatchFault};
 ghost use Rattle.bb_match.specs.declared.fault.MatchFault.TheVariants.{NoMemory};
@@ -73,7 +73,7 @@ fn index_and_number(
 
 fn matched(alloc: Global, spec: &Flat, imp: &Flat) -> Result<(Vec<Name>, Numbers), MatchFault>
     ensures fit { IfOk result (λ found. Fit None spec.now imp.now) }
-    ensures texts { IfOk result (λ found. found.0.items ≡ register_texts spec.now) }
+    ensures texts { IfOk result (λ found. found.0.items ≡ state_texts spec.now) }
     ensures ins { IfOk result (λ found. Picks (cut_inputs spec.now) found.1.ins.items (cut_inputs imp.now)) }
     ensures outs { IfOk result (λ found. Picks (cut_outputs imp.now) found.1.outs.items (cut_outputs spec.now)) }
     ensures fault { IfErr result (λ fault. (fault ≡ NoMemory) ⊎ IsFirstPairRefusal None spec.now imp.now fault) }
@@ -146,7 +146,8 @@ fn pair_or_fault(
 ) -> Result<Pair, MatchFault>
     ensures ok { IfOk result (λ p. IsPairOf (option_copied care.entry) shared spec imp p) }
     ensures kept { IfOk result (λ p. IsFlat spec × IsFlat imp) }
-    ensures fault { IfErr result (λ fault. (fault ≡ NoMemory) ⊎ IsFirstPairRefusal (option_copied care.entry) spec imp fault) }
+    ensures fault { IfErr result (λ fault.
+        (fault ≡ NoMemory) ⊎ IsFirstPairRefusal (option_copied care.entry) spec imp fault) }
 {
     match care {
         None => plain_pair(alloc, spec, imp, shared),
@@ -172,15 +173,18 @@ pub fn pair(
 ) -> Result<Pair, MatchFault>
     // The result is the pair of the two, or the first cause.
     ensures ok { IfOk result (λ p. IsPairOf (option_copied care.entry) shared spec imp p) }
-    ensures fault { IfErr result (λ fault. (fault ≡ NoMemory) ⊎ IsFirstPairRefusal (option_copied care.entry) spec imp fault) }
+    ensures fault { IfErr result (λ fault.
+        (fault ≡ NoMemory) ⊎ IsFirstPairRefusal (option_copied care.entry) spec imp fault) }
 
     // A pair is answered where there is no cause, and else the first, unless memory runs out.
     ensures only_fit { Fit (option_copied care.entry) spec imp → IfErr result (λ fault. fault ≡ NoMemory) }
-    ensures only_fault { (first : MatchFault) → IsFirstPairRefusal (option_copied care.entry) spec imp first → MatchResult result (λ p. ⊥) (λ fault. (fault ≡ first) ⊎ (fault ≡ NoMemory)) }
+    ensures only_fault { (first : MatchFault) → IsFirstPairRefusal (option_copied care.entry) spec imp first
+        → MatchResult result (λ p. ⊥) (λ fault. (fault ≡ first) ⊎ (fault ≡ NoMemory)) }
 
     // What the two kept, and how small the netlists are.
     ensures kept { IfOk result (λ p. IsFlat spec × IsFlat imp) }
-    ensures plain_small { option_copied care.entry ≡ None → IfOk result (λ p. (length p.spec.cells ≤ 2000000) × (length p.imp.cells ≤ 2000000)) }
+    ensures plain_small { option_copied care.entry ≡ None
+        → IfOk result (λ p. (length p.spec.cells ≤ 2000000) × (length p.imp.cells ≤ 2000000)) }
     ensures small { IfOk result (λ p. (length p.spec.cells ≤ 4000000) × (length p.imp.cells ≤ 6000000)) }
 {
     let p = pair_or_fault(alloc, spec, imp, care, shared)?;

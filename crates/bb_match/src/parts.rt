@@ -27,7 +27,14 @@ impl Model for PairParts {
 
     ghost Value = { NetPair };
 
-    ghost view = { λ p. record { spec = p.spec; imp = p.imp; ins = p.ins.items; outs = p.outs.items; boxes = p.boxes.items; kinds = p.kinds.items } };
+    ghost view = { λ p. record {
+      spec = p.spec;
+      imp = p.imp;
+      ins = p.ins.items;
+      outs = p.outs.items;
+      boxes = p.boxes.items;
+      kinds = p.kinds.items;
+    } };
 }
 
 impl PairParts {

@@ -17,7 +17,8 @@ fn left_without(left: usize, pins: &BoxPins) -> Option<usize>
 
 /// More than 2,048 together.
 pub(crate) fn are_too_many(inputs: u32, boxes: &[BoxPins]) -> bool
-    ensures many { MatchBool result (most_pins < inputs + pin_count boxes.now) (inputs + pin_count boxes.now ≤ most_pins) }
+    ensures many { MatchBool result (most_pins < inputs + pin_count boxes.now) (inputs + pin_count boxes.now
+        ≤ most_pins) }
 {
     let Some(mut left) = MOST_PINS.checked_sub(inputs as usize) else {
         return true;

@@ -29,8 +29,10 @@ pub(crate) fn text_place(places: &Places, text: &Name) -> u32
 }
 
 pub(crate) fn first_missing<'a>(places: &Places, texts: &'a [Name]) -> Option<&'a Name>
-    ensures some { (others : List (List ℕ)) → ArePlaces others places.now.entries → IfSome result (λ text. IsFirstMissing texts.now others text.now) }
-    ensures none { (others : List (List ℕ)) → ArePlaces others places.now.entries → IfNone result (AreAmong texts.now others) }
+    ensures some { (others : List (List ℕ)) → ArePlaces others places.now.entries
+        → IfSome result (λ text. IsFirstMissing texts.now others text.now) }
+    ensures none { (others : List (List ℕ)) → ArePlaces others places.now.entries
+        → IfNone result (AreAmong texts.now others) }
 {
     for text in texts {
         if !places.contains_key(text) {
@@ -48,7 +50,8 @@ pub(crate) fn add_places(
     list: &mut Vec<u32>,
 ) -> Result<(), NoMemory>
     requires small { (text : List ℕ) → base + text_place places.now.entries text < 2 ^ 32 }
-    ensures added { OnOk result (list.new.items ≡ list.old.items ++ map (λ text. base + text_place places.now.entries text) texts.now) }
+    ensures added { OnOk result (list.new.items
+        ≡ list.old.items ++ map (λ text. base + text_place places.now.entries text) texts.now) }
 {
     for text in texts {
         list.push(base + text_place(places, text))?;
@@ -67,7 +70,9 @@ pub(crate) fn places_after(
 ) -> Result<Vec<u32>, NoMemory>
     requires first { (text : List ℕ) → 0 + text_place first.now.entries text < 2 ^ 32 }
     requires second { (text : List ℕ) → base + text_place second.now.entries text < 2 ^ 32 }
-    ensures places { IfOk result (λ list. list.items ≡ map (λ text. 0 + text_place first.now.entries text) these.now ++ map (λ text. base + text_place second.now.entries text) those.now) }
+    ensures places { IfOk result (λ list. list.items
+        ≡ map (λ text. 0 + text_place first.now.entries text) these.now
+        ++ map (λ text. base + text_place second.now.entries text) those.now) }
 {
     let mut list = Vec::with_capacity(alloc, these.len().saturating_add(those.len()))?;
     add_places(first, 0, these, &mut list)?;

@@ -29,7 +29,8 @@ pub fn difference(
     requires cache_most { cache ≤ 1048576 }
     ensures found { IfOk result (λ found. IfSome found (λ x. DiffersAt spec.now imp.now x.items)) }
     ensures none { IfOk result (λ found. IfNone found (AreEquivalent spec.now imp.now)) }
-    ensures nodes { IsErrOf result RungFault.Nodes → HasMoreThan (IsBeadOfAny (output_functions spec.now imp.now)) nodes }
+    ensures nodes { IsErrOf result RungFault.Nodes
+        → HasMoreThan (IsBeadOfAny (output_functions spec.now imp.now)) nodes }
     ensures within { HasMoreThan (IsBeadOfAny (output_functions spec.now imp.now)) nodes → OnOk result ⊥ }
 {
     let answer = output_of(alloc, spec, imp, nodes, cache)?;

@@ -33,7 +33,8 @@ pub fn differing_patterns(
     ensures differ { IfOk result (λ vectors. All (DiffersAt spec.now imp.now) (map vec_items vectors.items)) }
     ensures distinct { IfOk result (λ vectors. AllPairs ◌≢◌ (map vec_items vectors.items)) }
     ensures few { IfOk result (λ vectors. length vectors.items ≤ wanted) }
-    ensures none { IfOk result (λ vectors. vectors.items ≡ [] → All (SameAt spec.now imp.now) (drawn_patterns imp.now.inputs 512 seed)) }
+    ensures none { IfOk result (λ vectors.
+        vectors.items ≡ [] → All (SameAt spec.now imp.now) (drawn_patterns imp.now.inputs 512 seed)) }
 {
     laws::patterns_are_vectors();
     let mut found = IndexSet::new(alloc);
@@ -83,7 +84,8 @@ fn add_differing(
     requires few { length found.old.keys ≤ wanted }
     ensures differ { OnOk result (All (DiffersAt spec.now imp.now) (map vec_items found.new.keys)) }
     ensures few { OnOk result (length found.new.keys ≤ wanted) }
-    ensures none { OnOk result (found.new.keys ≡ [] → (found.old.keys ≡ []) × All (SameAt spec.now imp.now) (map vec_items patterns.now)) }
+    ensures none { OnOk result (found.new.keys ≡ []
+        → (found.old.keys ≡ []) × All (SameAt spec.now imp.now) (map vec_items patterns.now)) }
 {
     let mut start = 0;
     while start < patterns.len() && found.len() < wanted {
@@ -110,7 +112,8 @@ fn add_differing_among(
     requires few { length found.old.keys ≤ wanted }
     ensures differ { OnOk result (All (DiffersAt spec.now imp.now) (map vec_items found.new.keys)) }
     ensures few { OnOk result (length found.new.keys ≤ wanted) }
-    ensures none { OnOk result (found.new.keys ≡ [] → (found.old.keys ≡ []) × All (SameAt spec.now imp.now) (map vec_items patterns.now)) }
+    ensures none { OnOk result (found.new.keys ≡ []
+        → (found.old.keys ≡ []) × All (SameAt spec.now imp.now) (map vec_items patterns.now)) }
 {
     let marks = differ_at(alloc, spec, imp, patterns)?;
     for (k, pattern) in patterns.iter().enumerate() {

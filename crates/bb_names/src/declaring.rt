@@ -3,7 +3,8 @@
 ghost use Rattle.std.specs.Prelude.{◌≡◌, ◌++◌, [], List, map, OnOk};
 ghost use Rattle.std.specs.List.{flat_map};
 ghost use Rattle.bb_ast.specs.Inside.Views.{head_view, body_view, named_view, call_view, module_view};
-ghost use Rattle.bb_names.specs.Declarations.{Declaration, declared_by_head, declared_by, declarations, instance_declaration};
+ghost use Rattle.bb_names.specs.Declarations.{Declaration, declared_by_head, declared_by, declarations};
+ghost use Rattle.bb_names.specs.Declarations.{instance_declaration};
 ghost use Rattle.bb_ast.specs.Syntax.{Nets};
 ghost use Rattle.bb_names.specs.Inside.Summaries.{named, Describes};
 
@@ -13,7 +14,8 @@ use bb_ast::{Body, Call, Expr, Head, Module, Range};
 use bb_bits::{Name, NoMemory};
 
 fn declare_head(declared: &mut Declared, head: &Head) -> Result<(), NoMemory>
-    ensures { (all : List Declaration) → Describes declared.old.entries all → OnOk result (Describes declared.new.entries (all ++ declared_by_head (head_view head.now))) }
+    ensures { (all : List Declaration) → Describes declared.old.entries all
+        → OnOk result (Describes declared.new.entries (all ++ declared_by_head (head_view head.now))) }
 {
     match head.decl {
         Some(port) => declare(declared, &head.name, DeclaredAs::port(port)),
@@ -22,7 +24,8 @@ fn declare_head(declared: &mut Declared, head: &Head) -> Result<(), NoMemory>
 }
 
 fn declare_heads(declared: &mut Declared, heads: &[Head]) -> Result<(), NoMemory>
-    ensures { (all : List Declaration) → Describes declared.old.entries all → OnOk result (Describes declared.new.entries (all ++ flat_map declared_by_head (map head_view heads.now))) }
+    ensures { (all : List Declaration) → Describes declared.old.entries all
+        → OnOk result (Describes declared.new.entries (all ++ flat_map declared_by_head (map head_view heads.now))) }
 {
     for head in heads {
         declare_head(declared, head)?;
@@ -31,7 +34,8 @@ fn declare_heads(declared: &mut Declared, heads: &[Head]) -> Result<(), NoMemory
 }
 
 fn declare_names(declared: &mut Declared, names: &[Name], d: DeclaredAs) -> Result<(), NoMemory>
-    ensures { (all : List Declaration) → Describes declared.old.entries all → OnOk result (Describes declared.new.entries (all ++ map (λ n. named n d) names.now)) }
+    ensures { (all : List Declaration) → Describes declared.old.entries all
+        → OnOk result (Describes declared.new.entries (all ++ map (λ n. named n d) names.now)) }
 {
     for name in names {
         declare(declared, name, d)?;
@@ -44,7 +48,8 @@ fn declare_nets(
     nets: &[(Name, Option<Expr>)],
     range: Option<Range>,
 ) -> Result<(), NoMemory>
-    ensures { (all : List Declaration) → Describes declared.old.entries all → OnOk result (Describes declared.new.entries (all ++ declared_by (Nets range (map named_view nets.now)))) }
+    ensures { (all : List Declaration) → Describes declared.old.entries all
+        → OnOk result (Describes declared.new.entries (all ++ declared_by (Nets range (map named_view nets.now)))) }
 {
     for (name, _) in nets {
         declare(declared, name, DeclaredAs::net(NetKind::Wire, range))?;
@@ -53,7 +58,9 @@ fn declare_nets(
 }
 
 fn declare_calls(declared: &mut Declared, calls: &[Call]) -> Result<(), NoMemory>
-    ensures { (all : List Declaration) → Describes declared.old.entries all → OnOk result (Describes declared.new.entries (all ++ map (λ x. instance_declaration x.0) (map call_view calls.now))) }
+    ensures { (all : List Declaration) → Describes declared.old.entries all
+        → OnOk result (Describes declared.new.entries (all
+        ++ map (λ x. instance_declaration x.0) (map call_view calls.now))) }
 {
     for call in calls {
         declare(declared, &call.name, DeclaredAs::instance())?;
@@ -62,7 +69,8 @@ fn declare_calls(declared: &mut Declared, calls: &[Call]) -> Result<(), NoMemory
 }
 
 fn declare_item(declared: &mut Declared, body: &Body) -> Result<(), NoMemory>
-    ensures { (all : List Declaration) → Describes declared.old.entries all → OnOk result (Describes declared.new.entries (all ++ declared_by (body_view body.now))) }
+    ensures { (all : List Declaration) → Describes declared.old.entries all
+        → OnOk result (Describes declared.new.entries (all ++ declared_by (body_view body.now))) }
 {
     match body {
         Body::Ports(port, names) => declare_names(declared, names, DeclaredAs::port(*port)),

@@ -4,7 +4,8 @@
 ghost use Rattle.std.specs.Prelude.{◌≡◌, ◌++◌, ◌∷◌, [], map, OnOk, IfOk};
 ghost use Rattle.std.specs.List.{flat_map};
 ghost use Rattle.bb_ast.specs.Names.{names_in};
-ghost use Rattle.bb_ast.specs.Inside.Views.{expression, operand_view, arm_view, optional_view, named_view, gate_view, call_view, conns_view, body_view, item_view};
+ghost use Rattle.bb_ast.specs.Inside.Views.{expression, operand_view, arm_view, optional_view, named_view, gate_view};
+ghost use Rattle.bb_ast.specs.Inside.Views.{call_view, conns_view, body_view, item_view};
 ghost use Rattle.bb_names.specs.Declarations.{implicit_places, names_in_optional, names_in_conns};
 ghost use Rattle.bb_names.specs.Inside.Implicit.{grown};
 
@@ -57,7 +58,8 @@ fn add_operands(
     declared: &Declared,
     rest: &[(Op, Expr)],
 ) -> Result<(), NoMemory>
-    ensures { OnOk result (set.new.keys ≡ grown declared.now.entries set.old.keys (flat_map (λ x. names_in x.1) (map operand_view rest.now))) }
+    ensures { OnOk result (set.new.keys
+        ≡ grown declared.now.entries set.old.keys (flat_map (λ x. names_in x.1) (map operand_view rest.now))) }
 {
     for (_, operand) in rest {
         add_expr(set, declared, operand)?;
@@ -71,7 +73,8 @@ fn add_words(
     declared: &Declared,
     rest: &[(WordOp, Expr)],
 ) -> Result<(), NoMemory>
-    ensures { OnOk result (set.new.keys ≡ grown declared.now.entries set.old.keys (flat_map (λ x. names_in x.1) (map operand_view rest.now))) }
+    ensures { OnOk result (set.new.keys
+        ≡ grown declared.now.entries set.old.keys (flat_map (λ x. names_in x.1) (map operand_view rest.now))) }
 {
     for (_, operand) in rest {
         add_expr(set, declared, operand)?;
@@ -85,7 +88,9 @@ fn add_arms(
     declared: &Declared,
     arms: &[(Expr, Expr)],
 ) -> Result<(), NoMemory>
-    ensures { OnOk result (set.new.keys ≡ grown declared.now.entries set.old.keys (flat_map (λ x. names_in x.0 ++ names_in x.1) (map arm_view arms.now))) }
+    ensures { OnOk result (set.new.keys
+        ≡ grown declared.now.entries set.old.keys (flat_map (λ x. names_in x.0 ++ names_in x.1)
+        (map arm_view arms.now))) }
 {
     for (condition, value) in arms {
         add_expr(set, declared, condition)?;
@@ -96,7 +101,8 @@ fn add_arms(
 
 #[cycle(names)]
 fn add_parts(set: &mut IndexSet<Name>, declared: &Declared, parts: &[Expr]) -> Result<(), NoMemory>
-    ensures { OnOk result (set.new.keys ≡ grown declared.now.entries set.old.keys (flat_map names_in (map expression parts.now))) }
+    ensures { OnOk result (set.new.keys
+        ≡ grown declared.now.entries set.old.keys (flat_map names_in (map expression parts.now))) }
 {
     for part in parts {
         add_expr(set, declared, part)?;
@@ -109,7 +115,8 @@ fn add_left_sides(
     declared: &Declared,
     all: &[(Expr, Expr)],
 ) -> Result<(), NoMemory>
-    ensures { OnOk result (set.new.keys ≡ grown declared.now.entries set.old.keys (flat_map (λ x. names_in x.0) (map arm_view all.now))) }
+    ensures { OnOk result (set.new.keys
+        ≡ grown declared.now.entries set.old.keys (flat_map (λ x. names_in x.0) (map arm_view all.now))) }
 {
     for (left, _) in all {
         add_expr(set, declared, left)?;
@@ -122,7 +129,8 @@ fn add_gates(
     declared: &Declared,
     gates: &[GateCall],
 ) -> Result<(), NoMemory>
-    ensures { OnOk result (set.new.keys ≡ grown declared.now.entries set.old.keys (flat_map (λ x. flat_map names_in x.1) (map gate_view gates.now))) }
+    ensures { OnOk result (set.new.keys
+        ≡ grown declared.now.entries set.old.keys (flat_map (λ x. flat_map names_in x.1) (map gate_view gates.now))) }
 {
     for gate in gates {
         add_parts(set, declared, gate.terms.as_slice())?;
@@ -135,7 +143,8 @@ fn add_optional(
     declared: &Declared,
     place: &Option<Expr>,
 ) -> Result<(), NoMemory>
-    ensures { OnOk result (set.new.keys ≡ grown declared.now.entries set.old.keys (names_in_optional (optional_view place.now))) }
+    ensures { OnOk result (set.new.keys
+        ≡ grown declared.now.entries set.old.keys (names_in_optional (optional_view place.now))) }
 {
     match place {
         Some(expr) => add_expr(set, declared, expr),
@@ -148,7 +157,8 @@ fn add_places(
     declared: &Declared,
     places: &[Option<Expr>],
 ) -> Result<(), NoMemory>
-    ensures { OnOk result (set.new.keys ≡ grown declared.now.entries set.old.keys (flat_map names_in_optional (map optional_view places.now))) }
+    ensures { OnOk result (set.new.keys
+        ≡ grown declared.now.entries set.old.keys (flat_map names_in_optional (map optional_view places.now))) }
 {
     for place in places {
         add_optional(set, declared, place)?;
@@ -161,7 +171,8 @@ fn add_named(
     declared: &Declared,
     all: &[(Name, Option<Expr>)],
 ) -> Result<(), NoMemory>
-    ensures { OnOk result (set.new.keys ≡ grown declared.now.entries set.old.keys (flat_map (λ x. names_in_optional x.1) (map named_view all.now))) }
+    ensures { OnOk result (set.new.keys
+        ≡ grown declared.now.entries set.old.keys (flat_map (λ x. names_in_optional x.1) (map named_view all.now))) }
 {
     for (_, place) in all {
         add_optional(set, declared, place)?;
@@ -170,7 +181,8 @@ fn add_named(
 }
 
 fn add_calls(set: &mut IndexSet<Name>, declared: &Declared, calls: &[Call]) -> Result<(), NoMemory>
-    ensures { OnOk result (set.new.keys ≡ grown declared.now.entries set.old.keys (flat_map (λ x. names_in_conns x.1) (map call_view calls.now))) }
+    ensures { OnOk result (set.new.keys
+        ≡ grown declared.now.entries set.old.keys (flat_map (λ x. names_in_conns x.1) (map call_view calls.now))) }
 {
     for call in calls {
         add_conns(set, declared, &call.conns)?;
@@ -179,7 +191,8 @@ fn add_calls(set: &mut IndexSet<Name>, declared: &Declared, calls: &[Call]) -> R
 }
 
 fn add_conns(set: &mut IndexSet<Name>, declared: &Declared, conns: &Conns) -> Result<(), NoMemory>
-    ensures { OnOk result (set.new.keys ≡ grown declared.now.entries set.old.keys (names_in_conns (conns_view conns.now))) }
+    ensures { OnOk result (set.new.keys
+        ≡ grown declared.now.entries set.old.keys (names_in_conns (conns_view conns.now))) }
 {
     match conns {
         Conns::Order(places) => add_places(set, declared, places),
@@ -188,7 +201,8 @@ fn add_conns(set: &mut IndexSet<Name>, declared: &Declared, conns: &Conns) -> Re
 }
 
 fn add_item(set: &mut IndexSet<Name>, declared: &Declared, body: &Body) -> Result<(), NoMemory>
-    ensures { OnOk result (set.new.keys ≡ grown declared.now.entries set.old.keys (implicit_places (body_view body.now))) }
+    ensures { OnOk result (set.new.keys
+        ≡ grown declared.now.entries set.old.keys (implicit_places (body_view body.now))) }
 {
     match body {
         Body::Assign(all) => add_left_sides(set, declared, all),

@@ -4,7 +4,8 @@ ghost use Rattle.std.specs.Prelude.{◌≡◌, [], map, option_to_list, IfOk, On
 ghost use Rattle.std.specs.List.{list_any, position_from};
 ghost use Rattle.bb_bits.specs.Names.{same_name};
 ghost use Rattle.bb_ast.specs.Inside.Views.{head_view, module_view};
-ghost use Rattle.bb_names.specs.Declarations.{direction_of, implicit_names, is_instance, is_known, is_port, kind_of, range_of, port_direction};
+ghost use Rattle.bb_names.specs.Declarations.{direction_of, implicit_names, is_instance, is_known, is_port, kind_of};
+ghost use Rattle.bb_names.specs.Declarations.{range_of, port_direction};
 ghost use Rattle.bb_names.specs.Faults.{is_input, is_input_port};
 ghost use Rattle.bb_names.specs.Inside.Indexed.{head_names, ArePlaces, IsIndexed};
 ghost use Rattle.bb_bits.specs.Earlier.{once};

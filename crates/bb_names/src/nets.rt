@@ -59,7 +59,8 @@ fn add_name(index: &mut NetIndex, name: &Name) -> Result<(), NoMemory>
 }
 
 fn add_heads(index: &mut NetIndex, heads: &[Head]) -> Result<(), NoMemory>
-    ensures { OnOk result (index.new.entries ≡ all_placed index.old.entries (map (λ head. head.name) (map head_view heads.now))) }
+    ensures { OnOk result (index.new.entries
+        ≡ all_placed index.old.entries (map (λ head. head.name) (map head_view heads.now))) }
 {
     for head in heads {
         add_name(index, &head.name)?;
@@ -100,7 +101,8 @@ fn add_item(index: &mut NetIndex, body: &Body) -> Result<(), NoMemory>
 }
 
 fn add_items(index: &mut NetIndex, items: &[Item]) -> Result<(), NoMemory>
-    ensures { OnOk result (index.new.entries ≡ all_placed index.old.entries (flat_map (λ item. nets_declared_by item.body) (map item_view items.now))) }
+    ensures { OnOk result (index.new.entries
+        ≡ all_placed index.old.entries (flat_map (λ item. nets_declared_by item.body) (map item_view items.now))) }
 {
     for item in items {
         add_item(index, &item.body)?;

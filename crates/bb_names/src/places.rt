@@ -10,7 +10,8 @@ use indexmap::IndexMap;
 pub(crate) type Places = IndexMap<Name, usize>;
 
 pub(crate) fn note_place(places: &mut Places, name: &Name, place: usize) -> Result<(), NoMemory>
-    ensures { (names : List (List ℕ)) → ArePlaces places.old.entries names → place ≡ length names → OnOk result (ArePlaces places.new.entries (names ++ name.now ∷ [])) }
+    ensures { (names : List (List ℕ)) → ArePlaces places.old.entries names → place ≡ length names
+        → OnOk result (ArePlaces places.new.entries (names ++ name.now ∷ [])) }
 {
     if !places.contains_key(name) {
         places.insert(name.clone()?, place)?;

@@ -3,12 +3,14 @@
 //! and then `input [7:0] a;` is a port declared with two ranges, and not a header without a direction. Later
 //! declarations are needed only to find a second one too many, so a summary of fixed size suffices in place of the
 //! list.
-ghost use Rattle.std.specs.Prelude.{◌≡◌, ◌++◌, ◌∷◌, [], ℕ, List, Option, Some, ◌&&◌, not, is_some, if◌then◌else◌, OnOk, IfOk};
+ghost use Rattle.std.specs.Prelude.{◌≡◌, ◌++◌, ◌∷◌, [], ℕ, List, Option, Some, ◌&&◌, not, is_some, if◌then◌else◌, OnOk};
+ghost use Rattle.std.specs.Prelude.{IfOk};
 ghost use Rattle.std.specs.Map.{lookup};
 ghost use Rattle.std.specs.List.{list_any};
 ghost use Rattle.bb_bits.specs.Names.{same_name};
 ghost use Rattle.bb_ast.specs.Syntax.{PlainModule};
-ghost use Rattle.bb_names.specs.Declarations.{Declaration, port_declaration, net_declaration, instance_declaration, is_port, supply_kind, net_kind};
+ghost use Rattle.bb_names.specs.Declarations.{Declaration, port_declaration, net_declaration, instance_declaration};
+ghost use Rattle.bb_names.specs.Declarations.{is_port, supply_kind, net_kind};
 ghost use Rattle.bb_names.specs.Faults.{clashes, declares_supply};
 ghost use Rattle.bb_names.specs.Inside.Summaries.{named, has_other, leaves_no_room, Reports, IsSummary, Describes};
 
@@ -137,7 +139,8 @@ pub(crate) fn summary_of(declared: &Declared, name: &Name) -> Option<Summary>
 }
 
 fn ranges_with(ranges: Ranges, d: DeclaredAs) -> Ranges
-    ensures { (n : List ℕ) (all : List (Option Range)) → Reports ranges all → Reports result (all ++ (if declares_supply (named n d) then [] else d.range ∷ [])) }
+    ensures { (n : List ℕ) (all : List (Option Range)) → Reports ranges all
+        → Reports result (all ++ (if declares_supply (named n d) then [] else d.range ∷ [])) }
 {
     if d.is_supply() {
         ranges
@@ -147,7 +150,8 @@ fn ranges_with(ranges: Ranges, d: DeclaredAs) -> Ranges
 }
 
 fn joined(earlier: Option<Summary>, d: DeclaredAs) -> Summary
-    ensures { (n : List ℕ) (all : List Declaration) → IsSummary n all earlier → IsSummary n (all ++ named n d ∷ []) (Some result) }
+    ensures { (n : List ℕ) (all : List Declaration) → IsSummary n all earlier
+        → IsSummary n (all ++ named n d ∷ []) (Some result) }
 {
     match earlier {
         None => Summary {
@@ -179,7 +183,8 @@ pub(crate) fn declare_next(
     d: DeclaredAs,
 ) -> Result<Option<Summary>, NoMemory>
     ensures earlier { IfOk result (λ earlier. earlier ≡ lookup (same_name name.now) declared.old.entries) }
-    ensures declared { (all : List Declaration) → Describes declared.old.entries all → OnOk result (Describes declared.new.entries (all ++ named name.now d ∷ [])) }
+    ensures declared { (all : List Declaration) → Describes declared.old.entries all
+        → OnOk result (Describes declared.new.entries (all ++ named name.now d ∷ [])) }
 {
     let earlier = declared.insert(name.clone()?, joined(None, d))?;
     if earlier.is_some() {
@@ -189,7 +194,8 @@ pub(crate) fn declare_next(
 }
 
 pub(crate) fn declare(declared: &mut Declared, name: &Name, d: DeclaredAs) -> Result<(), NoMemory>
-    ensures { (all : List Declaration) → Describes declared.old.entries all → OnOk result (Describes declared.new.entries (all ++ named name.now d ∷ [])) }
+    ensures { (all : List Declaration) → Describes declared.old.entries all
+        → OnOk result (Describes declared.new.entries (all ++ named name.now d ∷ [])) }
 {
     declare_next(declared, name, d)?;
     Ok(())

@@ -8,7 +8,7 @@ use Rattle.bb_lemmas.proofs.Firsts.{repeat_not_apart}
 use Rattle.bb_lemmas.proofs.LeastBits.{Below, least_or_none}
 use Rattle.bb_lemmas.proofs.Orders.{less_or_same}
 use Rattle.bb_net.specs.Equivalence.{AreBoxOutputs}
-use Rattle.bb_net.specs.Conditions.{PinBits, Suit, Wins}
+use Rattle.bb_net.specs.Conditions.{PinBits, ChoicesSuit, InputsHaveOutputs}
 use Rattle.bb_net.specs.Netlists.{Netlist, Pins, box_at}
 use Rattle.bb_net.specs.Values.{bit_of, flat, output_pins}
 use Rattle.bb_nest.specs.Nested.{AreSame, Sees, pin_cells, AreNested}
@@ -122,9 +122,9 @@ module _ (below : Below) where
       from (inl apart) (inr not) = inr (λ nested. not (λ b there a less. nested.seen a b less there))
 
   -- choices
-  module _ (spec imp : Netlist) (suit : (chosen : List PinBits) → Decision (Suit spec imp chosen)) where
+  module _ (spec imp : Netlist) (suit : (chosen : List PinBits) → Decision (ChoicesSuit spec imp chosen)) where
     abbrev After : List Pins → List PinBits → List Bool → List Bool → Type 0
-    After boxes chosen ins outs = Wins (Suit spec imp) boxes (chosen ++ record { ins = ins; outs = outs } ∷ [])
+    After boxes chosen ins outs = InputsHaveOutputs (ChoicesSuit spec imp) boxes (chosen ++ record { ins = ins; outs = outs } ∷ [])
 
     -- no outputs for some inputs, or some
     replied : (m : ℕ) (P : List Bool → Type 0) → ((outs : List Bool) → Decision (P outs)) → ((outs : List Bool) → length outs ≡ m → P outs → ⊥) ⊎ ((outs : List Bool) × (length outs ≡ m) × P outs)
@@ -133,7 +133,7 @@ module _ (below : Below) where
       | inr none ↦ inl none
     ]
 
-    pub decide_wins : (boxes : List Pins) (chosen : List PinBits) → Decision (Wins (Suit spec imp) boxes chosen)
+    pub decide_wins : (boxes : List Pins) (chosen : List PinBits) → Decision (InputsHaveOutputs (ChoicesSuit spec imp) boxes chosen)
     decide_wins [] chosen = suit chosen
     decide_wins (box ∷ boxes) chosen =
         let m = length box.outs in

@@ -7,7 +7,7 @@ use Rattle.bb_bits.specs.Numbers.{number_of}
 use Rattle.bb_bits.specs.Tables.{TableBits, row_of}
 use Rattle.bb_lemmas.proofs.Maps.{map-twice}
 use Rattle.bb_net.specs.Equivalence.{AllRight, IsVector, TablesMakeEquivalent}
-use Rattle.bb_net.specs.Conditions.{PinBits, all_ins, Suit, Wins, SomeChoicesSuit}
+use Rattle.bb_net.specs.Conditions.{PinBits, all_ins, ChoicesSuit, InputsHaveOutputs, SomeChoicesSuit}
 use Rattle.bb_net.specs.Netlists.{Netlist, Pins, IsNetlist, box_at}
 use Rattle.bb_net.specs.Values.{bit_of, flat, flat_with, tabled_bit, table_at, FitBoxes, ValueGoesByBoxes}
 use Rattle.bb_nest.specs.Rows.{SeesBit, SeesBits, IsRow, IsLeast, AreZeros, IsNestedRow}
@@ -77,9 +77,9 @@ module _ (exists : ValueExists) (swap : ValueGoesByBoxes) (spec imp : Netlist) (
         get_or-take table.outputs (drop start table.rows) p false (let h = fit.outputs b l in omega (arith, h, low))
         ∙ (get_or-drop start table.rows p false ∙ (sym (pin_bit exists swap imp kept x (tabled_bit tables) b p low) ∙ sym (get_or-map (bit_of bits) outs p 0 false low))))
 
-    follow : (rest done : List Pins) → imp.boxes ≡ done ++ rest → Wins (Suit spec imp) rest (map (bits_at bits) done) → Suit spec imp (map (bits_at bits) imp.boxes)
-    follow [] done split wins = subst (λ (boxes : List Pins). Suit spec imp (map (bits_at bits) boxes)) (sym (split ∙ append-nil done)) wins
-    follow (box ∷ rest) done split wins = follow rest (done ++ box ∷ []) (split ∙ sym (append_assoc done (box ∷ []) rest)) (subst (Wins (Suit spec imp) rest) (sym (map-append (bits_at bits) done (box ∷ []))) next)
+    follow : (rest done : List Pins) → imp.boxes ≡ done ++ rest → InputsHaveOutputs (ChoicesSuit spec imp) rest (map (bits_at bits) done) → ChoicesSuit spec imp (map (bits_at bits) imp.boxes)
+    follow [] done split wins = subst (λ (boxes : List Pins). ChoicesSuit spec imp (map (bits_at bits) boxes)) (sym (split ∙ append-nil done)) wins
+    follow (box ∷ rest) done split wins = follow rest (done ++ box ∷ []) (split ∙ sym (append_assoc done (box ∷ []) rest)) (subst (InputsHaveOutputs (ChoicesSuit spec imp) rest) (sym (map-append (bits_at bits) done (box ∷ []))) next)
       where
         b : ℕ
         b = length done
@@ -99,20 +99,20 @@ module _ (exists : ValueExists) (swap : ValueGoesByBoxes) (spec imp : Netlist) (
         ins : List Bool
         ins = map (bit_of bits) box.ins
 
-        next : Wins (Suit spec imp) rest (map (bits_at bits) done ++ bits_at bits box ∷ [])
+        next : InputsHaveOutputs (ChoicesSuit spec imp) rest (map (bits_at bits) done ++ bits_at bits box ∷ [])
         next =
             let row = nested_row b l in
             let seen = seen_pins imp x vector bits same (box_at imp.boxes b) (take b imp.boxes) row.earlier row.seen in
             by row.earlier (ins_at b) (row_at b) (seen ∙ ap (map (bits_at bits)) before) (ap (λ (pins : Pins). map (bit_of bits) pins.ins) here) (row_is b l ∙ ap (λ (pins : Pins). map (bit_of bits) pins.outs) here) row.row
           where
-            by : (earlier : List PinBits) (i o : List Bool) → earlier ≡ map (bits_at bits) done → i ≡ ins → o ≡ map (bit_of bits) box.outs → IsRow spec imp b earlier i o → Wins (Suit spec imp) rest (map (bits_at bits) done ++ bits_at bits box ∷ [])
+            by : (earlier : List PinBits) (i o : List Bool) → earlier ≡ map (bits_at bits) done → i ≡ ins → o ≡ map (bit_of bits) box.outs → IsRow spec imp b earlier i o → InputsHaveOutputs (ChoicesSuit spec imp) rest (map (bits_at bits) done ++ bits_at bits box ∷ [])
             by earlier i o e f g (IsLeast long suffice least) =
-                subst₂ (λ (boxes : List Pins) (chosen : List PinBits). Wins (Suit spec imp) boxes chosen) after
+                subst₂ (λ (boxes : List Pins) (chosen : List PinBits). InputsHaveOutputs (ChoicesSuit spec imp) boxes chosen) after
                 (ap₂ (λ (v : List PinBits) (c : PinBits). v ++ c ∷ []) e (ap₂ (λ v w. record { ins = v; outs = w }) f g)) suffice
             by earlier i o e f g (AreZeros none zeros) =
                 let reply = wins ins (length-map box.ins (bit_of bits)) in
                 absurd (none reply.0 (reply.1 ∙ ap (λ (pins : Pins). length pins.outs) (sym here))
-                (subst₂ (λ (boxes : List Pins) (chosen : List PinBits). Wins (Suit spec imp) boxes chosen) (sym after) (ap₂ (λ (v : List PinBits) (w : List Bool). v ++ record { ins = w; outs = reply.0 } ∷ []) (sym e) (sym f)) reply.2))
+                (subst₂ (λ (boxes : List Pins) (chosen : List PinBits). InputsHaveOutputs (ChoicesSuit spec imp) boxes chosen) (sym after) (ap₂ (λ (v : List PinBits) (w : List Bool). v ++ record { ins = w; outs = reply.0 } ∷ []) (sym e) (sym f)) reply.2))
 
     pub agrees_at : SomeChoicesSuit spec imp → AllRight spec imp x bits
     agrees_at choices =

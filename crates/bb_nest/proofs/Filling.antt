@@ -9,7 +9,7 @@ use Rattle.bb_lemmas.proofs.LeastBits.{least_or_none}
 use Rattle.bb_net.specs.Conditions.{PinBits, SomeChoicesSuit}
 use Rattle.bb_net.specs.Netlists.{Netlist, Pins, IsNetlist, box_at}
 use Rattle.bb_net.specs.Values.{table_at, FitBoxes}
-use Rattle.bb_input.specs.InputFunctions.{pin_bits, pin_places}
+use Rattle.bb_input.specs.InputFunctions.{point_pins, pin_places}
 use Rattle.bb_nest.specs.Nested.{Sees, pin_cells, AreNested}
 use Rattle.bb_nest.specs.Rows.{Suffice, IsRow, IsLeast, AreZeros, IsNestedRow, AreNestedTables}
 use Rattle.bb_nest.specs.Inside.LawsBelow.{LawsBelow}
@@ -65,8 +65,8 @@ module _ (laws : LawsBelow) (spec imp : Netlist) (kept : IsNetlist imp) (kinds :
       let box = box_at imp.boxes b in
       let sees = sees_places imp kinds nested b l in
       let seen = seen_cells imp box ins (first_of_sees laws.below imp box) (pin_places before) sees in
-      let row = row_after laws spec imp b (pin_bits before seen.0) ins in
-      (row.0, record { earlier = pin_bits before seen.0; seen = seen_boxes imp box ins before seen.0 seen.1; row = row.1 })
+      let row = row_after laws spec imp b (point_pins before seen.0) ins in
+      (row.0, record { earlier = point_pins before seen.0; seen = seen_boxes imp box ins before seen.0 seen.1; row = row.1 })
 
   -- a table of box b
   pub record IsTableOf (b : ℕ) (t : TableBits) : Type 0 where

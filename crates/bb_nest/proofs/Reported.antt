@@ -15,7 +15,7 @@ use Rattle.bb_sym.specs.Plain.{table, cell_bit}
 use Rattle.bb_uniq.specs.declared.store.Ref.{Ref}
 use Rattle.bb_uniq.specs.Inside.Meaning.{truth_of}
 use Rattle.bb_uniq.specs.Inside.Nodes.{NodeStore, IsRef}
-use Rattle.bb_input.specs.InputFunctions.{pins_and_inputs, pin_bits, boxes_first, pin_places, stage}
+use Rattle.bb_input.specs.InputFunctions.{pins_and_inputs, point_pins, boxes_first, pin_places, stage}
 use Rattle.bb_input.specs.Laws.{StagesSay}
 use Rattle.bb_nest.specs.Inside.LawsBelow.{LawsBelow}
 use Rattle.bb_nest.specs.Inside.StageRows.{IsStageRow, IsStageTable, prefix_of}
@@ -33,7 +33,7 @@ module _ (laws : LawsBelow) (functions : FunctionLaws) (points : PointLaws) (say
     (tables : List TableBits) (many : length tables ≡ length imp.boxes) (all : (b : ℕ) → b < length imp.boxes → IsStageTable s.vars (truth_of s (ref_at stages b).0) refs imp.boxes b (table_at tables b)) where
   nested_row : AreNestedRows spec imp tables
   nested_row b l ins long = record {
-    earlier = pin_bits before seen;
+    earlier = point_pins before seen;
     seen = seen_boxes imp box ins before seen (seen_zip functions imp s refs count occur canonical b l t.readers t.read ins);
     row = row;
   }
@@ -59,7 +59,7 @@ module _ (laws : LawsBelow) (functions : FunctionLaws) (points : PointLaws) (say
       outs : List Bool
       outs = row_of bits (number_of ins)
 
-      row : IsRow spec imp b (pin_bits before seen) ins outs
+      row : IsRow spec imp b (point_pins before seen) ins outs
       row = elim (cases_lt 0 bits.outputs) [
         | inl some ↦
             let power : 2 ^ length ins ≡ 2 ^ bits.inputs = ap (λ j. 2 ^ j) (long ∙ sym t.inputs) in
@@ -68,11 +68,11 @@ module _ (laws : LawsBelow) (functions : FunctionLaws) (points : PointLaws) (say
             (subst (λ m. IsStageRow (pins_and_inputs imp) (stage spec imp b) m (prefix_of t.readers ins) outs) t.outputs
             (subst₂ (λ n (f : Truth). IsStageRow n f bits.outputs (prefix_of t.readers ins) outs) vars (there b l).table stage_row))
         | inr none ↦
-            let found = row_after laws spec imp b (pin_bits before seen) ins in
+            let found = row_after laws spec imp b (point_pins before seen) ins in
             let zero : bits.outputs ≡ 0 = omega (arith, none) in
             let empty : outs ≡ [] = ap (λ m. take m (drop (number_of ins * bits.outputs) bits.rows)) zero in
-            let other : found.0 ≡ [] = nil_from_length found.0 (row_count spec imp b (pin_bits before seen) ins found.0 found.1 ∙ (sym t.outputs ∙ zero)) in
-            subst (IsRow spec imp b (pin_bits before seen) ins) (other ∙ sym empty) found.1
+            let other : found.0 ≡ [] = nil_from_length found.0 (row_count spec imp b (point_pins before seen) ins found.0 found.1 ∙ (sym t.outputs ∙ zero)) in
+            subst (IsRow spec imp b (point_pins before seen) ins) (other ∙ sym empty) found.1
       ]
 
   pub reported_tables : All IsTable tables → SomeChoicesSuit spec imp → AreNestedTables spec imp tables

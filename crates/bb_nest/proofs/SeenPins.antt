@@ -5,7 +5,7 @@ use Rattle.std.proofs.lemmas.List.{drop-drop}
 use Rattle.std.proofs.lemmas.List.Elements.{All-head, All-tail}
 use Rattle.bb_net.specs.Netlists.{Netlist, Pins}
 use Rattle.bb_net.specs.Values.{bit_of}
-use Rattle.bb_input.specs.InputFunctions.{pin_bits, pin_places}
+use Rattle.bb_input.specs.InputFunctions.{point_pins, pin_places}
 use Rattle.bb_nest.specs.Nested.{Sees}
 use Rattle.bb_nest.specs.Rows.{IsSeenFirst, SeesBit, SeesBits}
 
@@ -25,7 +25,7 @@ module _ (net : Netlist) (box : Pins) (ins : List Bool) where
   abbrev SeesHere : ℕ → Bool → Type 0
   SeesHere = SeesBit net box ins
 
-  pub seen_boxes : (boxes : List Pins) (seen : List Bool) → AllZip SeesHere (pin_places boxes) seen → AllZip (SeesBits net box ins) boxes (pin_bits boxes seen)
+  pub seen_boxes : (boxes : List Pins) (seen : List Bool) → AllZip SeesHere (pin_places boxes) seen → AllZip (SeesBits net box ins) boxes (point_pins boxes seen)
   seen_boxes [] seen all = tt
   seen_boxes (other ∷ boxes) seen all =
       let rest = pin_places boxes in

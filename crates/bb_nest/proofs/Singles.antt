@@ -3,7 +3,7 @@ use Rattle.std.proofs.Common.{◌≡◌, ◌⊎◌, ◌<◌, ◌≤◌, ◌↔�
 use Rattle.bb_bits.specs.Numbers.{number_of}
 use Rattle.bb_bits.specs.Tables.{TableBits, row_of}
 use Rattle.bb_net.specs.Completions.{AreCompletion}
-use Rattle.bb_net.specs.Conditions.{PinBits, Suit, Wins, SomeChoicesSuit, NoChoicesSuit, NoTablesMakeEquivalent}
+use Rattle.bb_net.specs.Conditions.{PinBits, ChoicesSuit, InputsHaveOutputs, SomeChoicesSuit, NoChoicesSuit, NoTablesMakeEquivalent}
 use Rattle.bb_net.specs.Netlists.{Netlist, Pins, IsNetlist, box_at}
 use Rattle.bb_net.specs.Values.{output_pins, table_at}
 use Rattle.bb_input.specs.Inside.Answers as choices
@@ -27,13 +27,13 @@ module _ (spec imp : Netlist) (box : Pins) (one : imp.boxes ≡ box ∷ []) wher
   outs_are = ap output_pins one ∙ ((let h : output_pins (box ∷ []) ≡ length box.outs = omega arith in h) ∙ sym (ap (λ (boxes : List Pins). length (box_at boxes 0).outs) one))
 
   abbrev Suits : List Bool → List Bool → Type 0
-  Suits ins outs = Suit spec imp (record { ins = ins; outs = outs } ∷ [])
+  Suits ins outs = ChoicesSuit spec imp (record { ins = ins; outs = outs } ∷ [])
 
   to_suit : (ins outs : List Bool) → Suffice spec imp 0 [] ins outs → Suits ins outs
-  to_suit ins outs suffice = subst (λ (boxes : List Pins). Wins (Suit spec imp) (drop 1 boxes) (record { ins = ins; outs = outs } ∷ [])) one suffice
+  to_suit ins outs suffice = subst (λ (boxes : List Pins). InputsHaveOutputs (ChoicesSuit spec imp) (drop 1 boxes) (record { ins = ins; outs = outs } ∷ [])) one suffice
 
   from_suit : (ins outs : List Bool) → Suits ins outs → Suffice spec imp 0 [] ins outs
-  from_suit ins outs suit = subst (λ (boxes : List Pins). Wins (Suit spec imp) (drop 1 boxes) (record { ins = ins; outs = outs } ∷ [])) (sym one) suit
+  from_suit ins outs suit = subst (λ (boxes : List Pins). InputsHaveOutputs (ChoicesSuit spec imp) (drop 1 boxes) (record { ins = ins; outs = outs } ∷ [])) (sym one) suit
 
   to_row : (ins outs : List Bool) → AreLeastOutputs spec imp ins outs → IsNestedRow spec imp 0 ins outs
   to_row ins outs a = record {
@@ -52,7 +52,7 @@ module _ (spec imp : Netlist) (box : Pins) (one : imp.boxes ≡ box ∷ []) wher
         least = λ others long suit. least others (long ∙ outs_are) (from_suit ins others suit);
       }
       by [] seen (AreZeros none zeros) =
-          let found = subst (λ (boxes : List Pins). Wins (Suit spec imp) boxes []) one choices ins (wide ∙ ap (λ (boxes : List Pins). length (box_at boxes 0).ins) one) in
+          let found = subst (λ (boxes : List Pins). InputsHaveOutputs (ChoicesSuit spec imp) boxes []) one choices ins (wide ∙ ap (λ (boxes : List Pins). length (box_at boxes 0).ins) one) in
           absurd (none found.0 (found.1 ∙ sym (ap (λ (boxes : List Pins). length (box_at boxes 0).outs) one)) (from_suit ins found.0 found.2))
       by (x ∷ earlier) seen row = absurd seen
 

@@ -4,12 +4,12 @@ use Rattle.std.proofs.lemmas.List.{length-replicate, take_at, take_more}
 use Rattle.std.proofs.lemmas.List.Sums.{sum_by-append, sum_by-cons}
 use Rattle.bb_bits.specs.Numbers.{number_of}
 use Rattle.bb_bits.specs.Truth.{Truth, truth_at}
-use Rattle.bb_net.specs.Conditions.{PinBits, Suit, Wins}
+use Rattle.bb_net.specs.Conditions.{PinBits, ChoicesSuit, InputsHaveOutputs}
 use Rattle.bb_net.specs.Netlists.{Netlist, Pins, box_at}
 use Rattle.bb_net.specs.Pairs.{pin_count}
 use Rattle.bb_quant.specs.Inside.LeastPoints.{BeginsAs}
 use Rattle.bb_sym.specs.Laws.{PointLaws}
-use Rattle.bb_input.specs.InputFunctions.{pins_and_inputs, pin_bits, stage}
+use Rattle.bb_input.specs.InputFunctions.{pins_and_inputs, point_pins, stage}
 use Rattle.bb_input.specs.Laws.{StagesSay}
 use Rattle.bb_nest.specs.Rows.{Suffice, IsRow, IsLeast, AreZeros}
 use Rattle.bb_nest.specs.Inside.StageRows.{IsStageRow, AtLeast, AtNone}
@@ -48,18 +48,18 @@ module _ (stages : StagesSay) (points : PointLaws) (spec imp : Netlist) (b : ℕ
 
   module _ (seen ins : List Bool) (e : length seen ≡ pin_count before) (f : length ins ≡ k) where
     abbrev earlier : List PinBits
-    earlier = pin_bits before seen
+    earlier = point_pins before seen
 
     -- the bits of a point that begins so
-    bits_are : (outs w : List Bool) → length outs ≡ m → pin_bits (take (b + 1) imp.boxes) (((seen ++ ins) ++ outs) ++ w) ≡ earlier ++ record { ins = ins; outs = outs } ∷ []
+    bits_are : (outs w : List Bool) → length outs ≡ m → point_pins (take (b + 1) imp.boxes) (((seen ++ ins) ++ outs) ++ w) ≡ earlier ++ record { ins = ins; outs = outs } ∷ []
     bits_are outs w g =
         let pre = seen ++ (ins ++ outs) in
         let long : pin_count (before ++ box ∷ []) ≤ length pre = omega (arith, count_push before box, length-append seen (ins ++ outs), length-append ins outs, e, f, g) in
-        ap₂ pin_bits (take_more imp.boxes b no_pins l) (ap (λ (v : List Bool). v ++ w) (append_assoc seen ins outs)) ∙ (bits_prefix (before ++ box ∷ []) pre w long ∙ bits_push before box seen ins outs e f g)
+        ap₂ point_pins (take_more imp.boxes b no_pins l) (ap (λ (v : List Bool). v ++ w) (append_assoc seen ins outs)) ∙ (bits_prefix (before ++ box ∷ []) pre w long ∙ bits_push before box seen ins outs e f g)
 
     reports : (outs w : List Bool) → length outs ≡ m → length (((seen ++ ins) ++ outs) ++ w) ≡ pins_and_inputs imp → (truth_at t (((seen ++ ins) ++ outs) ++ w) ≡ false) ↔ Suffice spec imp b earlier ins outs
     reports outs w g whole =
-        subst (λ (chosen : List PinBits). (truth_at t (((seen ++ ins) ++ outs) ++ w) ≡ false) ↔ Wins (Suit spec imp) (drop (b + 1) imp.boxes) chosen)
+        subst (λ (chosen : List PinBits). (truth_at t (((seen ++ ins) ++ outs) ++ w) ≡ false) ↔ InputsHaveOutputs (ChoicesSuit spec imp) (drop (b + 1) imp.boxes) chosen)
         (bits_are outs w g) (stages spec imp b l (((seen ++ ins) ++ outs) ++ w) whole)
 
     -- with zeros after

@@ -7,7 +7,7 @@ use Rattle.std.specs.List.{AllZip}
 use Rattle.bb_bits.specs.Numbers.{number_of}
 use Rattle.bb_bits.specs.Tables.{TableBits, row_of}
 use Rattle.bb_net.specs.Completions.{AreCompletion}
-use Rattle.bb_net.specs.Conditions.{PinBits, Suit, Wins}
+use Rattle.bb_net.specs.Conditions.{PinBits, ChoicesSuit, InputsHaveOutputs}
 use Rattle.bb_net.specs.Netlists.{Netlist, Pins, box_at}
 use Rattle.bb_net.specs.Values.{bit_of, table_at}
 use Rattle.bb_nest.specs.Nested.{AreSame}
@@ -37,7 +37,7 @@ AreOutputsOf net b outs = length outs ≡ length (box_at net.boxes b).outs
 
 -- with these outputs of box b the boxes after it can be filled one after another
 abbrev pub Suffice : Netlist → Netlist → ℕ → List PinBits → List Bool → List Bool → Type 0
-Suffice spec imp b earlier ins outs = Wins (Suit spec imp) (drop (b + 1) imp.boxes) (earlier ++ record { ins = ins; outs = outs } ∷ [])
+Suffice spec imp b earlier ins outs = InputsHaveOutputs (ChoicesSuit spec imp) (drop (b + 1) imp.boxes) (earlier ++ record { ins = ins; outs = outs } ∷ [])
 
 -- the outputs of box b at ins, where the pins before it have these bits
 pub data IsRow (spec imp : Netlist) (b : ℕ) (earlier : List PinBits) (ins outs : List Bool) : Type 0 where

@@ -2,7 +2,8 @@
 //! proof of this one.
 
 ghost use Rattle.bb_nest.specs.Inside.LawsBelow.{LawsBelow};
-ghost use Rattle.bb_nest.specs.Laws.{CellsAreSeen, SinglesAreNested, SinglesAnswerTheSame, NestedChoicesAreTables, NestedAreDecided, OneAnswer, AnswersExist};
+ghost use Rattle.bb_nest.specs.Laws.{CellsAreSeen, SinglesAreNested, SinglesAnswerTheSame, NestedChoicesAreTables};
+ghost use Rattle.bb_nest.specs.Laws.{NestedAreDecided, OneAnswer, AnswersExist};
 
 use bb_bits::{
     number_is_below, number_spelled, number_spelled_once, rows_are_chosen, rows_are_tables,

@@ -30,7 +30,8 @@ pub fn nest(alloc: Global, pair: &Pair, nodes: u32, cache: u32) -> Result<InputA
     requires cache_least { 1 ≤ cache }
     requires cache_most { cache ≤ 1048576 }
     ensures answer { IfOk result (IsInputAnswer pair.now.spec pair.now.imp pair.now.kinds) }
-    ensures nodes { IsErrOf result RungFault.Nodes → HasMoreThan (IsBeadOfAny (input_functions pair.now.spec pair.now.imp)) nodes }
+    ensures nodes { IsErrOf result RungFault.Nodes
+        → HasMoreThan (IsBeadOfAny (input_functions pair.now.spec pair.now.imp)) nodes }
     ensures within { HasMoreThan (IsBeadOfAny (input_functions pair.now.spec pair.now.imp)) nodes → OnOk result ⊥ }
 {
     let made = make_prefix(alloc, pair, nodes, cache)?;

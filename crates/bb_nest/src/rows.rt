@@ -2,7 +2,8 @@
 //! before the box are not free: each gets the bit of the first input pin that sees it. Where two such pins have
 //! different bits no vector leads, so which one is read changes no output; the first makes the row unique.
 
-ghost use Rattle.std.specs.Prelude.{◌≡◌, ◌≢◌, ◌+◌, ◌*◌, ◌^◌, ◌<◌, ◌≤◌, ◌++◌, ℕ, Bool, false, List, length, map, take, drop, replicate, All, IfOk};
+ghost use Rattle.std.specs.Prelude.{◌≡◌, ◌≢◌, ◌+◌, ◌*◌, ◌^◌, ◌<◌, ◌≤◌, ◌++◌, ℕ, Bool, false, List, length, map, take};
+ghost use Rattle.std.specs.Prelude.{drop, replicate, All, IfOk};
 ghost use Rattle.bb_bits.specs.Numbers.{number_of};
 ghost use Rattle.bb_bits.specs.Tables.{row_of};
 ghost use Rattle.bb_net.specs.Values.{bit_of};
@@ -35,7 +36,9 @@ pub(crate) fn stage_table(
     ensures len { length point.new ≡ length point.old }
     ensures inputs { IfOk result (λ table. table.inputs ≡ inputs) }
     ensures outputs { IfOk result (λ table. table.outputs ≡ outputs) }
-    ensures rows { 0 < outputs → IfOk result (λ table. HasStageRows d.now.store.vars (truth_of d.now.store f.0) readers.now table (2 ^ inputs)) }
+    ensures rows { 0 < outputs
+        → IfOk result (λ table.
+        HasStageRows d.now.store.vars (truth_of d.now.store f.0) readers.now table (2 ^ inputs)) }
 {
     let mut table = Table::zeros(alloc, inputs, outputs)?;
     if outputs > 0 {
@@ -53,7 +56,8 @@ fn fill_rows(d: &Diagrams, f: Ref, readers: &[usize], table: &mut Table, point: 
     ensures len { length point.new ≡ length point.old }
     ensures inputs { table.new.inputs ≡ table.old.inputs }
     ensures outputs { table.new.outputs ≡ table.old.outputs }
-    ensures rows { HasStageRows d.now.store.vars (truth_of d.now.store f.0) readers.now table.new (2 ^ table.old.inputs) }
+    ensures rows { HasStageRows d.now.store.vars (truth_of d.now.store f.0) readers.now table.new
+        (2 ^ table.old.inputs) }
 {
     tables_have_few_inputs();
     number_spelled_once();
@@ -81,7 +85,8 @@ fn fill_row(
     ensures inputs { table.new.inputs ≡ table.old.inputs }
     ensures outputs { table.new.outputs ≡ table.old.outputs }
     ensures row { (ins : List Bool) → length ins ≡ table.old.inputs → number_of ins ≡ row
-        → IsStageRow d.now.store.vars (truth_of d.now.store f.0) table.old.outputs (prefix_of readers.now ins) (row_of table.new row) }
+        → IsStageRow d.now.store.vars (truth_of d.now.store f.0) table.old.outputs (prefix_of readers.now ins)
+        (row_of table.new row) }
     ensures others { (other : ℕ) → other < row → row_of table.new other ≡ row_of table.old other }
 {
     number_spelled_once();
@@ -105,7 +110,8 @@ fn clear(bits: &mut [bool])
 fn copy_seen(readers: &[usize], point: &mut [bool])
     requires there { All (λ p. length readers.now + p < length point.old) readers.now }
     requires fit { length readers.now ≤ length point.old }
-    ensures copied { point.new ≡ map (λ p. bit_of point.old (length readers.now + p)) readers.now ++ drop (length readers.now) point.old }
+    ensures copied { point.new
+        ≡ map (λ p. bit_of point.old (length readers.now + p)) readers.now ++ drop (length readers.now) point.old }
 {
     for (q, p) in readers.iter().enumerate() {
         point[q] = point[readers.len() + *p];

@@ -36,7 +36,8 @@ pub(crate) fn all_tables(
     requires seen { AllSeeRefs boxes.now refs.now }
     ensures count { IfOk result (λ tables. length tables.items ≡ length boxes.now) }
     ensures tables { IfOk result (λ tables. (b : ℕ) → b < length boxes.now
-        → IsStageTable d.now.store.vars (truth_of d.now.store (ref_at stages.now b).0) refs.now boxes.now b (table_at tables.items b)) }
+        → IsStageTable d.now.store.vars (truth_of d.now.store (ref_at stages.now b).0) refs.now boxes.now b
+        (table_at tables.items b)) }
 {
     let mut tables = Vec::with_capacity(alloc, boxes.len())?;
     let mut start = 0;

@@ -14,7 +14,7 @@ use Rattle.bb_net.specs.declared.loose.LooseCell.TheVariants.{BoxOut}
 use Rattle.bb_net.specs.declared.ordering.placing.Waiter.{Waiter}
 use Rattle.bb_net.specs.Netlists.{Netlist, Pins, box_at, with_cell, with_box}
 use Rattle.bb_net.specs.Values.{bit_of}
-use Rattle.bb_net.specs.Loose.{LooseList, loose_at, operands, IsLoose}
+use Rattle.bb_net.specs.Loose.{LooseList, loose_at, operand_places, IsLoose}
 use Rattle.bb_net.specs.Orders.{IsNoCopy, IsMoved}
 use Rattle.bb_net.specs.Inside.Placings.{IsPlaced, given_place, IsBuilt, boxes_of, IsLeastFirst, IsPlacingBy, IsComing}
 use Rattle.bb_net.proofs.PlaceLists.{length-le_from_apart}
@@ -94,7 +94,7 @@ IsPlacing-output l net to numbers numbered waiting fresh ready b number p old co
     let has = contains_number numbers number b coming.there coming.is in
     IsPlacing-put l net to numbers numbered waiting fresh ready [] (drop p outs) (drop (p + 1) outs) k (cell.BoxOut number p) old pin.0 (coming.free p (omega arith) h)
     (subst IsNoCopy (sym pin.1) tt)
-    (λ a reads. old.begun.pins b a has (subst (λ c. Contains (operands l.boxes c) a) pin.1 reads))
+    (λ a reads. old.begun.pins b a has (subst (λ c. Contains (operand_places l.boxes c) a) pin.1 reads))
     (subst (λ c. IsMoved (given_place to) numbers c (cell.BoxOut number p)) (sym pin.1) (number, coming.there, coming.is, refl))
     (λ c q e. let is : BoxOut b p ≡ BoxOut c q = sym pin.1 ∙ e in let same : b ≡ c = cc is in subst (Contains numbers) same has)
     (λ m in'. Contains-cons_cases k (drop (p + 1) outs) m (subst (λ xs. Contains xs m) (drop_more outs p 0 h) in'))

@@ -9,7 +9,7 @@ use Rattle.bb_net.specs.declared.cell.Cell.TheVariants as cell
 use Rattle.bb_net.specs.declared.loose.LooseCell.{LooseCell}
 use Rattle.bb_net.specs.declared.loose.LooseCell.TheVariants.{Const, Input, Not, And, Or, Xor, Mux, BoxOut, Copy}
 use Rattle.bb_net.specs.Netlists.{Netlist, Pins, cell_at, box_at, MayBeAppended, with_pin, with_cell, with_box}
-use Rattle.bb_net.specs.Loose.{LooseList, loose_at, operands, IsLoose}
+use Rattle.bb_net.specs.Loose.{LooseList, loose_at, operand_places, IsLoose}
 use Rattle.bb_net.specs.Orders.{IsNoCopy, IsMoved}
 use Rattle.bb_net.specs.Inside.Placings.{IsAt, IsPlaced, IsOpen, IsOutput, given_place, IsBegun, IsBuilt}
 use Rattle.bb_net.proofs.PlacedCells.{place_of-at, at_old, at_new, at_cases, place_of-old, open_count-set, index_cases}
@@ -24,7 +24,7 @@ third_of : (a b c : ℕ) → Contains (a ∷ b ∷ c ∷ []) c
 third_of a b c = (2, omega arith, refl)
 
 -- a cell is moved by what its operands' places are
-IsMoved-same : (f g : ℕ → ℕ) (numbers : List ℕ) (boxes : List Pins) (c : LooseCell) (d : Cell) → ((a : ℕ) → Contains (operands boxes c) a → f a ≡ g a) → IsMoved f numbers c d → IsMoved g numbers c d
+IsMoved-same : (f g : ℕ → ℕ) (numbers : List ℕ) (boxes : List Pins) (c : LooseCell) (d : Cell) → ((a : ℕ) → Contains (operand_places boxes c) a → f a ≡ g a) → IsMoved f numbers c d → IsMoved g numbers c d
 IsMoved-same f g numbers boxes (Const b) d same m = m
 IsMoved-same f g numbers boxes (Input i) d same m = m
 IsMoved-same f g numbers boxes (Not a) d same m = m ∙ ap cell.Not (same a (first_of a []))
@@ -93,7 +93,7 @@ old_moved l to numbers k q m place d begun free at moved =
     IsMoved-same (given_place to) (given_place (set to k (Some q))) numbers l.boxes (loose_at l m) d (λ a has. place_of-old to k q a free (begun.reads m place a at has)) moved
 
 pub IsBuilt-more : (l : LooseList) (net : Netlist) (to : List (Option ℕ)) (numbers : List ℕ) (k : ℕ) (c : Cell) → IsBegun l to numbers → IsBuilt l net to numbers → k < length to → IsOpen to k → IsNoCopy (loose_at l k)
-    → ((a : ℕ) → Contains (operands l.boxes (loose_at l k)) a → IsPlaced to a) → IsMoved (given_place to) numbers (loose_at l k) c → IsBuilt l (with_cell net c) (set to k (Some (length net.cells))) numbers
+    → ((a : ℕ) → Contains (operand_places l.boxes (loose_at l k)) a → IsPlaced to a) → IsMoved (given_place to) numbers (loose_at l k) c → IsBuilt l (with_cell net c) (set to k (Some (length net.cells))) numbers
 IsBuilt-more l net to numbers k c begun old lt free keep reads is =
     let q : ℕ = length net.cells in
     let new : List (Option ℕ) = set to k (Some q) in
@@ -174,13 +174,13 @@ IsBuilt-box l net to numbers b old =
 
 -- the moved cell may follow
 pub follows : (l : LooseList) (net : Netlist) (to : List (Option ℕ)) (numbers : List ℕ) (c : LooseCell) (d : Cell) → IsBuilt l net to numbers → (IsOutput c → ⊥) → ((i : ℕ) → c ≡ Input i → i < l.inputs)
-    → ((a : ℕ) → Contains (operands [] c) a → IsPlaced to a) → IsMoved (given_place to) numbers c d → MayBeAppended net d
+    → ((a : ℕ) → Contains (operand_places [] c) a → IsPlaced to a) → IsMoved (given_place to) numbers c d → MayBeAppended net d
 follows l net to numbers c d built out ins reads m = by_case c out ins reads m
   where
     under : (a : ℕ) → IsPlaced to a → given_place to a < length net.cells
     under a p = subst (λ j. j < length net.cells) (sym (place_of-at to a p.0 p.1)) (built.there a p.0 p.1)
 
-    by_case : (c : LooseCell) → (IsOutput c → ⊥) → ((i : ℕ) → c ≡ Input i → i < l.inputs) → ((a : ℕ) → Contains (operands [] c) a → IsPlaced to a) → IsMoved (given_place to) numbers c d → MayBeAppended net d
+    by_case : (c : LooseCell) → (IsOutput c → ⊥) → ((i : ℕ) → c ≡ Input i → i < l.inputs) → ((a : ℕ) → Contains (operand_places [] c) a → IsPlaced to a) → IsMoved (given_place to) numbers c d → MayBeAppended net d
     by_case (Const b) out ins reads m = subst (MayBeAppended net) (sym m) tt
     by_case (Input i) out ins reads m = subst (MayBeAppended net) (sym m) (subst (λ n. i < n) (sym built.inputs) (ins i refl))
     by_case (Not a) out ins reads m = subst (MayBeAppended net) (sym m) (under a (reads a (first_of a [])))

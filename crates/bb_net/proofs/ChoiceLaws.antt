@@ -11,7 +11,7 @@ use Rattle.bb_net.specs.declared.cell.Cell.TheVariants.{Const, Input, Not, And, 
 use Rattle.bb_net.specs.Netlists.{Netlist, Pins, cell_at, box_at, reads_of, ReadsInSteps, DependsOn, IsNetlist}
 use Rattle.bb_net.specs.Values.{bit_of, gate, flat, free_bit, output_pins}
 use Rattle.bb_net.specs.Equivalence.{IsVector, AreBoxOutputs, AllRight}
-use Rattle.bb_net.specs.Conditions.{SomeAlwaysWrong, AllSometimesRight, PinBits, all_outs, all_ins, Suit, Wins, SomeChoicesSuit, NoChoicesSuit}
+use Rattle.bb_net.specs.Conditions.{SomeAlwaysWrong, AllRightTogether, PinBits, all_outs, all_ins, ChoicesSuit, InputsHaveOutputs, SomeChoicesSuit, NoChoicesSuit}
 use Rattle.bb_net.proofs.BuildLemmas.{reads_before}
 use Rattle.bb_net.proofs.ValueLaws.{value_exists_lem}
 
@@ -104,7 +104,7 @@ IsPlayed-more net kept x done rest box chosen outs split len played =
     }
 
 -- where choices suit, each vector has box outputs with which all outputs are right
-play : (spec imp : Netlist) → IsNetlist imp → (x : List Bool) → IsVector imp x → (rest done : List Pins) (chosen : List PinBits) → imp.boxes ≡ done ++ rest → IsPlayed imp x done chosen → Wins (Suit spec imp) rest chosen
+play : (spec imp : Netlist) → IsNetlist imp → (x : List Bool) → IsVector imp x → (rest done : List Pins) (chosen : List PinBits) → imp.boxes ≡ done ++ rest → IsPlayed imp x done chosen → InputsHaveOutputs (ChoicesSuit spec imp) rest chosen
     → (z : List Bool) × AreBoxOutputs imp z × AllRight spec imp x (flat imp x z)
 play spec imp kept x vector [] done chosen split played suits =
     let whole : imp.boxes ≡ done = split ∙ append-nil done in
@@ -116,7 +116,7 @@ play spec imp kept x vector (box ∷ rest) done chosen split played wins =
     play spec imp kept x vector rest (done ++ box ∷ []) (chosen ++ record { ins = ins; outs = answer.0 } ∷ [])
     (split ∙ sym (append_assoc done (box ∷ []) rest)) (IsPlayed-more imp kept x done rest box chosen answer.0 split answer.1 played) answer.2
 
-pub choices_serve : (spec imp : Netlist) → IsNetlist imp → SomeChoicesSuit spec imp → AllSometimesRight spec imp
+pub choices_serve : (spec imp : Netlist) → IsNetlist imp → SomeChoicesSuit spec imp → AllRightTogether spec imp
 choices_serve spec imp kept wins = λ x vector. play spec imp kept x vector imp.boxes [] [] refl (record { widths = refl; leads = λ more. refl }) wins
 
 pub some_is_lost : (spec imp : Netlist) → IsNetlist imp → SomeAlwaysWrong spec imp → NoChoicesSuit spec imp

@@ -17,7 +17,7 @@ use Rattle.bb_net.specs.declared.cell.Cell.TheVariants.{Const, Input, Not, And, 
 use Rattle.bb_net.specs.Netlists.{Netlist, Pins, cell_at, box_at, IsNetlist}
 use Rattle.bb_net.specs.Values.{bit_of, gate, flat, flat_with, value_of, free_bit, tabled_bit, table_at, output_pins, FitBoxes, ValueGoesByBoxes}
 use Rattle.bb_net.specs.Equivalence.{AllRight, TablesMakeEquivalent}
-use Rattle.bb_net.specs.Conditions.{PinBits, all_outs, all_ins, Suit, Wins, SomeChoicesSuit, NoChoicesSuit, NoTablesMakeEquivalent, SomeTablesMakeEquivalent}
+use Rattle.bb_net.specs.Conditions.{PinBits, all_outs, all_ins, ChoicesSuit, InputsHaveOutputs, SomeChoicesSuit, NoChoicesSuit, NoTablesMakeEquivalent, SomeTablesMakeEquivalent}
 use Rattle.bb_net.proofs.TableLemmas.{box_of_pin}
 use Rattle.bb_net.proofs.ValueLaws.{value_exists_lem, value_is_unique_lem}
 
@@ -80,7 +80,7 @@ chosen_bit boxes chosen same b p there pin =
 
 -- choices by tables that agree suit
 followed_suit : (laws : Laws) (spec imp : Netlist) → IsNetlist imp → (tables : List TableBits) → FitBoxes tables imp.boxes → TablesMakeEquivalent spec imp tables
-    → (chosen : List PinBits) → length chosen ≡ length imp.boxes → Follows imp.boxes tables chosen → Suit spec imp chosen
+    → (chosen : List PinBits) → length chosen ≡ length imp.boxes → Follows imp.boxes tables chosen → ChoicesSuit spec imp chosen
 followed_suit laws spec imp kept tables fit agree chosen len follows = λ x vector leads.
     let boxes = imp.boxes in
     let bits = flat imp x (all_outs chosen) in
@@ -132,7 +132,7 @@ Follows-more laws boxes tables chosen ins there len width follows =
 
 -- the rows of tables are choices
 wins_by_tables : (laws : Laws) (spec imp : Netlist) → IsNetlist imp → (tables : List TableBits) → FitBoxes tables imp.boxes → TablesMakeEquivalent spec imp tables
-    → (rest done : List Pins) (chosen : List PinBits) → imp.boxes ≡ done ++ rest → length chosen ≡ length done → Follows imp.boxes tables chosen → Wins (Suit spec imp) rest chosen
+    → (rest done : List Pins) (chosen : List PinBits) → imp.boxes ≡ done ++ rest → length chosen ≡ length done → Follows imp.boxes tables chosen → InputsHaveOutputs (ChoicesSuit spec imp) rest chosen
 wins_by_tables laws spec imp kept tables fit agree [] done chosen split len follows =
     followed_suit laws spec imp kept tables fit agree chosen (len ∙ ap length (sym (split ∙ append-nil done))) follows
 wins_by_tables laws spec imp kept tables fit agree (box ∷ rest) done chosen split len follows = λ ins wide.
@@ -175,7 +175,7 @@ FitBoxes-one t box e f whole = record {
 -- the outputs that are chosen for each list of inputs, by its number
 record Answers (spec imp : Netlist) (box : Pins) (row : ℕ → List Bool) : Type 0 where
   pub widths : (n : ℕ) → length (row n) ≡ length box.outs
-  pub suit : (n : ℕ) → Suit spec imp (record { ins = bits_of (length box.ins) n; outs = row n } ∷ [])
+  pub suit : (n : ℕ) → ChoicesSuit spec imp (record { ins = bits_of (length box.ins) n; outs = row n } ∷ [])
 
 table_of_answers : (laws : Laws) (spec imp : Netlist) → IsNetlist imp → (box : Pins) → imp.boxes ≡ box ∷ [] → (row : ℕ → List Bool) → Answers spec imp box row → SomeTablesMakeEquivalent spec imp
 table_of_answers laws spec imp kept box one row answers =
@@ -217,7 +217,7 @@ table_of_answers laws spec imp kept box one row answers =
           subst (AllRight spec imp x) (sym swap) (answers.suit n x vector leads),
     )
 
-tables_of_choices : (laws : Laws) (spec imp : Netlist) → IsNetlist imp → (boxes : List Pins) → imp.boxes ≡ boxes → length boxes ≤ 1 → Wins (Suit spec imp) boxes [] → SomeTablesMakeEquivalent spec imp
+tables_of_choices : (laws : Laws) (spec imp : Netlist) → IsNetlist imp → (boxes : List Pins) → imp.boxes ≡ boxes → length boxes ≤ 1 → InputsHaveOutputs (ChoicesSuit spec imp) boxes [] → SomeTablesMakeEquivalent spec imp
 tables_of_choices laws spec imp kept [] none few suit =
     let fit : FitBoxes [] imp.boxes = subst (λ boxes. FitBoxes [] boxes) (sym none) (record { count = refl; inputs = λ b h. absurd (omega (arith, h)); outputs = λ b h. absurd (omega (arith, h)); whole = λ b h. absurd (omega (arith, h)) }) in (
       [],

@@ -8,7 +8,7 @@ use Rattle.bb_net.specs.Netlists.{Netlist, Pins}
 use Rattle.bb_net.specs.Values.{flat, flat_with, output_pins, free_bit}
 use Rattle.bb_net.specs.Ternary.{tern, tern_of}
 use Rattle.bb_net.specs.Equivalence.{wanted_bit, out_bit, IsVector, AreBoxOutputs, IsOutput, IsRight, IsWrong, AllRight, SomeWrong, TablesMakeEquivalent}
-use Rattle.bb_net.specs.Conditions.{IsKnownWrong, MayBeRight, KnownWrongAmong, MayBeRightAmong, IsFirstHit, KnownWrongSomewhere, MayBeRightEverywhere, IsAlwaysWrong, OneAlwaysWrong, EachSometimesRight, HasAlwaysWrong, SomeAlwaysWrong, AllSometimesRight, PinBits, all_outs, all_ins, Suit, Wins, SomeChoicesSuit, NoChoicesSuit, NoTablesMakeEquivalent, SomeTablesMakeEquivalent}
+use Rattle.bb_net.specs.Conditions.{IsKnownWrong, MayBeRight, KnownWrongAmong, MayBeRightAmong, IsFirstHit, KnownWrongSomewhere, MayBeRightEverywhere, IsAlwaysWrong, OneAlwaysWrong, EachSometimesRight, AlwaysSomeWrongAt, SomeAlwaysWrong, AllRightTogether, PinBits, all_outs, all_ins, ChoicesSuit, InputsHaveOutputs, SomeChoicesSuit, NoChoicesSuit, NoTablesMakeEquivalent, SomeTablesMakeEquivalent}
 use Rattle.bb_net.proofs.Finite.{bits_cases, bit_lists_cases, below_or_one, lists_or_one, tables_or_none}
 use Rattle.bb_net.proofs.TernLemmas.{tern-known}
 
@@ -114,33 +114,33 @@ pub always_or_not : (spec imp : Netlist) (x : List Bool) (j : ℕ) → IsAlwaysW
 always_or_not spec imp x j = turned (output_cases spec imp x j)
 
 -- some output is always wrong, or all are right together for some outputs of the boxes
-pub all_or_not : (spec imp : Netlist) (x : List Bool) → HasAlwaysWrong spec imp x ⊎ ((z : List Bool) × AreBoxOutputs imp z × AllRight spec imp x (flat imp x z))
+pub all_or_not : (spec imp : Netlist) (x : List Bool) → AlwaysSomeWrongAt spec imp x ⊎ ((z : List Bool) × AreBoxOutputs imp z × AllRight spec imp x (flat imp x z))
 all_or_not spec imp x =
     lists_or_one (λ z. SomeWrong spec imp x (flat imp x z)) (λ z. AllRight spec imp x (flat imp x z)) (output_pins imp.boxes) (λ z zs. turned (all_right_cases spec imp x (flat imp x z)))
 
-pub some_or_not : (spec imp : Netlist) → SomeAlwaysWrong spec imp ⊎ AllSometimesRight spec imp
+pub some_or_not : (spec imp : Netlist) → SomeAlwaysWrong spec imp ⊎ AllRightTogether spec imp
 some_or_not spec imp = turned (lists_or_one
     (λ x. (z : List Bool) × AreBoxOutputs imp z × AllRight spec imp x (flat imp x z))
-    (HasAlwaysWrong spec imp)
+    (AlwaysSomeWrongAt spec imp)
     imp.inputs (λ x len. turned (all_or_not spec imp x)))
 
 -- the choices are won, or cannot be
-wins_or_not : (suit : List PinBits → Type 0) → ((chosen : List PinBits) → suit chosen ⊎ (suit chosen → ⊥)) → (boxes : List Pins) (chosen : List PinBits) → Wins suit boxes chosen ⊎ (Wins suit boxes chosen → ⊥)
+wins_or_not : (suit : List PinBits → Type 0) → ((chosen : List PinBits) → suit chosen ⊎ (suit chosen → ⊥)) → (boxes : List Pins) (chosen : List PinBits) → InputsHaveOutputs suit boxes chosen ⊎ (InputsHaveOutputs suit boxes chosen → ⊥)
 wins_or_not suit each [] chosen = each chosen
 wins_or_not suit each (box ∷ boxes) chosen =
     let next : List Bool → List Bool → List PinBits = λ ins outs. chosen ++ record { ins = ins; outs = outs } ∷ [] in
     let answers = lists_or_one
-    (λ ins. (outs : List Bool) × (length outs ≡ length box.outs) × Wins suit boxes (next ins outs))
-    (λ ins. (outs : List Bool) → length outs ≡ length box.outs → Wins suit boxes (next ins outs) → ⊥)
+    (λ ins. (outs : List Bool) × (length outs ≡ length box.outs) × InputsHaveOutputs suit boxes (next ins outs))
+    (λ ins. (outs : List Bool) → length outs ≡ length box.outs → InputsHaveOutputs suit boxes (next ins outs) → ⊥)
     (length box.ins)
-    (λ ins len. turned (lists_or_one (λ outs. Wins suit boxes (next ins outs) → ⊥) (λ outs. Wins suit boxes (next ins outs)) (length box.outs)
+    (λ ins len. turned (lists_or_one (λ outs. InputsHaveOutputs suit boxes (next ins outs) → ⊥) (λ outs. InputsHaveOutputs suit boxes (next ins outs)) (length box.outs)
     (λ outs m. turned (wins_or_not suit each boxes (next ins outs))))) in
     elim answers [
       | inl won ↦ inl won
       | inr lost ↦ inr (λ won. let answer = won lost.0 lost.1 in lost.2 answer.0 answer.1 answer.2)
     ]
 
-pub suit_or_not : (spec imp : Netlist) (chosen : List PinBits) → Suit spec imp chosen ⊎ (Suit spec imp chosen → ⊥)
+pub suit_or_not : (spec imp : Netlist) (chosen : List PinBits) → ChoicesSuit spec imp chosen ⊎ (ChoicesSuit spec imp chosen → ⊥)
 suit_or_not spec imp chosen =
     let z = all_outs chosen in
     let leads : List Bool → Type 0 = λ x. all_ins imp.boxes (flat imp x z) ≡ map (λ (bits : PinBits). bits.ins) chosen in
@@ -158,7 +158,7 @@ suit_or_not spec imp chosen =
     ]
 
 pub choices_or_not : (spec imp : Netlist) → NoChoicesSuit spec imp ⊎ SomeChoicesSuit spec imp
-choices_or_not spec imp = turned (wins_or_not (Suit spec imp) (suit_or_not spec imp) imp.boxes [])
+choices_or_not spec imp = turned (wins_or_not (ChoicesSuit spec imp) (suit_or_not spec imp) imp.boxes [])
 
 pub agree_or_not : (spec imp : Netlist) (tables : List TableBits) → TablesMakeEquivalent spec imp tables ⊎ (TablesMakeEquivalent spec imp tables → ⊥)
 agree_or_not spec imp tables = elim (lists_or_one (λ x. AllRight spec imp x (flat_with imp x tables)) (λ x. SomeWrong spec imp x (flat_with imp x tables)) imp.inputs (λ x len. all_right_cases spec imp x (flat_with imp x tables))) [

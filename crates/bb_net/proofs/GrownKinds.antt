@@ -7,7 +7,7 @@ use Rattle.std.proofs.lemmas.Grind.{get_or_default_zero}
 use Rattle.std.proofs.lemmas.List.{get_or_append_left, get_or_at, get_or-map, length-map, length_push}
 use Rattle.std.proofs.lemmas.List.Elements.{Contains-get_or}
 use Rattle.bb_net.specs.Flats.{PinsGoByModules}
-use Rattle.bb_net.specs.Kinds.{AreNumberedInOrder, AreKinds, FitKinds, shown}
+use Rattle.bb_net.specs.Kinds.{AreNumberedInOrder, AreKinds, FitKinds, representatives}
 use Rattle.bb_net.specs.Netlists.{Pins, box_at}
 use Rattle.bb_net.specs.Pairs.{BoxTexts, NamesPins}
 use Rattle.bb_net.proofs.KindNumbers.{into_taken, kind_has_first, shown_counts, shown_occurs}
@@ -18,30 +18,30 @@ any_default (x ∷ xs) zero d e h = refl
 any_default (x ∷ xs) (suc k) d e h = any_default xs k d e (omega (arith, h))
 
 -- each kind shows the key of its boxes
-pub shows_key : (keys : List (List ℕ)) (kinds : List ℕ) → AreKinds keys kinds → (b : ℕ) → b < length keys → get_or (shown kinds keys) (get_or kinds b 0) [] ≡ get_or keys b []
+pub shows_key : (keys : List (List ℕ)) (kinds : List ℕ) → AreKinds keys kinds → (b : ℕ) → b < length keys → get_or (representatives kinds keys) (get_or kinds b 0) [] ≡ get_or keys b []
 shows_key keys kinds are b h =
     let hb : b < length kinds = omega (arith, h, are.count) in
     let r = kind_has_first kinds (get_or kinds b 0) are.ordered (Contains-get_or kinds b 0 hb) in
-    ap (λ k. get_or (shown kinds keys) k []) (sym r.3)
+    ap (λ k. get_or (representatives kinds keys) k []) (sym r.3)
     ∙ shown_occurs kinds keys [] are.ordered (sym are.count) r.0 r.1 r.2
     ∙ (are.same r.0 b (omega (arith, r.1, are.count)) h).0 r.3
 
 -- a kind that is shown is that of some box
-pub shown_box : (keys : List (List ℕ)) (kinds : List ℕ) → AreKinds keys kinds → (k : ℕ) → k < length (shown kinds keys) → (b : ℕ) × (b < length keys) × (get_or kinds b 0 ≡ k)
+pub shown_box : (keys : List (List ℕ)) (kinds : List ℕ) → AreKinds keys kinds → (k : ℕ) → k < length (representatives kinds keys) → (b : ℕ) × (b < length keys) × (get_or kinds b 0 ≡ k)
 shown_box keys kinds are k h =
     let has = (shown_counts kinds keys are.ordered (sym are.count) k).0 h in
     (has.0, omega (arith, has.1, are.count), sym (get_or_default_zero kinds has.0 k has.1) ∙ has.2)
 
-pub kind_below : (keys : List (List ℕ)) (kinds : List ℕ) → AreKinds keys kinds → (b : ℕ) → b < length keys → get_or kinds b 0 < length (shown kinds keys)
+pub kind_below : (keys : List (List ℕ)) (kinds : List ℕ) → AreKinds keys kinds → (b : ℕ) → b < length keys → get_or kinds b 0 < length (representatives kinds keys)
 kind_below keys kinds are b h = (shown_counts kinds keys are.ordered (sym are.count) (get_or kinds b 0)).1 (Contains-get_or kinds b 0 (omega (arith, h, are.count)))
 
 -- no two kinds show one key
-pub shown_differ : (keys : List (List ℕ)) (kinds : List ℕ) → AreKinds keys kinds → AllPairs ◌≢◌ (shown kinds keys)
+pub shown_differ : (keys : List (List ℕ)) (kinds : List ℕ) → AreKinds keys kinds → AllPairs ◌≢◌ (representatives kinds keys)
 shown_differ keys kinds are = λ i j d low h e.
     let one = shown_box keys kinds are i (omega (arith, low, h)) in
     let two = shown_box keys kinds are j h in
-    let at : (k : ℕ) → k < length (shown kinds keys) → (r : (b : ℕ) × (b < length keys) × (get_or kinds b 0 ≡ k)) → get_or (shown kinds keys) k d ≡ get_or keys r.0 [] = λ k hk r.
-    any_default (shown kinds keys) k d [] hk ∙ ap (λ q. get_or (shown kinds keys) q []) (sym r.2) ∙ shows_key keys kinds are r.0 r.1 in
+    let at : (k : ℕ) → k < length (representatives kinds keys) → (r : (b : ℕ) × (b < length keys) × (get_or kinds b 0 ≡ k)) → get_or (representatives kinds keys) k d ≡ get_or keys r.0 [] = λ k hk r.
+    any_default (representatives kinds keys) k d [] hk ∙ ap (λ q. get_or (representatives kinds keys) q []) (sym r.2) ∙ shows_key keys kinds are r.0 r.1 in
     let same = (are.same one.0 two.0 one.1 two.1).1 (sym (at i (omega (arith, low, h)) one) ∙ e ∙ at j h two) in
     omega (arith, low, same, one.2, two.2)
 
@@ -88,7 +88,7 @@ same_more keys kinds key kind are goes a b (After ka qa) (Before lb kb qb) =
     (λ e. ka ∙ sym ((goes b lb).0 (sym qb ∙ sym e ∙ qa)) ∙ sym kb, λ e. qa ∙ sym ((goes b lb).1 (sym kb ∙ sym e ∙ ka)) ∙ sym qb)
 same_more keys kinds key kind are goes a b (After ka qa) (After kb qb) = (λ e. ka ∙ sym kb, λ e. qa ∙ sym qb)
 
-kinds_more : (keys : List (List ℕ)) (kinds : List ℕ) (key : List ℕ) (kind : ℕ) → AreKinds keys kinds → kind ≤ length (shown kinds keys)
+kinds_more : (keys : List (List ℕ)) (kinds : List ℕ) (key : List ℕ) (kind : ℕ) → AreKinds keys kinds → kind ≤ length (representatives kinds keys)
     → ((b : ℕ) → b < length keys → (get_or kinds b 0 ≡ kind) ↔ (get_or keys b [] ≡ key)) → AreKinds (keys ++ key ∷ []) (kinds ++ kind ∷ [])
 kinds_more keys kinds key kind are low goes = record {
   count = omega (arith, length_push keys key, length_push kinds kind, are.count);
@@ -97,22 +97,22 @@ kinds_more keys kinds key kind are low goes = record {
 }
 
 -- a key that a kind shows is of this kind
-pub kinds_again : (keys : List (List ℕ)) (kinds : List ℕ) (key : List ℕ) (kind : ℕ) → AreKinds keys kinds → kind < length (shown kinds keys) → get_or (shown kinds keys) kind [] ≡ key
+pub kinds_again : (keys : List (List ℕ)) (kinds : List ℕ) (key : List ℕ) (kind : ℕ) → AreKinds keys kinds → kind < length (representatives kinds keys) → get_or (representatives kinds keys) kind [] ≡ key
     → AreKinds (keys ++ key ∷ []) (kinds ++ kind ∷ [])
 kinds_again keys kinds key kind are there shows =
     let r = shown_box keys kinds are kind there in
-    let is : get_or keys r.0 [] ≡ key = sym (shows_key keys kinds are r.0 r.1) ∙ ap (λ q. get_or (shown kinds keys) q []) r.2 ∙ shows in
+    let is : get_or keys r.0 [] ≡ key = sym (shows_key keys kinds are r.0 r.1) ∙ ap (λ q. get_or (representatives kinds keys) q []) r.2 ∙ shows in
     kinds_more keys kinds key kind are (omega (arith, there)) (λ b h. (
       λ e. (are.same b r.0 h r.1).0 (e ∙ sym r.2) ∙ is,
       λ e. (are.same b r.0 h r.1).1 (e ∙ sym is) ∙ r.2,
     ))
 
 -- a key that none shows is of the next
-pub kinds_next : (keys : List (List ℕ)) (kinds : List ℕ) (key : List ℕ) → AreKinds keys kinds → (Contains (shown kinds keys) key → ⊥) → AreKinds (keys ++ key ∷ []) (kinds ++ length (shown kinds keys) ∷ [])
+pub kinds_next : (keys : List (List ℕ)) (kinds : List ℕ) (key : List ℕ) → AreKinds keys kinds → (Contains (representatives kinds keys) key → ⊥) → AreKinds (keys ++ key ∷ []) (kinds ++ length (representatives kinds keys) ∷ [])
 kinds_next keys kinds key are none =
-    kinds_more keys kinds key (length (shown kinds keys)) are (omega arith) (λ b h. (
+    kinds_more keys kinds key (length (representatives kinds keys)) are (omega arith) (λ b h. (
       λ e. let p = kind_below keys kinds are b h in absurd (omega (arith, p, e)),
-      λ e. absurd (none (get_or kinds b 0, kind_below keys kinds are b h, any_default (shown kinds keys) (get_or kinds b 0) key [] (kind_below keys kinds are b h) ∙ shows_key keys kinds are b h ∙ e)),
+      λ e. absurd (none (get_or kinds b 0, kind_below keys kinds are b h, any_default (representatives kinds keys) (get_or kinds b 0) key [] (kind_below keys kinds are b h) ∙ shows_key keys kinds are b h ∙ e)),
     ))
 
 zip_length : {A B : Type 0} (R : A → B → Type 0) (xs : List A) (ys : List B) → AllZip R xs ys → length xs ≡ length ys

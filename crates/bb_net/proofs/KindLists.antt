@@ -6,7 +6,7 @@ use Rattle.std.proofs.lemmas.List.{append_assoc, get_or_at}
 use Rattle.std.proofs.lemmas.List.Elements.{Contains-append_cases, Contains-append_left, Contains-append_right}
 use Rattle.std.proofs.lemmas.List.Folds.{list_any-append}
 use Rattle.bb_bits.specs.Earlier.{each_from}
-use Rattle.bb_net.specs.Kinds.{AreNumberedInOrder, has_kind, shown}
+use Rattle.bb_net.specs.Kinds.{AreNumberedInOrder, has_kind, representatives}
 
 -- each number is below n, or it is the next one
 abbrev pub Rises : ℕ → List ℕ → Type 0
@@ -142,7 +142,7 @@ from_fresh n (k ∷ ks) (inr new) before knows (x ∷ xs) =
     ap (λ b. (if b then [] else x ∷ []) ++ each_from gives (before ++ (k, x) ∷ []) (zip ks xs)) (knows.new k (omega (arith, new.0)))
     ∙ ap (λ ys. x ∷ ys) (from_fresh (suc n) ks new.1 (before ++ (k, x) ∷ []) (knows_new n k x before knows new.0) xs)
 
-pub shown_fresh : {A : Type 0} (ks : List ℕ) (rises : Rises 0 ks) (xs : List A) → shown ks xs ≡ fresh 0 ks rises xs
+pub shown_fresh : {A : Type 0} (ks : List ℕ) (rises : Rises 0 ks) (xs : List A) → representatives ks xs ≡ fresh 0 ks rises xs
 shown_fresh ks rises xs = from_fresh 0 ks rises [] knows_none xs
 
 -- numbers in order rise, and numbers that rise are in order

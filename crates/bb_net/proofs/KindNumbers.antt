@@ -7,7 +7,7 @@ use Rattle.std.proofs.lemmas.Grind.{get_or_default_zero}
 use Rattle.std.proofs.lemmas.List.{append_assoc, append-nil, ext_get_or, get_or_append_left, get_or_at, get_or-take, length-take, length_push}
 use Rattle.std.proofs.lemmas.List.FromFn.{get_or-range_with_len, length-range_with_len}
 use Rattle.std.proofs.lemmas.List.Quantifiers.{all_pairs_push}
-use Rattle.bb_net.specs.Kinds.{AreNumberedInOrder, AreKinds, IsFirstOfKind, shown}
+use Rattle.bb_net.specs.Kinds.{AreNumberedInOrder, AreKinds, IsFirstOfKind, representatives}
 use Rattle.bb_net.proofs.KindLists.{Rises, IsFirstAt, fresh_first, fresh_at, fresh_counts, fresh_apart, shown_fresh, rises_in_order, rises_apart, order_rising}
 
 pub nothing_added : (n : ℕ) → 0 + n ≡ n
@@ -166,7 +166,7 @@ pub one_apart : (kinds : List ℕ) → length kinds ≤ 1 → AllPairs ◌≢◌
 one_apart kinds few = λ i j d low h. absurd (omega (arith, few, low, h))
 
 module _ {A : Type 0} where
-  pub shown_places : (n : ℕ) (xs : List A) → length xs ≡ n → shown (range_with_len 0 n) xs ≡ xs
+  pub shown_places : (n : ℕ) (xs : List A) → length xs ≡ n → representatives (range_with_len 0 n) xs ≡ xs
   shown_places n xs len =
       let rises = rises_in_order (range_with_len 0 n) (places_in_order n) in
       let whole = length-range_with_len 0 n in
@@ -191,7 +191,7 @@ first_at_place kinds b h first = record {
 
 module _ {A : Type 0} where
   -- a kind has a number below the number of those that are shown
-  pub shown_counts : (kinds : List ℕ) (xs : List A) → AreNumberedInOrder kinds → length xs ≡ length kinds → (k : ℕ) → (k < length (shown kinds xs)) ↔ Contains kinds k
+  pub shown_counts : (kinds : List ℕ) (xs : List A) → AreNumberedInOrder kinds → length xs ≡ length kinds → (k : ℕ) → (k < length (representatives kinds xs)) ↔ Contains kinds k
   shown_counts kinds xs ordered len k =
       let rises = rises_in_order kinds ordered in
       let is = shown_fresh kinds rises xs in (
@@ -200,7 +200,7 @@ module _ {A : Type 0} where
       )
 
   -- and what is shown at that number is what belongs to the first box of the kind
-  pub shown_occurs : (kinds : List ℕ) (xs : List A) (d : A) → AreNumberedInOrder kinds → length xs ≡ length kinds → (b : ℕ) → b < length kinds → IsFirstOfKind kinds b → get_or (shown kinds xs) (get_or kinds b 0) d ≡ get_or xs b d
+  pub shown_occurs : (kinds : List ℕ) (xs : List A) (d : A) → AreNumberedInOrder kinds → length xs ≡ length kinds → (b : ℕ) → b < length kinds → IsFirstOfKind kinds b → get_or (representatives kinds xs) (get_or kinds b 0) d ≡ get_or xs b d
   shown_occurs kinds xs d ordered len b h first =
       let rises = rises_in_order kinds ordered in
       ap (λ ys. get_or ys (get_or kinds b 0) d) (shown_fresh kinds rises xs) ∙ fresh_at 0 kinds rises xs d len (get_or kinds b 0) b (subst (λ k. IsFirstAt kinds k b) (sym (nothing_added (get_or kinds b 0))) (first_at_place kinds b h first))
@@ -223,15 +223,15 @@ prefix_in_order kinds n fits ordered = λ b k h low.
     into_taken (take n kinds) found.0 b k found.1 (omega (arith, h)) (get_or-take n kinds found.0 0 (omega (arith, found.1, hb)) ∙ found.2)
 
 -- a new kind has the number of the kinds before it
-pub kind_is_count : (kinds : List ℕ) (b : ℕ) → AreNumberedInOrder kinds → b < length kinds → IsFirstOfKind kinds b → get_or kinds b 0 ≡ length (shown (take b kinds) (take b kinds))
+pub kind_is_count : (kinds : List ℕ) (b : ℕ) → AreNumberedInOrder kinds → b < length kinds → IsFirstOfKind kinds b → get_or kinds b 0 ≡ length (representatives (take b kinds) (take b kinds))
 kind_is_count kinds b ordered h first =
     let prefix = take b kinds in
     let count = shown_counts prefix prefix (prefix_in_order kinds b (omega (arith, h)) ordered) refl in
-    elim (cases_order (get_or kinds b 0) (length (shown prefix prefix))) [
+    elim (cases_order (get_or kinds b 0) (length (representatives prefix prefix))) [
       | inl e ↦ e
       | inr other ↦ elim other [
         | inl low ↦ absurd (first ((count (get_or kinds b 0)).0 low))
-        | inr high ↦ let p = (count (length (shown prefix prefix))).1 (ordered b (length (shown prefix prefix)) h high) in absurd (omega (arith, p))
+        | inr high ↦ let p = (count (length (representatives prefix prefix))).1 (ordered b (length (representatives prefix prefix)) h high) in absurd (omega (arith, p))
       ]
     ]
 

@@ -14,7 +14,7 @@ use Rattle.bb_net.specs.declared.ordering.placing.Waiter.TheVariants as waiter
 use Rattle.bb_net.specs.declared.ordering.placing.Moved.{Moved}
 use Rattle.bb_net.specs.declared.ordering.placing.Moved.TheVariants as what
 use Rattle.bb_net.specs.Netlists.{Netlist, Pins, box_at, with_cell, MayBeAppended}
-use Rattle.bb_net.specs.Loose.{LooseList, loose_at, operands}
+use Rattle.bb_net.specs.Loose.{LooseList, loose_at, operand_places}
 use Rattle.bb_net.specs.Inside.Placings.{IsPlaced, IsOpen, IsOutput, IsWaiter, waiters_at, IsWaiting, boxes_of, IsLeastFirst, IsPlacingBy, IsResolved}
 use Rattle.bb_net.proofs.PlacedCells.{at_open, at_new}
 use Rattle.bb_net.proofs.BuiltCells.{follows}
@@ -52,7 +52,7 @@ pub placed_some : (to : List (Option ℕ)) (k : ℕ) → is_some (get_or to k No
 placed_some to k some = some_from (get_or to k None) some
 
 -- operands are in the list, whatever the boxes are
-pub reads_any : (n : ℕ) (boxes : List Pins) (c : LooseCell) → All (λ a. a < n) (operands boxes c) → All (λ a. a < n) (operands [] c)
+pub reads_any : (n : ℕ) (boxes : List Pins) (c : LooseCell) → All (λ a. a < n) (operand_places boxes c) → All (λ a. a < n) (operand_places [] c)
 reads_any n boxes (Const b) h = h
 reads_any n boxes (Input i) h = h
 reads_any n boxes (Not a) h = h
@@ -63,7 +63,7 @@ reads_any n boxes (Mux a b c) h = h
 reads_any n boxes (BoxOut b p) h = All-nil (λ a. a < n)
 reads_any n boxes (Copy p) h = h
 
-pub reads_whole : (boxes : List Pins) (c : LooseCell) → (IsOutput c → ⊥) → (a : ℕ) → Contains (operands boxes c) a → Contains (operands [] c) a
+pub reads_whole : (boxes : List Pins) (c : LooseCell) → (IsOutput c → ⊥) → (a : ℕ) → Contains (operand_places boxes c) a → Contains (operand_places [] c) a
 reads_whole boxes (Const b) out a h = h
 reads_whole boxes (Input i) out a h = h
 reads_whole boxes (Not a) out m h = h
@@ -74,7 +74,7 @@ reads_whole boxes (Mux a b c) out m h = h
 reads_whole boxes (BoxOut b p) out a h = absurd (out (b, p, refl))
 reads_whole boxes (Copy p) out a h = h
 
-pub operand_whole : (boxes : List Pins) (c : LooseCell) (a : ℕ) → Contains (operands [] c) a → Contains (operands boxes c) a
+pub operand_whole : (boxes : List Pins) (c : LooseCell) (a : ℕ) → Contains (operand_places [] c) a → Contains (operand_places boxes c) a
 operand_whole boxes (Const b) a h = h
 operand_whole boxes (Input i) a h = h
 operand_whole boxes (Not a) m h = h
@@ -131,7 +131,7 @@ IsPlacing-same l net to numbers numbered waiting fresh ready k woken q old free 
     IsPlacing-skip l net (set to k (Some q)) numbers numbered waiting (fresh ++ k ∷ []) ready k woken [] put (λ o. at_open (set to k (Some q)) k q (at_new to k q (omega (arith, lt, old.begun.whole))) o)
 
 pub IsPlacing-cell_waits : (l : LooseList) (net : Netlist) (to : List (Option ℕ)) (numbers : List ℕ) (numbered : List Bool) (waiting : List (List Waiter)) (fresh : List ℕ) (ready : List (Reverse ℕ)) (k : ℕ) (woken : List Waiter) (a : ℕ)
-    → IsPlacingBy l net to numbers numbered waiting fresh ready (waiter.Cell k ∷ woken) [] → a < length waiting → IsOpen to a → Contains (operands [] (loose_at l k)) a
+    → IsPlacingBy l net to numbers numbered waiting fresh ready (waiter.Cell k ∷ woken) [] → a < length waiting → IsOpen to a → Contains (operand_places [] (loose_at l k)) a
     → IsPlacingBy l net to numbers numbered (set waiting a (waiters_at waiting a ++ waiter.Cell k ∷ [])) fresh ready woken []
 IsPlacing-cell_waits l net to numbers numbered waiting fresh ready k woken a old within free reads =
     let lt = woken_cell l net to numbers numbered waiting fresh ready k woken [] old in

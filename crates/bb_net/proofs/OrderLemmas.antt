@@ -9,7 +9,7 @@ use Rattle.bb_net.specs.declared.loose.LooseCell.{LooseCell}
 use Rattle.bb_net.specs.declared.loose.LooseCell.TheVariants.{Const, Input, Not, And, Or, Xor, Mux, BoxOut, Copy}
 use Rattle.bb_net.specs.Netlists.{Netlist, Pins, cell_at, box_at, reads_of, IsNetlist}
 use Rattle.bb_net.specs.Values.{bit_of, gate, value_of}
-use Rattle.bb_net.specs.Loose.{LooseList, loose_at, operands, IsLoose, Reaches, IsOnClosedWalk, loose_gate, IsLooseValue}
+use Rattle.bb_net.specs.Loose.{LooseList, loose_at, operand_places, IsLoose, Reaches, IsOnClosedWalk, loose_gate, IsLooseValue}
 use Rattle.bb_net.specs.Orders.{IsNoCopy, IsCopySource, IsMoved, IsOrderOf, renumbered, OrderKeepsValues, OrderHasNoWalk}
 use Rattle.bb_net.proofs.BuildLemmas.{reads_before}
 use Rattle.bb_net.proofs.ValueLaws.{value_exists_lem}
@@ -33,7 +33,7 @@ order_pins : (l : LooseList) (net : Netlist) (numbers : List ℕ) (o : IsOrderOf
 order_pins l net numbers o b h = ap (λ (pins : Pins). pins.ins) (o.boxes b (omega (arith, h, o.number_count))).1
 
 -- a moved cell reads the moved places
-reads_moved : (to : ℕ → ℕ) (numbers : List ℕ) (old new : List Pins) (c : LooseCell) (d : Cell) → PinsMoved to numbers old new → IsMoved to numbers c d → reads_of new d ≡ map to (operands old c)
+reads_moved : (to : ℕ → ℕ) (numbers : List ℕ) (old new : List Pins) (c : LooseCell) (d : Cell) → PinsMoved to numbers old new → IsMoved to numbers c d → reads_of new d ≡ map to (operand_places old c)
 reads_moved to numbers old new (Const b) d pins m = ap (reads_of new) m
 reads_moved to numbers old new (Input i) d pins m = ap (reads_of new) m
 reads_moved to numbers old new (Not a) d pins m = ap (reads_of new) m
@@ -50,12 +50,12 @@ all_moved P to xs all a has =
     subst P (get_or-map to xs has.0 a 0 has.1 ∙ ap to has.2) at
 
 -- what a kept cell reads precedes it in the netlist
-kept_below : (l : LooseList) (net : Netlist) (numbers : List ℕ) (o : IsOrderOf l net numbers) → IsNetlist net → (k : ℕ) → k < length l.cells → IsNoCopy (loose_at l k) → (a : ℕ) → Contains (operands l.boxes (loose_at l k)) a → o.to a < o.to k
+kept_below : (l : LooseList) (net : Netlist) (numbers : List ℕ) (o : IsOrderOf l net numbers) → IsNetlist net → (k : ℕ) → k < length l.cells → IsNoCopy (loose_at l k) → (a : ℕ) → Contains (operand_places l.boxes (loose_at l k)) a → o.to a < o.to k
 kept_below l net numbers o kept k h keep a has =
     let there = o.there k h in
     let before = reads_before net.inputs net.boxes (o.to k) (cell_at net.cells (o.to k)) (kept.ordered (o.to k) there) in
     let reads = reads_moved o.to numbers l.boxes net.boxes (loose_at l k) (cell_at net.cells (o.to k)) (order_pins l net numbers o) (o.moved k h keep) in
-    all_moved (λ place. place < o.to k) o.to (operands l.boxes (loose_at l k)) (subst (All (λ place. place < o.to k)) reads before) a has
+    all_moved (λ place. place < o.to k) o.to (operand_places l.boxes (loose_at l k)) (subst (All (λ place. place < o.to k)) reads before) a has
 
 map_moved : (v w : ℕ → Bool) (to : ℕ → ℕ) (xs : List ℕ) → ((a : ℕ) → Contains xs a → v a ≡ w (to a)) → map v xs ≡ map w (map to xs)
 map_moved v w to [] same = refl
@@ -66,7 +66,7 @@ map_moved v w to (x ∷ xs) same =
 
 -- a moved cell's bit is that of the cell, where its operands' bits are
 gate_moved : (to : ℕ → ℕ) (numbers : List ℕ) (old new : List Pins) (x : List Bool) (box : ℕ → ℕ → List Bool → Bool) (v w : ℕ → Bool) (c : LooseCell) (d : Cell) → PinsMoved to numbers old new → IsMoved to numbers c d
-    → ((a : ℕ) → Contains (operands old c) a → v a ≡ w (to a)) → loose_gate old x box v c ≡ gate new x (renumbered numbers box) w d
+    → ((a : ℕ) → Contains (operand_places old c) a → v a ≡ w (to a)) → loose_gate old x box v c ≡ gate new x (renumbered numbers box) w d
 gate_moved to numbers old new x box v w (Const b) d pins m same = ap (gate new x (renumbered numbers box) w) (sym m)
 gate_moved to numbers old new x box v w (Input i) d pins m same = ap (gate new x (renumbered numbers box) w) (sym m)
 gate_moved to numbers old new x box v w (Not a) d pins m same = ap not (same a (0, omega arith, refl)) ∙ ap (gate new x (renumbered numbers box) w) (sym m)
@@ -118,7 +118,7 @@ bits_are_values l net numbers loose kept o x box bits value (suc bound) k h smal
     let chain = o.sources k h in
     let s = chain.1 in
     let end = source_ends l net numbers o chain.0 k s h chain.2 in
-    let operand : (a : ℕ) → Contains (operands l.boxes (loose_at l s)) a → bit_of bits a ≡ bit_of v (o.to a) = λ a has.
+    let operand : (a : ℕ) → Contains (operand_places l.boxes (loose_at l s)) a → bit_of bits a ≡ bit_of v (o.to a) = λ a has.
     let below = kept_below l net numbers o kept s end.there end.kept a has in
     bits_are_values l net numbers loose kept o x box bits value bound a (All-contains (λ j. j < length l.cells) _ a (loose.there s end.there) has) (omega (arith, below, end.same, small)) in
     source_bit l x box bits value chain.0 k s h chain.2
@@ -133,11 +133,11 @@ values_are_bits : (l : LooseList) (net : Netlist) (numbers : List ℕ) → IsLoo
     → (k : ℕ) → k < length l.cells → bit_of bits k ≡ loose_gate l.boxes x box (bit_of bits) (loose_at l k)
 values_are_bits l net numbers loose kept o x box bits same k h =
     let v = value_of net x (renumbered numbers box) in
-    let operand : (a : ℕ) → Contains (operands l.boxes (loose_at l k)) a → bit_of bits a ≡ bit_of v (o.to a) = λ a has. same a (All-contains (λ j. j < length l.cells) _ a (loose.there k h) has) in
+    let operand : (a : ℕ) → Contains (operand_places l.boxes (loose_at l k)) a → bit_of bits a ≡ bit_of v (o.to a) = λ a has. same a (All-contains (λ j. j < length l.cells) _ a (loose.there k h) has) in
     elim (copy_or_kept (loose_at l k)) [
       | inl copy ↦
           let p = copy.0 in
-          let below : p < length l.cells = All-contains (λ j. j < length l.cells) _ p (loose.there k h) (subst (λ c. Contains (operands l.boxes c) p) (sym copy.1) (0, omega arith, refl)) in
+          let below : p < length l.cells = All-contains (λ j. j < length l.cells) _ p (loose.there k h) (subst (λ c. Contains (operand_places l.boxes c) p) (sym copy.1) (0, omega arith, refl)) in
           same k h ∙ ap (bit_of v) (o.copies k p h copy.1) ∙ sym (same p below) ∙ ap (loose_gate l.boxes x box (bit_of bits)) (sym copy.1)
       | inr keep ↦
           same k h
@@ -159,10 +159,10 @@ one_operand p m has = at has.0 has.1 has.2
     at (suc k) h e = absurd (omega arith)
 
 -- a step of dependence does not lead to a later place of the netlist
-step_down : (l : LooseList) (net : Netlist) (numbers : List ℕ) (o : IsOrderOf l net numbers) → IsNetlist net → (k m : ℕ) → k < length l.cells → Contains (operands l.boxes (loose_at l k)) m → o.to m ≤ o.to k
+step_down : (l : LooseList) (net : Netlist) (numbers : List ℕ) (o : IsOrderOf l net numbers) → IsNetlist net → (k m : ℕ) → k < length l.cells → Contains (operand_places l.boxes (loose_at l k)) m → o.to m ≤ o.to k
 step_down l net numbers o kept k m h has = elim (copy_or_kept (loose_at l k)) [
   | inl copy ↦
-      let is = one_operand copy.0 m (subst (λ c. Contains (operands l.boxes c) m) copy.1 has) in
+      let is = one_operand copy.0 m (subst (λ c. Contains (operand_places l.boxes c) m) copy.1 has) in
       omega (arith, o.copies k copy.0 h copy.1, ap o.to is)
   | inr keep ↦ omega (arith, kept_below l net numbers o kept k h keep m has)
 ]
@@ -173,8 +173,8 @@ reaches_down l net numbers o loose kept (suc n) k m h walk =
     let there = All-contains (λ j. j < length l.cells) _ walk.0 (loose.there k h) walk.1 in
     omega (arith, step_down l net numbers o kept k walk.0 h walk.1, reaches_down l net numbers o loose kept n walk.0 m there walk.2)
 
-Reaches-step : (n : ℕ) (l : LooseList) (from to next : ℕ) → Reaches n l from to → Contains (operands l.boxes (loose_at l to)) next → Reaches (suc n) l from next
-Reaches-step zero l from to next e has = (next, subst (λ k. Contains (operands l.boxes (loose_at l k)) next) (sym e) has, refl)
+Reaches-step : (n : ℕ) (l : LooseList) (from to next : ℕ) → Reaches n l from to → Contains (operand_places l.boxes (loose_at l to)) next → Reaches (suc n) l from next
+Reaches-step zero l from to next e has = (next, subst (λ k. Contains (operand_places l.boxes (loose_at l k)) next) (sym e) has, refl)
 Reaches-step (suc n) l from to next h has = (h.0, h.1, Reaches-step n l h.0 to next h.2 has)
 
 no_walk : (l : LooseList) (net : Netlist) (numbers : List ℕ) (o : IsOrderOf l net numbers) → IsLoose l → IsNetlist net → (n k source : ℕ) → IsCopySource n l k source → IsOnClosedWalk l k → ⊥
@@ -186,9 +186,9 @@ no_walk l net numbers o loose kept zero k source s walk =
 no_walk l net numbers o loose kept (suc n) k source s walk =
     let step = walk.2 in
     let p = s.0 in
-    let is = one_operand p step.0 (subst (λ c. Contains (operands l.boxes c) step.0) s.2 step.1) in
+    let is = one_operand p step.0 (subst (λ c. Contains (operand_places l.boxes c) step.0) s.2 step.1) in
     let back : Reaches walk.1 l p k = subst (λ j. Reaches walk.1 l j k) (sym is) step.2 in
-    let again : Contains (operands l.boxes (loose_at l k)) p = subst (λ c. Contains (operands l.boxes c) p) (sym s.2) (0, omega arith, refl) in
+    let again : Contains (operand_places l.boxes (loose_at l k)) p = subst (λ c. Contains (operand_places l.boxes c) p) (sym s.2) (0, omega arith, refl) in
     no_walk l net numbers o loose kept n p source s.3 (s.1, walk.1, Reaches-step walk.1 l p k p back again)
 
 pub order_has_no_walk_lem : OrderHasNoWalk

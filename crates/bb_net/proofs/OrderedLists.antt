@@ -14,7 +14,7 @@ use Rattle.bb_net.specs.declared.ordering.placing.Waiter.{Waiter}
 use Rattle.bb_net.specs.declared.ordering.placing.Waiter.TheVariants as waiter
 use Rattle.bb_net.specs.Netlists.{Netlist, Pins, cell_at, box_at, first_cells, IsPinAt, IsNetlist}
 use Rattle.bb_net.specs.Values.{bit_of}
-use Rattle.bb_net.specs.Loose.{LooseList, loose_at, operands, IsLoose, IsOnClosedWalk}
+use Rattle.bb_net.specs.Loose.{LooseList, loose_at, operand_places, IsLoose, IsOnClosedWalk}
 use Rattle.bb_net.specs.Orders.{IsNoCopy, IsMoved, IsOrderOf}
 use Rattle.bb_net.specs.Inside.Placings.{IsAt, IsPlaced, IsOpen, IsWaiter, waiters_at, given_place, open_count, EndsWithin, IsBegun, IsBuilt, IsLeastFirst, IsPlacingBy, AreAll}
 use Rattle.bb_net.proofs.NetLemmas.{length-first_cells}
@@ -40,7 +40,7 @@ open_on_walk l to numbers loose begun k walk = elim (placed_or_open to k) [
 
 -- where no cell has waiters to wake and no box is ready, each open cell reads an open one
 stuck_step : (l : LooseList) (net : Netlist) (to : List (Option ℕ)) (numbers : List ℕ) (numbered : List Bool) (waiting : List (List Waiter)) → IsPlacingBy l net to numbers numbered waiting [] [] [] []
-    → (k : ℕ) → (k < length l.cells) × IsOpen to k → (a : ℕ) × Contains (operands l.boxes (loose_at l k)) a × ((a < length l.cells) × IsOpen to a)
+    → (k : ℕ) → (k < length l.cells) × IsOpen to k → (a : ℕ) × Contains (operand_places l.boxes (loose_at l k)) a × ((a < length l.cells) × IsOpen to a)
 stuck_step l net to numbers numbered waiting s k h = elim (s.queue.cells k h.0 h.1) [
   | inl here ↦ elim here [
     | inl output ↦
@@ -49,7 +49,7 @@ stuck_step l net to numbers numbered waiting s k h = elim (s.queue.cells k h.0 h
         elim (s.queue.boxes b (box_number l k b output.1 s.list h.0 output.2) new) [
           | inl known ↦ elim known [ inl none ↦ Contains-none b none | inr none ↦ Waiter-none (waiter.Box b none.0) none.1 ]
           | inr waits ↦ elim waits.3 [
-            | inl o ↦ (waits.0, subst (λ c. Contains (operands l.boxes c) waits.0) (sym output.2) waits.2, (All-contains (λ j. j < length l.cells) _ waits.0 (s.list.pins_there b) waits.2, o))
+            | inl o ↦ (waits.0, subst (λ c. Contains (operand_places l.boxes c) waits.0) (sym output.2) waits.2, (All-contains (λ j. j < length l.cells) _ waits.0 (s.list.pins_there b) waits.2, o))
             | inr none ↦ Contains-none waits.0 none
           ]
         ]
@@ -197,10 +197,10 @@ first_kept c d f = elim f [ inl q ↦ subst IsNoCopy (sym q.1) tt | inr q ↦ su
 first_moved : (g : ℕ → ℕ) (numbers : List ℕ) (c : LooseCell) (d : Cell) → IsFirst c d → IsMoved g numbers c d
 first_moved g numbers c d f = elim f [ inl q ↦ subst (λ e. IsMoved g numbers e d) (sym q.1) q.2 | inr q ↦ subst (λ e. IsMoved g numbers e d) (sym q.1) q.2 ]
 
-first_reads : {P : Type 0} (boxes : List Pins) (c : LooseCell) (d : Cell) (a : ℕ) → IsFirst c d → Contains (operands boxes c) a → P
+first_reads : {P : Type 0} (boxes : List Pins) (c : LooseCell) (d : Cell) (a : ℕ) → IsFirst c d → Contains (operand_places boxes c) a → P
 first_reads boxes c d a f has = elim f [
-  | inl q ↦ Contains-none a (subst (λ e. Contains (operands boxes e) a) q.1 has)
-  | inr q ↦ Contains-none a (subst (λ e. Contains (operands boxes e) a) q.1 has)
+  | inl q ↦ Contains-none a (subst (λ e. Contains (operand_places boxes e) a) q.1 has)
+  | inr q ↦ Contains-none a (subst (λ e. Contains (operand_places boxes e) a) q.1 has)
 ]
 
 first_no_copy : {P : Type 0} (c : LooseCell) (d : Cell) (p : ℕ) → IsFirst c d → c ≡ Copy p → P

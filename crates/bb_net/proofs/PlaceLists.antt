@@ -13,7 +13,7 @@ use Rattle.std.proofs.lemmas.List.{get_or_past}
 use Rattle.bb_net.specs.declared.loose.LooseCell.{LooseCell}
 use Rattle.bb_net.specs.declared.loose.LooseCell.TheVariants.{BoxOut}
 use Rattle.bb_net.specs.Netlists.{Pins}
-use Rattle.bb_net.specs.Loose.{LooseList, loose_at, operands, IsLoose, Reaches, IsOnClosedWalk}
+use Rattle.bb_net.specs.Loose.{LooseList, loose_at, operand_places, IsLoose, Reaches, IsOnClosedWalk}
 use Rattle.bb_net.proofs.Finite.{below_or_one}
 
 -- distinct numbers below a bound are no more than the bound
@@ -38,13 +38,13 @@ pub Contains-none : {P : Type 0} (k : ℕ) → Contains [] k → P
 Contains-none k has = let never : has.0 < 0 = has.1 in absurd (omega (arith, never))
 
 -- one step more at the end of a walk
-pub Reaches-push : (n : ℕ) (l : LooseList) (from to next : ℕ) → Reaches n l from to → Contains (operands l.boxes (loose_at l to)) next → Reaches (suc n) l from next
-Reaches-push zero l from to next e has = (next, subst (λ k. Contains (operands l.boxes (loose_at l k)) next) (sym e) has, refl)
+pub Reaches-push : (n : ℕ) (l : LooseList) (from to next : ℕ) → Reaches n l from to → Contains (operand_places l.boxes (loose_at l to)) next → Reaches (suc n) l from next
+Reaches-push zero l from to next e has = (next, subst (λ k. Contains (operand_places l.boxes (loose_at l k)) next) (sym e) has, refl)
 Reaches-push (suc n) l from to next h has = (h.0, h.1, Reaches-push n l h.0 to next h.2 has)
 
 -- the next place with a property, which an operand of each place with it has too
 abbrev Steps : LooseList → (ℕ → Type 0) → Type 0
-Steps l P = (k : ℕ) → P k → (a : ℕ) × Contains (operands l.boxes (loose_at l k)) a × P a
+Steps l P = (k : ℕ) → P k → (a : ℕ) × Contains (operand_places l.boxes (loose_at l k)) a × P a
 
 -- the places of a walk among those with the property
 path : (l : LooseList) (P : ℕ → Type 0) → Steps l P → (start : ℕ) → P start → ℕ → (k : ℕ) × P k
@@ -57,7 +57,7 @@ path l P step start has (suc i) =
 abbrev at : (l : LooseList) (P : ℕ → Type 0) → Steps l P → (start : ℕ) → P start → ℕ → ℕ
 at l P step start has i = (path l P step start has i).0
 
-at_step : (l : LooseList) (P : ℕ → Type 0) (step : Steps l P) (start : ℕ) (has : P start) (i : ℕ) → Contains (operands l.boxes (loose_at l (at l P step start has i))) (at l P step start has (suc i))
+at_step : (l : LooseList) (P : ℕ → Type 0) (step : Steps l P) (start : ℕ) (has : P start) (i : ℕ) → Contains (operand_places l.boxes (loose_at l (at l P step start has i))) (at l P step start has (suc i))
 unfolding path
 at_step l P step start has i = (step (path l P step start has i).0 (path l P step start has i).1).1
 
@@ -94,8 +94,8 @@ walk_from_steps l P below step start has =
     other a b = elim (cases_eq a b) [ inl e ↦ inr e | inr ne ↦ inl ne ]
 
 -- the operands of a cell of a list are in the list
-pub reads_there : (l : LooseList) (place n : ℕ) (c : LooseCell) → IsLoose l → place < length l.cells → length l.cells ≡ n → c ≡ loose_at l place → All (λ k. k < n) (operands l.boxes c)
-reads_there l place n c loose h e is = subst (λ m. All (λ k. k < m) (operands l.boxes c)) e (subst (λ d. All (λ k. k < length l.cells) (operands l.boxes d)) (sym is) (loose.there place h))
+pub reads_there : (l : LooseList) (place n : ℕ) (c : LooseCell) → IsLoose l → place < length l.cells → length l.cells ≡ n → c ≡ loose_at l place → All (λ k. k < n) (operand_places l.boxes c)
+reads_there l place n c loose h e is = subst (λ m. All (λ k. k < m) (operand_places l.boxes c)) e (subst (λ d. All (λ k. k < length l.cells) (operand_places l.boxes d)) (sym is) (loose.there place h))
 
 -- a box of which the list has an output pin is in the list
 pub box_number : (l : LooseList) (place b p : ℕ) → IsLoose l → place < length l.cells → loose_at l place ≡ BoxOut b p → b < length l.boxes

@@ -9,7 +9,7 @@ use Rattle.std.proofs.lemmas.List.Quantifiers.{all_pairs_push}
 use Rattle.std.proofs.lemmas.List.Sums.{sum_by-set}
 use Rattle.bb_net.specs.declared.loose.LooseCell.TheVariants.{Copy, BoxOut}
 use Rattle.bb_net.specs.Netlists.{box_at}
-use Rattle.bb_net.specs.Loose.{LooseList, loose_at, operands, Reaches}
+use Rattle.bb_net.specs.Loose.{LooseList, loose_at, operand_places, Reaches}
 use Rattle.bb_net.specs.Orders.{IsCopySource, IsReadyBox}
 use Rattle.bb_net.specs.Inside.Placings.{IsAt, IsPlaced, IsOpen, given_place, open_count, EndsWithin, InputsEnd, IsBegun}
 
@@ -77,7 +77,7 @@ EndsWithin-more l zero k h = absurd h
 EndsWithin-more l (suc n) k h = λ a has. EndsWithin-more l n a (h a has)
 
 pub IsBegun-more : (l : LooseList) (to : List (Option ℕ)) (numbers : List ℕ) (k q : ℕ) → IsBegun l to numbers → k < length to → IsOpen to k
-    → ((a : ℕ) → Contains (operands l.boxes (loose_at l k)) a → IsPlaced to a) → ((p : ℕ) → loose_at l k ≡ Copy p → IsAt to p q)
+    → ((a : ℕ) → Contains (operand_places l.boxes (loose_at l k)) a → IsPlaced to a) → ((p : ℕ) → loose_at l k ≡ Copy p → IsAt to p q)
     → (n source : ℕ) × IsCopySource n l k source → ((b p : ℕ) → loose_at l k ≡ BoxOut b p → Contains numbers b) → IsBegun l (set to k (Some q)) numbers
 IsBegun-more l to numbers k q old lt free reads copy source output =
     let new : List (Option ℕ) = set to k (Some q) in
@@ -85,7 +85,7 @@ IsBegun-more l to numbers k q old lt free reads copy source output =
       whole = length-set to k (Some q) ∙ old.whole;
       prefix = λ m h. at_old to k q m m free (old.prefix m h);
       reads = λ m place a at has. elim (at_cases to k q m place lt at) [
-        | inl e ↦ placed_old to k q a free (reads a (subst (λ j. Contains (operands l.boxes (loose_at l j)) a) e.0 has))
+        | inl e ↦ placed_old to k q a free (reads a (subst (λ j. Contains (operand_places l.boxes (loose_at l j)) a) e.0 has))
         | inr o ↦ placed_old to k q a free (old.reads m place a o has)
       ];
       copies = λ m p place at is. elim (at_cases to k q m place lt at) [
@@ -98,7 +98,7 @@ IsBegun-more l to numbers k q old lt free reads copy source output =
       ];
       depth = suc old.depth;
       ends = λ m place at. elim (at_cases to k q m place lt at) [
-        | inl e ↦ λ a has. (let p = reads a (subst (λ j. Contains (operands l.boxes (loose_at l j)) a) e.0 has) in old.ends a p.0 p.1)
+        | inl e ↦ λ a has. (let p = reads a (subst (λ j. Contains (operand_places l.boxes (loose_at l j)) a) e.0 has) in old.ends a p.0 p.1)
         | inr o ↦ EndsWithin-more l old.depth m (old.ends m place o)
       ];
       outputs = λ m place b p at is. elim (at_cases to k q m place lt at) [

@@ -11,7 +11,7 @@ use Rattle.bb_net.specs.declared.ordering.placing.Waiter.{Waiter}
 use Rattle.bb_net.specs.declared.ordering.placing.Waiter.TheVariants as waiter
 use Rattle.bb_net.specs.Netlists.{Netlist, box_at, with_cell, with_box}
 use Rattle.bb_net.specs.Values.{bit_of}
-use Rattle.bb_net.specs.Loose.{LooseList, loose_at, operands, Reaches}
+use Rattle.bb_net.specs.Loose.{LooseList, loose_at, operand_places, Reaches}
 use Rattle.bb_net.specs.Orders.{IsNoCopy, IsMoved, IsReadyBox}
 use Rattle.bb_net.specs.Inside.Placings.{IsAt, IsPlaced, IsOpen, given_place, EndsWithin, InputsEnd, boxes_of, IsPlacingBy}
 use Rattle.bb_net.proofs.PlaceLists.{Contains-none, Contains-one, Reaches-push}
@@ -28,7 +28,7 @@ late_less to k q late rest lt free less m h = elim h [
 -- a cell is put into the netlist
 pub IsPlacing-put : (l : LooseList) (net : Netlist) (to : List (Option ℕ)) (numbers : List ℕ) (numbered : List Bool) (waiting : List (List Waiter)) (fresh : List ℕ) (ready : List (Reverse ℕ)) (woken : List Waiter) (late rest : List ℕ) (k : ℕ) (c : Cell)
     → IsPlacingBy l net to numbers numbered waiting fresh ready woken late → k < length l.cells → IsOpen to k → IsNoCopy (loose_at l k)
-    → ((a : ℕ) → Contains (operands l.boxes (loose_at l k)) a → IsPlaced to a) → IsMoved (given_place to) numbers (loose_at l k) c → ((b p : ℕ) → loose_at l k ≡ BoxOut b p → Contains numbers b)
+    → ((a : ℕ) → Contains (operand_places l.boxes (loose_at l k)) a → IsPlaced to a) → IsMoved (given_place to) numbers (loose_at l k) c → ((b p : ℕ) → loose_at l k ≡ BoxOut b p → Contains numbers b)
     → ((m : ℕ) → Contains late m → (k ≡ m) ⊎ Contains rest m)
     → IsPlacingBy l (with_cell net c) (set to k (Some (length net.cells))) numbers numbered waiting (fresh ++ k ∷ []) ready woken rest
 IsPlacing-put l net to numbers numbered waiting fresh ready woken late rest k c old lt free keep reads moved output less =
@@ -54,9 +54,9 @@ pub IsPlacing-copy : (l : LooseList) (net : Netlist) (to : List (Option ℕ)) (n
     → IsPlacingBy l net (set to k (Some q)) numbers numbered waiting (fresh ++ k ∷ []) ready woken []
 IsPlacing-copy l net to numbers numbered waiting fresh ready woken k p q old lt free is at =
     let within : k < length to = omega (arith, lt, old.begun.whole) in
-    let reads : (a : ℕ) → Contains (operands l.boxes (loose_at l k)) a → IsPlaced to a = λ a has. old_read a (subst (λ c. Contains (operands l.boxes c) a) is has) in
+    let reads : (a : ℕ) → Contains (operand_places l.boxes (loose_at l k)) a → IsPlaced to a = λ a has. old_read a (subst (λ c. Contains (operand_places l.boxes c) a) is has) in
     let source = old.begun.sources p q at in
-    let there : p < length l.cells = All-contains (λ j. j < length l.cells) _ p (old.list.there k lt) (subst (λ c. Contains (operands l.boxes c) p) (sym is) (0, omega arith, refl)) in
+    let there : p < length l.cells = All-contains (λ j. j < length l.cells) _ p (old.list.there k lt) (subst (λ c. Contains (operand_places l.boxes c) p) (sym is) (0, omega arith, refl)) in
     record {
       list = old.list;
       begun = IsBegun-more l to numbers k q old.begun within free reads (λ r e. same r e) (suc source.0, source.1, (p, there, is, source.2)) (λ b r e. cc (is, e));

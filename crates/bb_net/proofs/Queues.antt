@@ -7,7 +7,7 @@ use Rattle.std.proofs.lemmas.List.Elements.{All-weaker, All-nil, All-tail, All-p
 use Rattle.bb_net.specs.declared.ordering.placing.Waiter.{Waiter}
 use Rattle.bb_net.specs.declared.ordering.placing.Waiter.TheVariants as waiter
 use Rattle.bb_net.specs.Netlists.{box_at}
-use Rattle.bb_net.specs.Loose.{LooseList, loose_at, operands}
+use Rattle.bb_net.specs.Loose.{LooseList, loose_at, operand_places}
 use Rattle.bb_net.specs.Inside.Placings.{IsPlaced, IsOpen, IsOutput, waiters_at, IsWaiter, IsAwaited, CellWaits, BoxWaits, IsWaiting}
 use Rattle.bb_net.proofs.PlacedCells.{placed_old, open_old}
 
@@ -119,7 +119,7 @@ waits_now waiting a w lt = subst (λ xs. Contains xs w) (sym (get_or-set_same wa
 
 -- a cell waits for an operand
 pub IsWaiting-cell : (l : LooseList) (to : List (Option ℕ)) (numbers : List ℕ) (waiting : List (List Waiter)) (fresh ready : List ℕ) (k a : ℕ) (woken : List Waiter)
-    → IsWaiting l to numbers waiting fresh ready (waiter.Cell k ∷ woken) → k < length l.cells → a < length waiting → IsOpen to a → Contains (operands l.boxes (loose_at l k)) a
+    → IsWaiting l to numbers waiting fresh ready (waiter.Cell k ∷ woken) → k < length l.cells → a < length waiting → IsOpen to a → Contains (operand_places l.boxes (loose_at l k)) a
     → IsWaiting l to numbers (set waiting a (waiters_at waiting a ++ waiter.Cell k ∷ [])) fresh ready woken
 IsWaiting-cell l to numbers waiting fresh ready k a woken old lt within free reads =
     let w : Waiter = waiter.Cell k in

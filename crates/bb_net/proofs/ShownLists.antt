@@ -5,7 +5,7 @@ use Rattle.std.proofs.lemmas.Bool.{eq-eqb, ne_eqb}
 use Rattle.std.proofs.lemmas.List.{append-nil, append_assoc}
 use Rattle.std.proofs.lemmas.List.Sums.{sum_by-cons}
 use Rattle.bb_bits.specs.Earlier.{each_from}
-use Rattle.bb_net.specs.Kinds.{has_kind, shown}
+use Rattle.bb_net.specs.Kinds.{has_kind, representatives}
 use Rattle.bb_net.proofs.KindLists.{gives, or_true, or_false}
 
 each_more : {A B : Type 0} (f : List A → A → List B) (before xs : List A) (y : A) → each_from f before (xs ++ y ∷ []) ≡ each_from f before xs ++ f (before ++ xs) y
@@ -32,17 +32,17 @@ kind_missing (l ∷ ks) [] k none = refl
 kind_missing (l ∷ ks) (y ∷ xs) k none =
     or_false _ (has_kind k (zip ks xs)) (ne_eqb l k (λ e. none (zero, omega arith, e))) (kind_missing ks xs k (λ has. none (suc has.0, omega (arith, has.1), has.2)))
 
-shown_more : {A : Type 0} (ks : List ℕ) (xs : List A) (k : ℕ) (x : A) → length xs ≡ length ks → shown (ks ++ k ∷ []) (xs ++ x ∷ []) ≡ shown ks xs ++ (if has_kind k (zip ks xs) then [] else x ∷ [])
+shown_more : {A : Type 0} (ks : List ℕ) (xs : List A) (k : ℕ) (x : A) → length xs ≡ length ks → representatives (ks ++ k ∷ []) (xs ++ x ∷ []) ≡ representatives ks xs ++ (if has_kind k (zip ks xs) then [] else x ∷ [])
 shown_more ks xs k x len = ap (each_from gives []) (zip_more ks xs k x len) ∙ each_more gives [] (zip ks xs) (k, x)
 
 module _ {A : Type 0} where
   -- a box of a kind that precedes is left out
-  pub shown_again : (ks : List ℕ) (xs : List A) (k : ℕ) (x : A) → length xs ≡ length ks → Contains ks k → shown (ks ++ k ∷ []) (xs ++ x ∷ []) ≡ shown ks xs
-  shown_again ks xs k x len has = shown_more ks xs k x len ∙ ap (λ b. shown ks xs ++ (if b then [] else x ∷ [])) (kind_there ks xs k len has) ∙ append-nil (shown ks xs)
+  pub shown_again : (ks : List ℕ) (xs : List A) (k : ℕ) (x : A) → length xs ≡ length ks → Contains ks k → representatives (ks ++ k ∷ []) (xs ++ x ∷ []) ≡ representatives ks xs
+  shown_again ks xs k x len has = shown_more ks xs k x len ∙ ap (λ b. representatives ks xs ++ (if b then [] else x ∷ [])) (kind_there ks xs k len has) ∙ append-nil (representatives ks xs)
 
   -- and one of a new kind is shown after the others
-  pub shown_new : (ks : List ℕ) (xs : List A) (k : ℕ) (x : A) → length xs ≡ length ks → (Contains ks k → ⊥) → shown (ks ++ k ∷ []) (xs ++ x ∷ []) ≡ shown ks xs ++ x ∷ []
-  shown_new ks xs k x len none = shown_more ks xs k x len ∙ ap (λ b. shown ks xs ++ (if b then [] else x ∷ [])) (kind_missing ks xs k none)
+  pub shown_new : (ks : List ℕ) (xs : List A) (k : ℕ) (x : A) → length xs ≡ length ks → (Contains ks k → ⊥) → representatives (ks ++ k ∷ []) (xs ++ x ∷ []) ≡ representatives ks xs ++ x ∷ []
+  shown_new ks xs k x len none = shown_more ks xs k x len ∙ ap (λ b. representatives ks xs ++ (if b then [] else x ∷ [])) (kind_missing ks xs k none)
 
 given_sum : {A : Type 0} (f : A → ℕ) (b : Bool) (x : A) (rest xs : List A) → sum_by f rest ≤ sum_by f xs → sum_by f ((if b then [] else x ∷ []) ++ rest) ≤ sum_by f (x ∷ xs)
 given_sum f true x rest xs less = omega (arith, less, sum_by-cons f x xs)
@@ -55,5 +55,5 @@ shown_sum_from f before (k ∷ ks) [] = omega arith
 shown_sum_from f before (k ∷ ks) (x ∷ xs) = given_sum f (has_kind k before) x (each_from gives (before ++ (k, x) ∷ []) (zip ks xs)) xs (shown_sum_from f (before ++ (k, x) ∷ []) ks xs)
 
 -- what is shown sums up to no more than all
-pub shown_sum : {A : Type 0} (f : A → ℕ) (ks : List ℕ) (xs : List A) → sum_by f (shown ks xs) ≤ sum_by f xs
+pub shown_sum : {A : Type 0} (f : A → ℕ) (ks : List ℕ) (xs : List A) → sum_by f (representatives ks xs) ≤ sum_by f xs
 shown_sum f ks xs = shown_sum_from f [] ks xs

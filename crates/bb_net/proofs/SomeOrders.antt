@@ -9,7 +9,7 @@ use Rattle.std.proofs.lemmas.List.Elements.{All-append, All-contains, Contains-g
 use Rattle.bb_net.specs.declared.loose.LooseCell.{LooseCell}
 use Rattle.bb_net.specs.declared.loose.LooseCell.TheVariants.{Const, Input, Not, And, Or, Xor, Mux, BoxOut, Copy}
 use Rattle.bb_net.specs.Netlists.{Netlist, box_at, first_cells, IsNetlist}
-use Rattle.bb_net.specs.Loose.{LooseList, loose_at, operands, IsLoose, Reaches, IsOnClosedWalk}
+use Rattle.bb_net.specs.Loose.{LooseList, loose_at, operand_places, IsLoose, Reaches, IsOnClosedWalk}
 use Rattle.bb_net.specs.Orders.{IsReadyBox, IsOrderOf, OrderExists}
 use Rattle.bb_net.specs.Inside.Placings.{IsAt, IsPlaced, IsOpen, IsOutput, given_place, open_count, EndsWithin, InputsEnd}
 use Rattle.bb_net.proofs.Finite.{below_or_one}
@@ -42,17 +42,17 @@ output_or_not (Copy p) = inr (λ o. cc (o.2))
 
 -- a cell that may get its place, and one that waits if it has none
 abbrev MayPlace : LooseList → List (Option ℕ) → ℕ → Type 0
-MayPlace l to k = IsOpen to k × (IsOutput (loose_at l k) → ⊥) × ((a : ℕ) → Contains (operands l.boxes (loose_at l k)) a → IsPlaced to a)
+MayPlace l to k = IsOpen to k × (IsOutput (loose_at l k) → ⊥) × ((a : ℕ) → Contains (operand_places l.boxes (loose_at l k)) a → IsPlaced to a)
 
 abbrev Waits : LooseList → List (Option ℕ) → ℕ → Type 0
-Waits l to k = IsOpen to k → IsOutput (loose_at l k) ⊎ ((a : ℕ) × Contains (operands l.boxes (loose_at l k)) a × IsOpen to a)
+Waits l to k = IsOpen to k → IsOutput (loose_at l k) ⊎ ((a : ℕ) × Contains (operand_places l.boxes (loose_at l k)) a × IsOpen to a)
 
 cell_waits : (l : LooseList) (to : List (Option ℕ)) (k : ℕ) → Waits l to k ⊎ MayPlace l to k
 cell_waits l to k = elim (placed_or_open to k) [
   | inl p ↦ inl (λ o. at_open to k p.0 p.1 o)
   | inr o ↦ elim (output_or_not (loose_at l k)) [
     | inl is ↦ inl (λ o. inl is)
-    | inr out ↦ elim (all_or_one to (operands l.boxes (loose_at l k))) [ inl all ↦ inr (o, out, all) | inr one ↦ inl (λ o. inr one) ]
+    | inr out ↦ elim (all_or_one to (operand_places l.boxes (loose_at l k))) [ inl all ↦ inr (o, out, all) | inr one ↦ inl (λ o. inr one) ]
   ]
 ]
 
@@ -155,13 +155,13 @@ finished l net to numbers loose part all occurs =
 
 -- a cell without place reads one, where no cell may get its place and no box its number
 stuck_step : (l : LooseList) (net : Netlist) (to : List (Option ℕ)) (numbers : List ℕ) → IsLoose l → IsPart l net to numbers [] → ((k : ℕ) → k < length l.cells → Waits l to k) → ((b : ℕ) → b < length l.boxes → BoxOccurs l to numbers b)
-    → (k : ℕ) → (k < length l.cells) × IsOpen to k → (a : ℕ) × Contains (operands l.boxes (loose_at l k)) a × ((a < length l.cells) × IsOpen to a)
+    → (k : ℕ) → (k < length l.cells) × IsOpen to k → (a : ℕ) × Contains (operand_places l.boxes (loose_at l k)) a × ((a < length l.cells) × IsOpen to a)
 stuck_step l net to numbers loose part waits occurs k h = elim (waits k h.0 h.1) [
   | inl output ↦
       let b = output.0 in
       elim (occurs b (box_number l k b output.1 loose h.0 output.2)) [
         | inl has ↦ elim (part.pins k b output.1 h.0 output.2 has) [ inl p ↦ at_open to k p.0 p.1 h.1 | inr none ↦ Contains-none k none ]
-        | inr one ↦ (one.0, subst (λ c. Contains (operands l.boxes c) one.0) (sym output.2) one.1, (All-contains (λ j. j < length l.cells) _ one.0 (loose.pins_there b) one.1, one.2))
+        | inr one ↦ (one.0, subst (λ c. Contains (operand_places l.boxes c) one.0) (sym output.2) one.1, (All-contains (λ j. j < length l.cells) _ one.0 (loose.pins_there b) one.1, one.2))
       ]
   | inr one ↦ (one.0, one.1, (All-contains (λ j. j < length l.cells) _ one.0 (loose.there k h.0) one.1, one.2))
 ]

@@ -8,7 +8,7 @@ use Rattle.bb_net.specs.declared.cell.Cell.TheVariants as cell
 use Rattle.bb_net.specs.declared.loose.LooseCell.{LooseCell}
 use Rattle.bb_net.specs.declared.loose.LooseCell.TheVariants.{Const, Input, Not, And, Or, Xor, Mux, BoxOut, Copy}
 use Rattle.bb_net.specs.Netlists.{Netlist, Pins, box_at, IsNetlist, MayBeAppended, with_cell, with_box}
-use Rattle.bb_net.specs.Loose.{LooseList, loose_at, operands, IsLoose}
+use Rattle.bb_net.specs.Loose.{LooseList, loose_at, operand_places, IsLoose}
 use Rattle.bb_net.specs.Orders.{IsNoCopy, IsMoved, IsReadyBox}
 use Rattle.bb_net.specs.Inside.Placings.{IsAt, IsPlaced, IsOpen, IsOutput, given_place, open_count, InputsEnd, IsBegun, IsBuilt, IsComing}
 use Rattle.bb_net.proofs.PlaceLists.{Contains-none, length-le_from_apart}
@@ -30,7 +30,7 @@ pub record IsPart (l : LooseList) (net : Netlist) (to : List (Option ℕ)) (numb
 
 -- a cell of the list is put into the netlist
 IsPart-put : (l : LooseList) (net : Netlist) (to : List (Option ℕ)) (numbers late rest : List ℕ) (k : ℕ) (c : Cell) → IsLoose l → IsPart l net to numbers late → k < length l.cells → IsOpen to k → IsNoCopy (loose_at l k)
-    → ((a : ℕ) → Contains (operands l.boxes (loose_at l k)) a → IsPlaced to a) → IsMoved (given_place to) numbers (loose_at l k) c → MayBeAppended net c → ((b p : ℕ) → loose_at l k ≡ BoxOut b p → Contains numbers b)
+    → ((a : ℕ) → Contains (operand_places l.boxes (loose_at l k)) a → IsPlaced to a) → IsMoved (given_place to) numbers (loose_at l k) c → MayBeAppended net c → ((b p : ℕ) → loose_at l k ≡ BoxOut b p → Contains numbers b)
     → ((m : ℕ) → Contains late m → (k ≡ m) ⊎ Contains rest m) → IsPart l (with_cell net c) (set to k (Some (length net.cells))) numbers rest
 IsPart-put l net to numbers late rest k c loose old lt free keep reads moved may output less =
     let q : ℕ = length net.cells in
@@ -62,7 +62,7 @@ abbrev pub Grows : LooseList → List (Option ℕ) → List ℕ → List ℕ →
 Grows l to numbers late = (net : Netlist) × (after : List (Option ℕ)) × IsPart l net after numbers late × (open_count after + 1 ≡ open_count to)
 
 pub put_cell : (l : LooseList) (net : Netlist) (to : List (Option ℕ)) (numbers : List ℕ) (k : ℕ) → IsLoose l → IsPart l net to numbers [] → k < length l.cells → IsOpen to k → IsNoCopy (loose_at l k) → (IsOutput (loose_at l k) → ⊥)
-    → ((a : ℕ) → Contains (operands l.boxes (loose_at l k)) a → IsPlaced to a) → Grows l to numbers []
+    → ((a : ℕ) → Contains (operand_places l.boxes (loose_at l k)) a → IsPlaced to a) → Grows l to numbers []
 put_cell l net to numbers k loose old lt free keep not_out reads =
     let within : k < length to = omega (arith, lt, old.begun.whole) in
     let m = moved_cell (given_place to) numbers (loose_at l k) keep not_out in
@@ -74,10 +74,10 @@ put_cell l net to numbers k loose old lt free keep not_out reads =
     )
 
 pub put_copy : (l : LooseList) (net : Netlist) (to : List (Option ℕ)) (numbers : List ℕ) (k p : ℕ) → IsLoose l → IsPart l net to numbers [] → k < length l.cells → IsOpen to k → loose_at l k ≡ Copy p
-    → ((a : ℕ) → Contains (operands l.boxes (loose_at l k)) a → IsPlaced to a) → Grows l to numbers []
+    → ((a : ℕ) → Contains (operand_places l.boxes (loose_at l k)) a → IsPlaced to a) → Grows l to numbers []
 put_copy l net to numbers k p loose old lt free is reads =
     let within : k < length to = omega (arith, lt, old.begun.whole) in
-    let has : Contains (operands l.boxes (loose_at l k)) p = subst (λ c. Contains (operands l.boxes c) p) (sym is) (0, omega arith, refl) in
+    let has : Contains (operand_places l.boxes (loose_at l k)) p = subst (λ c. Contains (operand_places l.boxes c) p) (sym is) (0, omega arith, refl) in
     let at = reads p has in
     let q : ℕ = at.0 in
     let source = old.begun.sources p q at.1 in
@@ -103,7 +103,7 @@ IsPart-output l net to numbers b number p loose old coming h =
     let has = contains_number numbers number b coming.there coming.is in
     IsPart-put l net to numbers (drop p outs) (drop (p + 1) outs) k (cell.BoxOut number p) loose old pin.0 (coming.free p (omega arith) h)
     (subst IsNoCopy (sym pin.1) tt)
-    (λ a reads. old.begun.pins b a has (subst (λ c. Contains (operands l.boxes c) a) pin.1 reads))
+    (λ a reads. old.begun.pins b a has (subst (λ c. Contains (operand_places l.boxes c) a) pin.1 reads))
     (subst (λ c. IsMoved (given_place to) numbers c (cell.BoxOut number p)) (sym pin.1) (number, coming.there, coming.is, refl))
     (omega (arith, coming.there, old.built.box_count), sym coming.next)
     (λ c q e. let is : BoxOut b p ≡ BoxOut c q = sym pin.1 ∙ e in let same : b ≡ c = cc is in subst (Contains numbers) same has)

@@ -8,7 +8,7 @@ use Rattle.std.proofs.lemmas.List.Elements.{All-contains, Contains-push, Contain
 use Rattle.std.proofs.lemmas.List.Sums.{sum_by-set}
 use Rattle.bb_net.specs.Netlists.{Pins, box_at}
 use Rattle.bb_net.specs.Values.{bit_of}
-use Rattle.bb_net.specs.Loose.{LooseList, loose_at, operands, IsLoose, Reaches, PlaceDependsOn, IsOnClosedWalk}
+use Rattle.bb_net.specs.Loose.{LooseList, loose_at, operand_places, IsLoose, Reaches, PlaceDependsOn, IsOnClosedWalk}
 use Rattle.bb_net.specs.Inside.Walks.{IsMarked, IsSearched, AreDone, CellsRise}
 use Rattle.bb_net.proofs.PlaceLists.{Contains-one, Contains-none, Reaches-push}
 
@@ -99,7 +99,7 @@ pub pins_among : (l : LooseList) (b n : ℕ) (pins : Pins) (ins : List ℕ) → 
 pins_among l b n pins ins loose e f g =
     subst (λ m. All (λ k. k < m) ins) (sym e) (subst (All (λ k. k < length l.cells)) (sym (g ∙ ap (λ (q : Pins). q.ins) f)) (loose.pins_there b))
 
-IsSearched-start : (l : LooseList) (start : ℕ) (seen : List Bool) (stack : List ℕ) → IsLoose l → start < length l.cells → IsMarked (operands l.boxes (loose_at l start)) (replicate (length l.cells) false) [] seen stack → IsSearched l start seen stack
+IsSearched-start : (l : LooseList) (start : ℕ) (seen : List Bool) (stack : List ℕ) → IsLoose l → start < length l.cells → IsMarked (operand_places l.boxes (loose_at l start)) (replicate (length l.cells) false) [] seen stack → IsSearched l start seen stack
 IsSearched-start l start seen stack loose lt m =
     let n : ℕ = length l.cells in
     record {
@@ -111,7 +111,7 @@ IsSearched-start l start seen stack loose lt m =
       closed = λ k h. elim (m.only k h) [ inl never ↦ none_seen n k never | inr q ↦ inl q.1 ];
     }
 
-IsSearched-more : (l : LooseList) (start p : ℕ) (s : List Bool) (t : List ℕ) (seen : List Bool) (stack : List ℕ) → IsLoose l → IsSearched l start s (t ++ p ∷ []) → IsMarked (operands l.boxes (loose_at l p)) s t seen stack → IsSearched l start seen stack
+IsSearched-more : (l : LooseList) (start p : ℕ) (s : List Bool) (t : List ℕ) (seen : List Bool) (stack : List ℕ) → IsLoose l → IsSearched l start s (t ++ p ∷ []) → IsMarked (operand_places l.boxes (loose_at l p)) s t seen stack → IsSearched l start seen stack
 IsSearched-more l start p s t seen stack loose old m =
     let n : ℕ = length l.cells in
     let top : Contains (t ++ p ∷ []) p = Contains-push t p in
@@ -127,7 +127,7 @@ IsSearched-more l start p s t seen stack loose old m =
         | inl before ↦ elim (old.closed k before) [
           | inl on ↦ elim (Contains-push_cases t p k on) [
             | inl rest ↦ inl (m.kept k rest)
-            | inr e ↦ inr (λ a has. m.marked a (subst (λ j. Contains (operands l.boxes (loose_at l j)) a) (sym e) has))
+            | inr e ↦ inr (λ a has. m.marked a (subst (λ j. Contains (operand_places l.boxes (loose_at l j)) a) (sym e) has))
           ]
           | inr done ↦ inr (λ a has. m.stays a (done a has))
         ]
@@ -152,11 +152,11 @@ pub not_decided : (b : Bool) (P : Type 0) → Decides b P → b ≡ false → P 
 not_decided b P d is p = both_ways b is (d.1 p)
 
 pub IsSearched-begun : (l : LooseList) (start : ℕ) (none : List Bool) (empty : List ℕ) (seen : List Bool) (stack : List ℕ) → IsLoose l → start < length l.cells → none ≡ replicate (length l.cells) false → empty ≡ []
-    → IsMarked (operands l.boxes (loose_at l start)) none empty seen stack → IsSearched l start seen stack
+    → IsMarked (operand_places l.boxes (loose_at l start)) none empty seen stack → IsSearched l start seen stack
 IsSearched-begun l start none empty seen stack loose lt e f m =
-    IsSearched-start l start seen stack loose lt (subst (λ xs. IsMarked (operands l.boxes (loose_at l start)) xs [] seen stack) e (subst (λ xs. IsMarked (operands l.boxes (loose_at l start)) none xs seen stack) f m))
+    IsSearched-start l start seen stack loose lt (subst (λ xs. IsMarked (operand_places l.boxes (loose_at l start)) xs [] seen stack) e (subst (λ xs. IsMarked (operand_places l.boxes (loose_at l start)) none xs seen stack) f m))
 
-pub IsSearched-popped : (l : LooseList) (start p : ℕ) (s : List Bool) (all t : List ℕ) (seen : List Bool) (stack : List ℕ) → IsLoose l → IsSearched l start s all → all ≡ t ++ p ∷ [] → IsMarked (operands l.boxes (loose_at l p)) s t seen stack → IsSearched l start seen stack
+pub IsSearched-popped : (l : LooseList) (start p : ℕ) (s : List Bool) (all t : List ℕ) (seen : List Bool) (stack : List ℕ) → IsLoose l → IsSearched l start s all → all ≡ t ++ p ∷ [] → IsMarked (operand_places l.boxes (loose_at l p)) s t seen stack → IsSearched l start seen stack
 IsSearched-popped l start p s all t seen stack loose old e m = IsSearched-more l start p s t seen stack loose (subst (IsSearched l start s) e old) m
 
 pub IsSearched-top : (l : LooseList) (start p : ℕ) (s : List Bool) (all t : List ℕ) → IsSearched l start s all → all ≡ t ++ p ∷ [] → p < length l.cells
@@ -178,7 +178,7 @@ ranks_down l ranks loose rise (suc n) k m h walk =
     omega (arith, rise k walk.0 h walk.1, ranks_down l ranks loose rise n walk.0 m there walk.2)
 
 -- where all operands of a cell have lesser ranks, no closed walk leads through it
-pub falls_off : (l : LooseList) (ranks : List ℕ) (k bound : ℕ) → IsLoose l → CellsRise l ranks → bound ≤ slice_index ranks k → ((a : ℕ) → Contains (operands l.boxes (loose_at l k)) a → slice_index ranks a < bound) → IsOnClosedWalk l k → ⊥
+pub falls_off : (l : LooseList) (ranks : List ℕ) (k bound : ℕ) → IsLoose l → CellsRise l ranks → bound ≤ slice_index ranks k → ((a : ℕ) → Contains (operand_places l.boxes (loose_at l k)) a → slice_index ranks a < bound) → IsOnClosedWalk l k → ⊥
 falls_off l ranks k bound loose rise low falls walk =
     let a = walk.2.0 in
     let there = All-contains (λ j. j < length l.cells) _ a (loose.there k walk.0) walk.2.1 in

@@ -57,16 +57,16 @@ abbrev pub EachSometimesRight : Netlist → Netlist → Type 0
 EachSometimesRight spec imp = (x : List Bool) → IsVector imp x → (j : ℕ) → IsOutput imp j → (z : List Bool) × AreBoxOutputs imp z × IsRight spec imp x (flat imp x z) j
 
 -- at the vector x some output is wrong whatever the boxes' outputs are, which need not be the same one for all of them
-abbrev pub HasAlwaysWrong : Netlist → Netlist → List Bool → Type 0
-HasAlwaysWrong spec imp x = (z : List Bool) → AreBoxOutputs imp z → SomeWrong spec imp x (flat imp x z)
+abbrev pub AlwaysSomeWrongAt : Netlist → Netlist → List Bool → Type 0
+AlwaysSomeWrongAt spec imp x = (z : List Bool) → AreBoxOutputs imp z → SomeWrong spec imp x (flat imp x z)
 
 -- there is such a vector
 abbrev pub SomeAlwaysWrong : Netlist → Netlist → Type 0
-SomeAlwaysWrong spec imp = (x : List Bool) × IsVector imp x × HasAlwaysWrong spec imp x
+SomeAlwaysWrong spec imp = (x : List Bool) × IsVector imp x × AlwaysSomeWrongAt spec imp x
 
 -- at each vector all outputs are right together for some outputs of the boxes
-abbrev pub AllSometimesRight : Netlist → Netlist → Type 0
-AllSometimesRight spec imp = (x : List Bool) → IsVector imp x → (z : List Bool) × AreBoxOutputs imp z × AllRight spec imp x (flat imp x z)
+abbrev pub AllRightTogether : Netlist → Netlist → Type 0
+AllRightTogether spec imp = (x : List Bool) → IsVector imp x → (z : List Bool) × AreBoxOutputs imp z × AllRight spec imp x (flat imp x z)
 
 -- bits at the input pins and at the output pins of a box
 pub record PinBits : Type 0 where
@@ -82,20 +82,20 @@ abbrev pub all_ins : List Pins → List Bool → List (List Bool)
 all_ins boxes bits = map (λ pins. map (bit_of bits) pins.ins) boxes
 
 -- with the chosen bits at all pins, every output is right at every vector that leads to the chosen inputs of the boxes
-abbrev pub Suit : Netlist → Netlist → List PinBits → Type 0
-Suit spec imp chosen = (x : List Bool) → IsVector imp x → all_ins imp.boxes (flat imp x (all_outs chosen)) ≡ map (λ bits. bits.ins) chosen
+abbrev pub ChoicesSuit : Netlist → Netlist → List PinBits → Type 0
+ChoicesSuit spec imp chosen = (x : List Bool) → IsVector imp x → all_ins imp.boxes (flat imp x (all_outs chosen)) ≡ map (λ bits. bits.ins) chosen
     → AllRight spec imp x (flat imp x (all_outs chosen))
 
 -- for each list of input bits of the next box there is a list of output bits with which the same holds of the boxes
 -- after it, and in the end the chosen bits suit
-abbrev pub Wins : (List PinBits → Type 0) → List Pins → List PinBits → Type 0
-Wins suit [] chosen = suit chosen
-Wins suit (box ∷ boxes) chosen = (ins : List Bool) → length ins ≡ length box.ins
-    → (outs : List Bool) × (length outs ≡ length box.outs) × Wins suit boxes (chosen ++ record { ins = ins; outs = outs } ∷ [])
+abbrev pub InputsHaveOutputs : (List PinBits → Type 0) → List Pins → List PinBits → Type 0
+InputsHaveOutputs suit [] chosen = suit chosen
+InputsHaveOutputs suit (box ∷ boxes) chosen = (ins : List Bool) → length ins ≡ length box.ins
+    → (outs : List Bool) × (length outs ≡ length box.outs) × InputsHaveOutputs suit boxes (chosen ++ record { ins = ins; outs = outs } ∷ [])
 
 -- box by box there are outputs for the inputs
 abbrev pub SomeChoicesSuit : Netlist → Netlist → Type 0
-SomeChoicesSuit spec imp = Wins (Suit spec imp) imp.boxes []
+SomeChoicesSuit spec imp = InputsHaveOutputs (ChoicesSuit spec imp) imp.boxes []
 
 abbrev pub NoChoicesSuit : Netlist → Netlist → Type 0
 NoChoicesSuit spec imp = SomeChoicesSuit spec imp → ⊥

@@ -16,14 +16,14 @@ pub data CutOutput : Type 0 where
   TopOutput : List ℕ → CutOutput
   NextState : List ℕ → CutOutput
 
-abbrev pub register_texts : FlatNet → List (List ℕ)
-register_texts f = map (λ r. r.text) f.regs
+abbrev pub state_texts : FlatNet → List (List ℕ)
+state_texts f = map (λ r. r.text) f.regs
 
 abbrev pub cut_inputs : FlatNet → List CutInput
-cut_inputs f = map TopInput f.ins ++ map State (register_texts f)
+cut_inputs f = map TopInput f.ins ++ map State (state_texts f)
 
 abbrev pub cut_outputs : FlatNet → List CutOutput
-cut_outputs f = map TopOutput f.outs ++ map NextState (register_texts f)
+cut_outputs f = map TopOutput f.outs ++ map NextState (state_texts f)
 
 -- the text of the input that is the clock of a register, if one is
 abbrev pub clock_text : FlatNet → Reg → Option (List ℕ)

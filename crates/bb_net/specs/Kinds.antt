@@ -35,26 +35,26 @@ abbrev pub has_kind : {A : Type 0} → ℕ → List (ℕ × A) → Bool
 has_kind kind boxes = list_any (λ box. box.0 == kind) boxes
 
 -- what belongs to the first box of each class, in box order: nothing where a box before it is of its class
-abbrev pub shown : {A : Type 0} → List ℕ → List A → List A
-shown kinds xs = each_after (λ before box. if has_kind box.0 before then [] else box.1 ∷ []) (zip kinds xs)
+abbrev pub representatives : {A : Type 0} → List ℕ → List A → List A
+representatives kinds xs = each_after (λ before box. if has_kind box.0 before then [] else box.1 ∷ []) (zip kinds xs)
 
 -- the places of these boxes
 abbrev pub first_places : List ℕ → List ℕ
-first_places kinds = shown kinds (range_with_len 0 (length kinds))
+first_places kinds = representatives kinds (range_with_len 0 (length kinds))
 
 -- the tables of all boxes, where the tables are one for each class
-abbrev pub spread : List ℕ → List TableBits → List TableBits
-spread kinds tables = map (table_at tables) kinds
+abbrev pub per_box : List ℕ → List TableBits → List TableBits
+per_box kinds tables = map (table_at tables) kinds
 
 -- no tables agree, one for each class
 abbrev pub NoSharedTablesMakeEquivalent : Netlist → Netlist → List ℕ → Type 0
-NoSharedTablesMakeEquivalent spec imp kinds = (tables : List TableBits) → FitBoxes tables (shown kinds imp.boxes) → TablesMakeEquivalent spec imp (spread kinds tables) → ⊥
+NoSharedTablesMakeEquivalent spec imp kinds = (tables : List TableBits) → FitBoxes tables (representatives kinds imp.boxes) → TablesMakeEquivalent spec imp (per_box kinds tables) → ⊥
 
 -- some tables agree, one for each class
 abbrev pub SomeSharedTablesMakeEquivalent : Netlist → Netlist → List ℕ → Type 0
-SomeSharedTablesMakeEquivalent spec imp kinds = (tables : List TableBits) × FitBoxes tables (shown kinds imp.boxes) × TablesMakeEquivalent spec imp (spread kinds tables)
+SomeSharedTablesMakeEquivalent spec imp kinds = (tables : List TableBits) × FitBoxes tables (representatives kinds imp.boxes) × TablesMakeEquivalent spec imp (per_box kinds tables)
 
 -- one table for each class, with which every output is right at every vector
 pub record AreSharedCompletion (spec imp : Netlist) (kinds : List ℕ) (tables : List TableBits) : Type 0 where
-  pub fit : FitBoxes tables (shown kinds imp.boxes)
-  pub agree : TablesMakeEquivalent spec imp (spread kinds tables)
+  pub fit : FitBoxes tables (representatives kinds imp.boxes)
+  pub agree : TablesMakeEquivalent spec imp (per_box kinds tables)

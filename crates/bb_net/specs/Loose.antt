@@ -19,23 +19,23 @@ abbrev pub loose_at : LooseList → ℕ → LooseCell
 loose_at l place = slice_index_or l.cells place (Const false)
 
 -- the places that a cell reads
-abbrev pub operands : List Pins → LooseCell → List ℕ
-operands boxes (Const b) = []
-operands boxes (Input i) = []
-operands boxes (Not a) = a ∷ []
-operands boxes (And a b) = a ∷ b ∷ []
-operands boxes (Or a b) = a ∷ b ∷ []
-operands boxes (Xor a b) = a ∷ b ∷ []
-operands boxes (Mux c t e) = c ∷ t ∷ e ∷ []
-operands boxes (BoxOut b p) = (box_at boxes b).ins
-operands boxes (Copy p) = p ∷ []
+abbrev pub operand_places : List Pins → LooseCell → List ℕ
+operand_places boxes (Const b) = []
+operand_places boxes (Input i) = []
+operand_places boxes (Not a) = a ∷ []
+operand_places boxes (And a b) = a ∷ b ∷ []
+operand_places boxes (Or a b) = a ∷ b ∷ []
+operand_places boxes (Xor a b) = a ∷ b ∷ []
+operand_places boxes (Mux c t e) = c ∷ t ∷ e ∷ []
+operand_places boxes (BoxOut b p) = (box_at boxes b).ins
+operand_places boxes (Copy p) = p ∷ []
 
 -- what such a list has to be
 pub record IsLoose (l : LooseList) : Type 0 where
   -- it begins with the constants and the inputs
   pub prefix : take (l.inputs + 2) l.cells ≡ Const false ∷ Const true ∷ map Input (range_with_len 0 l.inputs)
   -- all places are in the list, and an input is one of its inputs
-  pub there : (place : ℕ) → place < length l.cells → All (λ k. k < length l.cells) (operands l.boxes (loose_at l place))
+  pub there : (place : ℕ) → place < length l.cells → All (λ k. k < length l.cells) (operand_places l.boxes (loose_at l place))
   pub inputs_there : (place i : ℕ) → place < length l.cells → loose_at l place ≡ Input i → i < l.inputs
   pub outs_there : All (λ place. place < length l.cells) l.outs
   pub pins_there : (b : ℕ) → All (λ pin. pin < length l.cells) (box_at l.boxes b).ins
@@ -50,7 +50,7 @@ pub record IsLoose (l : LooseList) : Type 0 where
 -- from the output of a box to each of its inputs
 abbrev pub Reaches : ℕ → LooseList → ℕ → ℕ → Type 0
 Reaches zero l from to = from ≡ to
-Reaches (suc n) l from to = (place : ℕ) × Contains (operands l.boxes (loose_at l from)) place × Reaches n l place to
+Reaches (suc n) l from to = (place : ℕ) × Contains (operand_places l.boxes (loose_at l from)) place × Reaches n l place to
 
 -- a place depends on another, directly or through others
 abbrev pub PlaceDependsOn : LooseList → ℕ → ℕ → Type 0

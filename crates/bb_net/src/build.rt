@@ -1,7 +1,8 @@
 //! Netlists are built cell by cell in topological order, so the invariant holds after each call and the whole is never
 //! checked at the end. An error (want of memory) leaves the netlist as it was.
 
-ghost use Rattle.std.specs.Prelude.{◌≡◌, ◌+◌, ◌<◌, ◌^◌, ◌∷◌, ◌++◌, [], ℕ, All, length, slice_set, vec_len, IfOk, OnOk, OnErr};
+ghost use Rattle.std.specs.Prelude.{◌≡◌, ◌+◌, ◌<◌, ◌^◌, ◌∷◌, ◌++◌, [], ℕ, All, length, slice_set, vec_len, IfOk, OnOk};
+ghost use Rattle.std.specs.Prelude.{OnErr};
 ghost use Rattle.bb_net.specs.Netlists.{box_at, MayBeAppended, with_pin, with_cell, with_box, with_out};
 
 use crate::{BoxPins, Cell, Net};
@@ -66,7 +67,9 @@ fn append(cells: &mut Vec<Cell>, boxes: &mut Vec<BoxPins>, cell: Cell) -> Result
 
 fn list_pin(boxes: &mut Vec<BoxPins>, b: u32, place: u32) -> Result<(), NoMemory>
     requires there { b < vec_len boxes.old }
-    ensures ok { OnOk result (boxes.new.items ≡ slice_set boxes.old.items b (record (box_at boxes.old.items b) { outs = (box_at boxes.old.items b).outs ++ place ∷ [] })) }
+    ensures ok { OnOk result (boxes.new.items
+        ≡ slice_set boxes.old.items b (record (box_at boxes.old.items b)
+        { outs = (box_at boxes.old.items b).outs ++ place ∷ [] })) }
     ensures err { OnErr result (boxes.new.items ≡ boxes.old.items) }
 {
     let pins = &mut boxes[b as usize];

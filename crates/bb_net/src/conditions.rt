@@ -11,7 +11,11 @@ ghost use Rattle.bb_bits.specs.Numbers.{number_of, bits_of};
 ghost use Rattle.bb_bits.specs.Laws.RowLaws.{RowsHaveShape, BitsAreChosen, RowsHaveTable};
 ghost use Rattle.bb_net.specs.Netlists.{Netlist, IsNetlist};
 ghost use Rattle.bb_net.specs.Equivalence.{IsVector, AreBoxOutputs, IsRight, AllRight};
-ghost use Rattle.bb_net.specs.Conditions.{IsKnownWrong, MayBeRight, IsAlwaysWrong, HasAlwaysWrong, PinBits, Suit, KnownWrongAmong, MayBeRightAmong, IsFirstHit, KnownWrongSomewhere, MayBeRightEverywhere, OneAlwaysWrong, EachSometimesRight, SomeAlwaysWrong, AllSometimesRight, SomeChoicesSuit, NoChoicesSuit, SomeTablesMakeEquivalent, NoTablesMakeEquivalent};
+ghost use Rattle.bb_net.specs.Conditions.{IsKnownWrong, MayBeRight, IsAlwaysWrong, AlwaysSomeWrongAt, PinBits};
+ghost use Rattle.bb_net.specs.Conditions.{ChoicesSuit, KnownWrongAmong, MayBeRightAmong, IsFirstHit};
+ghost use Rattle.bb_net.specs.Conditions.{KnownWrongSomewhere, MayBeRightEverywhere, OneAlwaysWrong};
+ghost use Rattle.bb_net.specs.Conditions.{EachSometimesRight, SomeAlwaysWrong, AllRightTogether, SomeChoicesSuit};
+ghost use Rattle.bb_net.specs.Conditions.{NoChoicesSuit, SomeTablesMakeEquivalent, NoTablesMakeEquivalent};
 
 use bb_bits::{
     number_is_below, number_spelled, number_spelled_once, rows_are_chosen, rows_are_tables,
@@ -32,8 +36,10 @@ pub fn conditions_weaken()
 
 /// With one box there is no nesting, so the check by choices already gives its table.
 pub fn choices_are_tables()
-    ensures found { (spec imp : Netlist) → IsNetlist imp → length imp.boxes ≤ 1 → SomeChoicesSuit spec imp → SomeTablesMakeEquivalent spec imp }
-    ensures none { (spec imp : Netlist) → IsNetlist imp → length imp.boxes ≤ 1 → NoTablesMakeEquivalent spec imp → NoChoicesSuit spec imp }
+    ensures found { (spec imp : Netlist) → IsNetlist imp → length imp.boxes ≤ 1 → SomeChoicesSuit spec imp
+        → SomeTablesMakeEquivalent spec imp }
+    ensures none { (spec imp : Netlist) → IsNetlist imp → length imp.boxes ≤ 1 → NoTablesMakeEquivalent spec imp
+        → NoChoicesSuit spec imp }
 {
     laws_of_tables();
 }
@@ -48,7 +54,7 @@ pub fn hit_or_none()
 pub fn conditions_hold_or_not()
     ensures known { (spec imp : Netlist) → KnownWrongSomewhere spec imp ⊎ MayBeRightEverywhere spec imp }
     ensures one { (spec imp : Netlist) → OneAlwaysWrong spec imp ⊎ EachSometimesRight spec imp }
-    ensures some { (spec imp : Netlist) → SomeAlwaysWrong spec imp ⊎ AllSometimesRight spec imp }
+    ensures some { (spec imp : Netlist) → SomeAlwaysWrong spec imp ⊎ AllRightTogether spec imp }
     ensures choices { (spec imp : Netlist) → NoChoicesSuit spec imp ⊎ SomeChoicesSuit spec imp }
     ensures tables { (spec imp : Netlist) → NoTablesMakeEquivalent spec imp ⊎ SomeTablesMakeEquivalent spec imp }
 {}
@@ -56,9 +62,13 @@ pub fn conditions_hold_or_not()
 /// The same for one vector, and for one choice of bits at the pins.
 pub fn vectors_hold_or_not()
     ensures known { (spec imp : Netlist) (x : List Bool) (j : ℕ) → IsKnownWrong spec imp x j ⊎ MayBeRight spec imp x j }
-    ensures one { (spec imp : Netlist) (x : List Bool) (j : ℕ) → IsAlwaysWrong spec imp x j ⊎ ((z : List Bool) × AreBoxOutputs imp z × IsRight spec imp x (flat imp x z) j) }
-    ensures some { (spec imp : Netlist) (x : List Bool) → HasAlwaysWrong spec imp x ⊎ ((z : List Bool) × AreBoxOutputs imp z × AllRight spec imp x (flat imp x z)) }
-    ensures suit { (spec imp : Netlist) (chosen : List PinBits) → Suit spec imp chosen ⊎ (Suit spec imp chosen → ⊥) }
+    ensures one { (spec imp : Netlist) (x : List Bool) (j : ℕ)
+        → IsAlwaysWrong spec imp x j ⊎ ((z : List Bool) × AreBoxOutputs imp z × IsRight spec imp x (flat imp x z) j) }
+    ensures some { (spec imp : Netlist) (x : List Bool)
+        → AlwaysSomeWrongAt spec imp x
+        ⊎ ((z : List Bool) × AreBoxOutputs imp z × AllRight spec imp x (flat imp x z)) }
+    ensures suit { (spec imp : Netlist) (chosen : List PinBits)
+        → ChoicesSuit spec imp chosen ⊎ (ChoicesSuit spec imp chosen → ⊥) }
 {}
 
 fn laws_of_tables()

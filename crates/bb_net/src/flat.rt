@@ -61,9 +61,16 @@ impl Model for Flat {
 
     ghost Value = { FlatNet };
 
-    ghost view = { λ f. record { net = f.net; ins = f.ins.items; regs = f.regs.items; outs = f.outs.items; boxes = f.boxes.items } };
+    ghost view = { λ f.
+        record { net = f.net; ins = f.ins.items; regs = f.regs.items; outs = f.outs.items; boxes = f.boxes.items } };
 
-    ghost invariant = { λ f. IsFlat (record { net = f.net; ins = f.ins.items; regs = f.regs.items; outs = f.outs.items; boxes = f.boxes.items }) };
+    ghost invariant = { λ f. IsFlat (record {
+      net = f.net;
+      ins = f.ins.items;
+      regs = f.regs.items;
+      outs = f.outs.items;
+      boxes = f.boxes.items;
+    }) };
 }
 
 impl Clone for Flat {
@@ -89,8 +96,15 @@ impl Flat {
         outs: Vec<Name>,
         boxes: Vec<BoxName>,
     ) -> Flat
-        requires flat { IsFlat (record { net = net; ins = ins.items; regs = regs.items; outs = outs.items; boxes = boxes.items }) }
-        ensures flat { result ≡ record { net = net; ins = ins.items; regs = regs.items; outs = outs.items; boxes = boxes.items } }
+        requires flat { IsFlat (record {
+          net = net;
+          ins = ins.items;
+          regs = regs.items;
+          outs = outs.items;
+          boxes = boxes.items;
+        }) }
+        ensures flat { result
+            ≡ record { net = net; ins = ins.items; regs = regs.items; outs = outs.items; boxes = boxes.items } }
     {
         Flat {
             net,
@@ -143,7 +157,14 @@ impl Flat {
 
     /// Moves the parts out; nothing is copied.
     pub fn into_parts(self) -> FlatParts
-        ensures parts { record { net = result.net; ins = result.ins.items; regs = result.regs.items; outs = result.outs.items; boxes = result.boxes.items } ≡ self }
+        ensures parts { record {
+          net = result.net;
+          ins = result.ins.items;
+          regs = result.regs.items;
+          outs = result.outs.items;
+          boxes = result.boxes.items;
+        }
+            ≡ self }
         ensures kept { IsFlat self }
     {
         let Flat {

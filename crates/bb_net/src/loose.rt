@@ -39,13 +39,15 @@ impl Model for Loose {
 
     ghost Value = { LooseList };
 
-    ghost view = { λ l. record { inputs = l.inputs; cells = l.cells.items; boxes = l.boxes.items; outs = l.outs.items } };
+    ghost view = { λ l.
+        record { inputs = l.inputs; cells = l.cells.items; boxes = l.boxes.items; outs = l.outs.items } };
 }
 
 impl Loose {
     /// Nothing is checked here; `order` states what it requires.
     pub fn of(inputs: u32, cells: Vec<LooseCell>, boxes: Vec<BoxPins>, outs: Vec<u32>) -> Loose
-        ensures list { result ≡ record { inputs = inputs; cells = cells.items; boxes = boxes.items; outs = outs.items } }
+        ensures list { result
+            ≡ record { inputs = inputs; cells = cells.items; boxes = boxes.items; outs = outs.items } }
     {
         Loose {
             inputs,

@@ -79,9 +79,11 @@ impl Model for Net {
 
     ghost use Rattle.bb_net.specs.Netlists.{IsNetlist};
 
-    ghost view = { λ n. record { inputs = n.inputs; cells = n.cells.items; boxes = n.boxes.items; outs = n.outs.items } };
+    ghost view = { λ n.
+        record { inputs = n.inputs; cells = n.cells.items; boxes = n.boxes.items; outs = n.outs.items } };
 
-    ghost invariant = { λ n. IsNetlist (record { inputs = n.inputs; cells = n.cells.items; boxes = n.boxes.items; outs = n.outs.items }) };
+    ghost invariant = { λ n.
+        IsNetlist (record { inputs = n.inputs; cells = n.cells.items; boxes = n.boxes.items; outs = n.outs.items }) };
 }
 
 impl Clone for Net {
@@ -102,7 +104,8 @@ impl Net {
     #[tactic(auto, using(crate::proofs::NetLemmas::cells_begin))]
     pub fn start(alloc: Global, inputs: u32) -> Result<Net, NoMemory>
         requires { inputs + 2 < 2 ^ 32 }
-        ensures ok { IfOk result (λ net. net ≡ record { inputs = inputs; cells = first_cells inputs; boxes = []; outs = [] }) }
+        ensures ok { IfOk result (λ net.
+            net ≡ record { inputs = inputs; cells = first_cells inputs; boxes = []; outs = [] }) }
     {
         let cells = start_cells(alloc, inputs)?;
         Ok(Net {

@@ -118,9 +118,23 @@ impl Model for Pair {
 
     ghost Value = { NetPair };
 
-    ghost view = { λ p. record { spec = p.spec; imp = p.imp; ins = p.ins.items; outs = p.outs.items; boxes = p.boxes.items; kinds = p.kinds.items } };
+    ghost view = { λ p. record {
+      spec = p.spec;
+      imp = p.imp;
+      ins = p.ins.items;
+      outs = p.outs.items;
+      boxes = p.boxes.items;
+      kinds = p.kinds.items;
+    } };
 
-    ghost invariant = { λ p. IsPair (record { spec = p.spec; imp = p.imp; ins = p.ins.items; outs = p.outs.items; boxes = p.boxes.items; kinds = p.kinds.items }) };
+    ghost invariant = { λ p. IsPair (record {
+      spec = p.spec;
+      imp = p.imp;
+      ins = p.ins.items;
+      outs = p.outs.items;
+      boxes = p.boxes.items;
+      kinds = p.kinds.items;
+    }) };
 }
 
 impl Pair {
@@ -133,9 +147,31 @@ impl Pair {
         boxes: Vec<BoxName>,
         kinds: Vec<u32>,
     ) -> Pair
-        requires beside { AreBeside (record { spec = spec; imp = imp; ins = ins.items; outs = outs.items; boxes = boxes.items; kinds = kinds.items }) }
-        requires small { AreSmall (record { spec = spec; imp = imp; ins = ins.items; outs = outs.items; boxes = boxes.items; kinds = kinds.items }) }
-        ensures pair { result ≡ record { spec = spec; imp = imp; ins = ins.items; outs = outs.items; boxes = boxes.items; kinds = kinds.items } }
+        requires beside { AreBeside (record {
+          spec = spec;
+          imp = imp;
+          ins = ins.items;
+          outs = outs.items;
+          boxes = boxes.items;
+          kinds = kinds.items;
+        }) }
+        requires small { AreSmall (record {
+          spec = spec;
+          imp = imp;
+          ins = ins.items;
+          outs = outs.items;
+          boxes = boxes.items;
+          kinds = kinds.items;
+        }) }
+        ensures pair { result
+            ≡ record {
+              spec = spec;
+              imp = imp;
+              ins = ins.items;
+              outs = outs.items;
+              boxes = boxes.items;
+              kinds = kinds.items;
+            } }
     {
         spec.keeps_its_order();
         imp.keeps_its_order();

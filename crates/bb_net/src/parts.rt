@@ -3,7 +3,7 @@
 
 ghost use Rattle.std.specs.Prelude.{◌≡◌, ◌<◌, ◌≤◌, [], length, take};
 ghost use Rattle.bb_net.specs.Netlists.{box_at};
-ghost use Rattle.bb_net.specs.Loose.{loose_at, operands};
+ghost use Rattle.bb_net.specs.Loose.{loose_at, operand_places};
 
 use crate::{BoxPins, Loose, LooseCell};
 use std::alloc::Global;
@@ -13,7 +13,7 @@ impl LooseCell {
     // instead.
     pub(crate) fn operands(self) -> ([u32; 3], usize)
         ensures count { result.1 ≤ 3 }
-        ensures places { take result.1 result.0 ≡ operands [] self }
+        ensures places { take result.1 result.0 ≡ operand_places [] self }
     {
         match self {
             LooseCell::Const(_) | LooseCell::Input(_) | LooseCell::BoxOut(_, _) => ([0, 0, 0], 0),

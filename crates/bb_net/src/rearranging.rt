@@ -7,7 +7,8 @@
 ghost use Rattle.std.specs.Prelude.{◌≡◌, ◌+◌, ◌<◌, ◌≤◌, ◌^◌, ◌++◌, All, length, map, take, drop, slice_index, IfOk};
 ghost use Rattle.bb_net.specs.Netlists.{Netlist};
 ghost use Rattle.bb_net.specs.Orders.{moved_pins};
-ghost use Rattle.bb_net.specs.Rearrangements.{new_input, new_place, moved_cell, IsRearranged, RearrangedKeepsValues, RearrangedNetsExist};
+ghost use Rattle.bb_net.specs.Rearrangements.{new_input, new_place, moved_cell, IsRearranged, RearrangedKeepsValues};
+ghost use Rattle.bb_net.specs.Rearrangements.{RearrangedNetsExist};
 
 use crate::{BoxPins, Cell, Net};
 use bb_bits::NoMemory;
@@ -98,7 +99,8 @@ fn move_boxes(numbers: &[u32], boxes: &mut [BoxPins])
 fn picked(alloc: Global, numbers: &[u32], outs: &[u32], picks: &[u32]) -> Result<Vec<u32>, NoMemory>
     requires numbers { All (λ n. n + 2 < 2 ^ 32) numbers.now }
     requires picks { All (λ j. j < length outs.now) picks.now }
-    ensures ok { IfOk result (λ list. list.items ≡ map (λ j. new_place numbers.now (slice_index outs.now j)) picks.now) }
+    ensures ok { IfOk result (λ list.
+        list.items ≡ map (λ j. new_place numbers.now (slice_index outs.now j)) picks.now) }
 {
     let mut list = Vec::with_capacity(alloc, picks.len())?;
     for j in picks {

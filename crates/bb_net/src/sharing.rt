@@ -5,7 +5,7 @@
 
 ghost use Rattle.std.specs.Prelude.{◌≡◌, ◌<◌, ◌≤◌, ◌^◌, length, IfOk, IfSome, IfNone};
 ghost use Rattle.bb_net.specs.Completions.{table_bits};
-ghost use Rattle.bb_net.specs.Kinds.{AreNumberedInOrder, FitKinds, first_places, shown};
+ghost use Rattle.bb_net.specs.Kinds.{AreNumberedInOrder, FitKinds, first_places, representatives};
 
 use crate::tables::{MOST_BITS, box_bits};
 use crate::{BoxPins, Pair};
@@ -22,9 +22,9 @@ impl Pair {
 
     /// Counts one table for each sharing class; None exactly where the tables have more than 2^24 bits together.
     pub fn table_bits(&self) -> Option<u32>
-        ensures some { IfSome result (λ bits. bits ≡ table_bits (shown self.now.kinds self.now.imp.boxes)) }
+        ensures some { IfSome result (λ bits. bits ≡ table_bits (representatives self.now.kinds self.now.imp.boxes)) }
         ensures small { IfSome result (λ bits. bits ≤ 2 ^ 24) }
-        ensures none { IfNone result (2 ^ 24 < table_bits (shown self.now.kinds self.now.imp.boxes)) }
+        ensures none { IfNone result (2 ^ 24 < table_bits (representatives self.now.kinds self.now.imp.boxes)) }
     {
         count_kind_bits(self.kinds(), self.imp().boxes())
     }
@@ -47,9 +47,9 @@ fn first_of_kinds(alloc: Global, kinds: &[u32]) -> Result<Vec<u32>, NoMemory>
 
 fn count_kind_bits(kinds: &[u32], boxes: &[BoxPins]) -> Option<u32>
     requires fit { FitKinds kinds.now boxes.now }
-    ensures some { IfSome result (λ bits. bits ≡ table_bits (shown kinds.now boxes.now)) }
+    ensures some { IfSome result (λ bits. bits ≡ table_bits (representatives kinds.now boxes.now)) }
     ensures small { IfSome result (λ bits. bits ≤ 2 ^ 24) }
-    ensures none { IfNone result (2 ^ 24 < table_bits (shown kinds.now boxes.now)) }
+    ensures none { IfNone result (2 ^ 24 < table_bits (representatives kinds.now boxes.now)) }
 {
     let mut bits = 0;
     let mut count = 0;

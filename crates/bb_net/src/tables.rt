@@ -9,7 +9,7 @@ ghost use Rattle.bb_bits.specs.Tables.{table_bit};
 ghost use Rattle.bb_net.specs.Completions.{table_bits};
 ghost use Rattle.bb_net.specs.Netlists.{ReadsBefore, IsPinAt, box_at, cell_at};
 ghost use Rattle.bb_net.specs.Values.{bit_of, gate, tabled_bit, FitBoxes, flat_with};
-ghost use Rattle.bb_net.specs.Kinds.{spread};
+ghost use Rattle.bb_net.specs.Kinds.{per_box};
 
 use crate::value::cell_bit;
 use crate::{BoxPins, Cell, Net};
@@ -32,9 +32,9 @@ impl Net {
     /// numbers of pins; that classes are numbered in order is not required.
     pub fn value_with(&self, x: &[bool], tables: &[Table], kinds: &[u32], out: &mut [bool])
         requires inputs { length x.now ≡ self.now.inputs }
-        requires tables { FitBoxes (spread kinds.now tables.now) self.now.boxes }
+        requires tables { FitBoxes (per_box kinds.now tables.now) self.now.boxes }
         requires room { length out.old ≡ length self.now.cells }
-        ensures value { out.new ≡ flat_with self.now x.now (spread kinds.now tables.now) }
+        ensures value { out.new ≡ flat_with self.now x.now (per_box kinds.now tables.now) }
     {
         write_tabled(&self.cells, &self.boxes, x, tables, kinds, out);
     }
@@ -49,11 +49,15 @@ fn write_tabled(
     out: &mut [bool],
 )
     requires room { length out.old ≡ length cells.now }
-    requires tables { FitBoxes (spread kinds.now tables.now) boxes.now }
-    requires ordered { (place : ℕ) → place < length cells.now → ReadsBefore (length x.now) boxes.now place (cell_at cells.now place) }
-    requires listed { (place b p : ℕ) → place < length cells.now → cell_at cells.now place ≡ Cell.BoxOut b p → IsPinAt boxes.now b p place }
+    requires tables { FitBoxes (per_box kinds.now tables.now) boxes.now }
+    requires ordered { (place : ℕ) → place < length cells.now
+        → ReadsBefore (length x.now) boxes.now place (cell_at cells.now place) }
+    requires listed { (place b p : ℕ) → place < length cells.now → cell_at cells.now place ≡ Cell.BoxOut b p
+        → IsPinAt boxes.now b p place }
     ensures each { (place : ℕ) → place < length cells.now
-        → bit_of out.new place ≡ gate boxes.now x.now (tabled_bit (spread kinds.now tables.now)) (bit_of out.new) (cell_at cells.now place) }
+        → bit_of out.new place
+        ≡ gate boxes.now x.now (tabled_bit (per_box kinds.now tables.now)) (bit_of out.new)
+        (cell_at cells.now place) }
 {
     for (place, cell) in cells.iter().enumerate() {
         out[place] = tabled_cell(*cell, boxes, x, tables, kinds, out);
@@ -68,10 +72,10 @@ fn tabled_cell(
     kinds: &[u32],
     out: &[bool],
 ) -> bool
-    requires tables { FitBoxes (spread kinds.now tables.now) boxes.now }
+    requires tables { FitBoxes (per_box kinds.now tables.now) boxes.now }
     requires reads { ReadsBefore (length x.now) boxes.now (length out.now) cell }
     requires listed { (b p : ℕ) → cell ≡ Cell.BoxOut b p → p < length (box_at boxes.now b).outs }
-    ensures { result ≡ gate boxes.now x.now (tabled_bit (spread kinds.now tables.now)) (bit_of out.now) cell }
+    ensures { result ≡ gate boxes.now x.now (tabled_bit (per_box kinds.now tables.now)) (bit_of out.now) cell }
 {
     match cell {
         Cell::BoxOut(b, p) => {

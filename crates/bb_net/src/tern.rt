@@ -24,7 +24,8 @@ impl Net {
 
 fn write_known(cells: &[Cell], x: &[bool], out: &mut [Option<bool>])
     requires room { length out.old ≡ length cells.now }
-    requires ordered { (place : ℕ) → place < length cells.now → ReadsBefore (length x.now) [] place (cell_at cells.now place) }
+    requires ordered { (place : ℕ) → place < length cells.now
+        → ReadsBefore (length x.now) [] place (cell_at cells.now place) }
     ensures each { (place : ℕ) → place < length cells.now
         → tern_of out.new place ≡ gate3 x.now (tern_of out.new) (cell_at cells.now place) }
 {
@@ -105,7 +106,8 @@ pub fn tern_exists()
 
 /// They have no other: two solutions agree from the front on, cell by cell.
 pub fn tern_is_unique()
-    ensures { (net : Netlist) (x : List Bool) (values : List (Option Bool)) → IsOrdered net → IsTern net x values → values ≡ tern net x }
+    ensures { (net : Netlist) (x : List Bool) (values : List (Option Bool)) → IsOrdered net → IsTern net x values
+        → values ≡ tern net x }
 {}
 
 /// Soundness of three-valued simulation: a known value holds for all contents of the boxes.
@@ -116,5 +118,6 @@ pub fn known_is_value()
 
 /// Without boxes every value is known, so a specification goes through the same code as an implementation.
 pub fn known_without_boxes()
-    ensures { (net : Netlist) (x z : List Bool) → IsNetlist net → net.boxes ≡ [] → tern net x ≡ map Some (flat net x z) }
+    ensures { (net : Netlist) (x z : List Bool) → IsNetlist net → net.boxes ≡ []
+        → tern net x ≡ map Some (flat net x z) }
 {}

@@ -36,9 +36,11 @@ pub(crate) fn cell_bit(cell: Cell, here: bool, x: &[bool], out: &[bool]) -> bool
 // A box output reads the bit that is at its own place already.
 fn write_cells(cells: &[Cell], x: &[bool], out: &mut [bool])
     requires room { length out.old ≡ length cells.now }
-    requires ordered { (place : ℕ) → place < length cells.now → ReadsBefore (length x.now) [] place (cell_at cells.now place) }
+    requires ordered { (place : ℕ) → place < length cells.now
+        → ReadsBefore (length x.now) [] place (cell_at cells.now place) }
     ensures each { (place : ℕ) → place < length cells.now
-        → bit_of out.new place ≡ gate [] x.now (λ b p ins. bit_of out.old place) (bit_of out.new) (cell_at cells.now place) }
+        → bit_of out.new place
+        ≡ gate [] x.now (λ b p ins. bit_of out.old place) (bit_of out.new) (cell_at cells.now place) }
 {
     for (place, cell) in cells.iter().enumerate() {
         out[place] = cell_bit(*cell, out[place], x, out);
@@ -62,7 +64,8 @@ fn place_pins(outs: &[u32], bits: &[bool], out: &mut [bool])
 fn place_outputs(boxes: &[BoxPins], z: &[bool], out: &mut [bool])
     requires bits { length z.now ≡ output_pins boxes.now }
     requires there { (b p place : ℕ) → IsPinAt boxes.now b p place → place < length out.old }
-    requires apart { (b p c q place : ℕ) → IsPinAt boxes.now b p place → IsPinAt boxes.now c q place → (b ≡ c) × (p ≡ q) }
+    requires apart { (b p c q place : ℕ) → IsPinAt boxes.now b p place → IsPinAt boxes.now c q place
+        → (b ≡ c) × (p ≡ q) }
     ensures placed { (b p place : ℕ) → IsPinAt boxes.now b p place
         → bit_of out.new place ≡ bit_of z.now (output_pins (take b boxes.now) + p) }
 {
@@ -77,7 +80,8 @@ fn place_outputs(boxes: &[BoxPins], z: &[bool], out: &mut [bool])
 
 /// The equations of the cells have a solution, defined cell by cell: a cell reads only earlier ones.
 pub fn value_exists()
-    ensures { (net : Netlist) (x : List Bool) (box : ℕ → ℕ → List Bool → Bool) → IsOrdered net → IsValue net x box (value_of net x box) }
+    ensures { (net : Netlist) (x : List Bool) (box : ℕ → ℕ → List Bool → Bool) → IsOrdered net
+        → IsValue net x box (value_of net x box) }
 {}
 
 /// They have no other: two solutions agree from the front on, cell by cell.

@@ -1,7 +1,8 @@
 //! A wrapper over any files that keeps what was read. The list is here and neither in the top call nor in each kind of
 //! files: the top call stays one body that knows of no list, and tests use the wrapper that the program uses.
 
-ghost use Rattle.std.specs.Prelude.{◌≡◌, ◌<◌, ◌≤◌, ◌^◌, ◌++◌, ◌∷◌, [], ℕ, List, take, IfOk, IfSome, IsErrOf, OnOk, OnErr, option_map, vec_len};
+ghost use Rattle.std.specs.Prelude.{◌≡◌, ◌<◌, ◌≤◌, ◌^◌, ◌++◌, ◌∷◌, [], ℕ, List, take, IfOk, IfSome, IsErrOf, OnOk};
+ghost use Rattle.std.specs.Prelude.{OnErr, option_map, vec_len};
 ghost use Rattle.bb_outside.specs.Counts.{IsRead, outcome_of};
 ghost use Rattle.bb_outside.specs.Inside.KeptFiles.{entries, reads_of};
 
@@ -63,7 +64,9 @@ fn keep(
     limit: u64,
     gave: Option<Rc<Vec<u8>>>,
 ) -> Result<(), AllocError>
-    ensures ok { OnOk result (entries reads.new.items ≡ entries reads.old.items ++ record { name = name.now; limit = limit; gave = option_map (λ bytes. bytes.value.items) gave } ∷ []) }
+    ensures ok { OnOk result (entries reads.new.items
+        ≡ entries reads.old.items
+        ++ record { name = name.now; limit = limit; gave = option_map (λ bytes. bytes.value.items) gave } ∷ []) }
     ensures err { OnErr result (reads.new.items ≡ reads.old.items) }
     ensures short { vec_len reads.new < 2 ^ 64 }
 {
@@ -79,18 +82,22 @@ impl<F: Files + Drop> Files for KeptFiles<F> {
 
     fn read(&mut self, alloc: Global, name: &str, limit: u64) -> Result<Rc<Vec<u8>>, FileFault>
         ensures within { IfOk result (λ bytes. vec_len bytes.value ≤ limit) }
-        ensures bytes { IfOk result (λ bytes. IfSome (F.holds self.old.files name.now) (λ held. bytes.value.items ≡ take limit held)) }
+        ensures bytes { IfOk result (λ bytes.
+            IfSome (F.holds self.old.files name.now) (λ held. bytes.value.items ≡ take limit held)) }
 
         // The list is longer by this read, or the same after lack of memory.
-        ensures reported { IfSome (outcome_of result) (λ gave. self.new.reported ≡ self.old.reported ++ record { name = name.now; limit = limit; gave = gave } ∷ []) }
+        ensures reported { IfSome (outcome_of result) (λ gave.
+            self.new.reported ≡ self.old.reported ++ record { name = name.now; limit = limit; gave = gave } ∷ []) }
         ensures untold { IsErrOf result FileFault.NoMemory → self.new.reported ≡ self.old.reported }
 
         // The result is that of the wrapped files, for this name and limit.
-        ensures passed { IfSome (outcome_of result) (λ gave. IsRead (F.reads self.old.files) (F.reads self.new.files) name.now limit (Some gave)) }
+        ensures passed { IfSome (outcome_of result) (λ gave.
+            IsRead (F.reads self.old.files) (F.reads self.new.files) name.now limit (Some gave)) }
 
         // The clauses of the trait.
         ensures holds { (n : List ℕ) → F.holds self.new.files n ≡ F.holds self.old.files n }
-        ensures reads { IsRead (reads_of (F.reads self.old.files).count self.old.reported) (reads_of (F.reads self.new.files).count self.new.reported) name.now limit (outcome_of result) }
+        ensures reads { IsRead (reads_of (F.reads self.old.files).count self.old.reported)
+            (reads_of (F.reads self.new.files).count self.new.reported) name.now limit (outcome_of result) }
     {
         let answer = self.files.read(alloc, name, limit);
         let gave = match &answer {

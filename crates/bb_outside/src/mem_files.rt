@@ -1,7 +1,8 @@
 //! Files in memory whose reads fail by a list of numbers, so that tests reach each failure of a read at will. Which
 //! read fails is known beforehand, so the contract says exactly what each read does.
 
-ghost use Rattle.std.specs.Prelude.{◌≡◌, ◌≤◌, ◌↔◌, ℕ, List, Option, Some, take, map, length, Contains, IfOk, IfSome, IsErrOf, vec_len, string_bytes};
+ghost use Rattle.std.specs.Prelude.{◌≡◌, ◌≤◌, ◌↔◌, ℕ, List, Option, Some, take, map, length, Contains, IfOk, IfSome};
+ghost use Rattle.std.specs.Prelude.{IsErrOf, vec_len, string_bytes};
 ghost use Rattle.bb_outside.specs.Counts.{IsRead, outcome_of};
 ghost use Rattle.bb_outside.specs.Inside.MemFiles.{text_under, is_failing, after_read, entries, reads_of};
 
@@ -26,7 +27,8 @@ impl Model for MemFiles {
 
     ghost Value = { HeldFiles };
 
-    ghost view = { λ m. record { files = entries m.files.items; failing = m.failing.items; reads = m.reads; faults = m.faults } };
+    ghost view = { λ m.
+        record { files = entries m.files.items; failing = m.failing.items; reads = m.reads; faults = m.faults } };
 }
 
 impl MemFiles {

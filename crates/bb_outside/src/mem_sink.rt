@@ -1,7 +1,8 @@
 //! A sink in memory that takes and fails by a plan, so that tests reach every way in which a real sink behaves: whole
 //! pieces, short writes, and failures.
 
-ghost use Rattle.std.specs.Prelude.{◌≡◌, ◌<◌, ◌≤◌, take, ◌+◌, ◌↔◌, [], ◌++◌, Some, max, length, drop, IfOk, OnOk, OnErr, IsOk, IsErr, vec_len, vec_capacity};
+ghost use Rattle.std.specs.Prelude.{◌≡◌, ◌<◌, ◌≤◌, take, ◌+◌, ◌↔◌, [], ◌++◌, Some, max, length, drop, IfOk, OnOk};
+ghost use Rattle.std.specs.Prelude.{OnErr, IsOk, IsErr, vec_len, vec_capacity};
 ghost use Rattle.std.specs.Io.KnownBytes.{WriteAppends};
 ghost use Rattle.bb_outside.specs.Counts.{CountsWhere};
 ghost use Rattle.bb_outside.specs.Inside.MemSink.{wanted, Refuses, after_put, after_refusal};
@@ -36,7 +37,8 @@ impl Model for MemSink {
 
     ghost Value = { PlannedSink };
 
-    ghost view = { λ s. record { bytes = s.bytes.items; room = s.room; plan = drop s.next s.plan.items; faults = s.faults } };
+    ghost view = { λ s.
+        record { bytes = s.bytes.items; room = s.room; plan = drop s.next s.plan.items; faults = s.faults } };
 
     ghost invariant = { λ s. (vec_len s.bytes + s.room ≤ vec_capacity s.bytes) × (s.next ≤ vec_len s.plan) };
 }

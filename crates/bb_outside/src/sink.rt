@@ -32,7 +32,8 @@ pub trait Sink {
 /// Writes the whole piece, or a proper prefix of it where the sink fails. Ends since each call takes at least one byte.
 pub fn put_all<K: Sink>(out: &mut K, piece: &[u8]) -> Result<(), Failed>
     ensures ok { OnOk result (Appends (K.written out.old) (K.written out.new) piece.now) }
-    ensures err { OnErr result ((n : ℕ) × (n < length piece.now) × Appends (K.written out.old) (K.written out.new) (take n piece.now)) }
+    ensures err { OnErr result ((n : ℕ) × (n < length piece.now)
+        × Appends (K.written out.old) (K.written out.new) (take n piece.now)) }
 
     // Exactly one failure is counted where one is reported: the loop ends at the first.
     ensures never_falls { K.faults out.old ≤ K.faults out.new }

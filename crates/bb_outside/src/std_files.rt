@@ -73,7 +73,8 @@ fn read_opened<F: Read + Drop>(
     limit: u64,
 ) -> Result<Vec<u8>, FileFault>
     ensures within { IfOk result (λ bytes. vec_len bytes ≤ limit) }
-    ensures prefix { IfOk opened (λ file. IfOk result (λ bytes. IfSome (F.remaining file) (λ left. bytes.items ≡ take limit left))) }
+    ensures prefix { IfOk opened (λ file.
+        IfOk result (λ bytes. IfSome (F.remaining file) (λ left. bytes.items ≡ take limit left))) }
     ensures unopened { IsErr opened → IsErrOf result FileFault.Failed }
 {
     let Ok(mut file) = opened else {

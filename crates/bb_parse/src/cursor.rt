@@ -39,7 +39,8 @@ impl<'a> Model for Cursor<'a> {
 
     ghost view = { λ c. symbols c.text.now c.tokens.now };
 
-    ghost invariant = { λ c. AllByRecursion (λ token. IsTokenOf token c.text.now) c.tokens.now × (length c.tokens.now < 2 ^ 32) };
+    ghost invariant = { λ c.
+        AllByRecursion (λ token. IsTokenOf token c.text.now) c.tokens.now × (length c.tokens.now < 2 ^ 32) };
 }
 
 impl<'a> Cursor<'a> {

@@ -4,7 +4,8 @@
 ghost use Rattle.std.specs.Prelude.{◌≡◌, ℕ, List};
 ghost use Rattle.bb_ast.specs.Inside.Views.{body_view};
 ghost use Rattle.bb_parse.specs.Inside.Steps.{Gives};
-ghost use Rattle.bb_parse.specs.Inside.Declarations.{direction_of, port_kind_of, read_range, read_optional_range, read_port, read_ports, read_regs, read_supply};
+ghost use Rattle.bb_parse.specs.Inside.Declarations.{direction_of, port_kind_of, read_range, read_optional_range};
+ghost use Rattle.bb_parse.specs.Inside.Declarations.{read_port, read_ports, read_regs, read_supply};
 
 use crate::cursor::Cursor;
 use crate::names::names;

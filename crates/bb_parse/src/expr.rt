@@ -10,8 +10,10 @@ ghost use Rattle.std.specs.Prelude.{◌<◌, ◌≤◌, map, length};
 ghost use Rattle.bb_ast.specs.Inside.Views.{expression, operand_view, arm_view};
 ghost use Rattle.bb_parse.specs.Expressions.{bit_operator, word_operator};
 ghost use Rattle.bb_parse.specs.Inside.Steps.{Gives, read_list};
-ghost use Rattle.bb_parse.specs.Inside.Expressions.{read_expr, read_arm, read_conditional, read_level, read_row, read_operands};
-ghost use Rattle.bb_parse.specs.Inside.Expressions.{read_negated, read_fold, read_unary, read_primary, read_round, read_braces, bracket_at};
+ghost use Rattle.bb_parse.specs.Inside.Expressions.{read_expr, read_arm, read_conditional, read_level, read_row};
+ghost use Rattle.bb_parse.specs.Inside.Expressions.{read_operands};
+ghost use Rattle.bb_parse.specs.Inside.Expressions.{read_negated, read_fold, read_unary, read_primary, read_round};
+ghost use Rattle.bb_parse.specs.Inside.Expressions.{read_braces, bracket_at};
 
 use crate::cursor::Cursor;
 use crate::list::begun;
@@ -95,7 +97,8 @@ fn chain(
     first: Expr,
 ) -> Result<Expr, Stop>
     requires { row < 9 }
-    ensures { Gives expression result cursor.new (read_row row (read_level row (read_expr inner)) (expression first) cursor.old) }
+    ensures { Gives expression result cursor.new (read_row row (read_level row (read_expr inner)) (expression first)
+        cursor.old) }
 {
     if is_bitwise(row) {
         let rest = bits(alloc, cursor, inner, row)?;

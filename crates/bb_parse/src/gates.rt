@@ -5,7 +5,8 @@ ghost use Rattle.std.specs.Prelude.{◌≡◌, ℕ, List, [], ◌∷◌, map, If
 ghost use Rattle.bb_ast.specs.Inside.Views.{expression, gate_view, body_view};
 ghost use Rattle.bb_parse.specs.declared.stop.Stop.{Stop};
 ghost use Rattle.bb_parse.specs.Inside.Steps.{Gives, read_list};
-ghost use Rattle.bb_parse.specs.Inside.Items.{read_optional_name, read_two_terms, read_terms, read_gate, read_gates, gate_of};
+ghost use Rattle.bb_parse.specs.Inside.Items.{read_optional_name, read_two_terms, read_terms, read_gate, read_gates};
+ghost use Rattle.bb_parse.specs.Inside.Items.{gate_of};
 ghost use Rattle.bb_parse.specs.Inside.Items.{gates_at};
 
 use crate::cursor::Cursor;

@@ -7,7 +7,8 @@ ghost use Rattle.bb_ast.specs.declared.module.Head.{Head};
 ghost use Rattle.bb_ast.specs.Inside.Views.{head_view};
 ghost use Rattle.bb_parse.specs.Inside.Symbols.{next_kind};
 ghost use Rattle.bb_parse.specs.Inside.Steps.{Gives, read_list};
-ghost use Rattle.bb_parse.specs.Inside.Declarations.{read_head, read_next_port, read_ansi, read_ansi_heads, read_heads, read_header, header_at};
+ghost use Rattle.bb_parse.specs.Inside.Declarations.{read_head, read_next_port, read_ansi, read_ansi_heads, read_heads};
+ghost use Rattle.bb_parse.specs.Inside.Declarations.{read_header, header_at};
 
 use crate::cursor::Cursor;
 use crate::decl::{direction, port};
@@ -121,7 +122,8 @@ pub(crate) fn module_header(
     alloc: Global,
     cursor: &mut Cursor<'_>,
 ) -> Result<(Name, Vec<Head>), Stop>
-    ensures { Gives (λ x. (x.0, map head_view x.1.items)) result cursor.new (header_at (next_kind cursor.old) cursor.old) }
+    ensures { Gives (λ x. (x.0, map head_view x.1.items)) result cursor.new (header_at (next_kind cursor.old)
+        cursor.old) }
 {
     match cursor.kind() {
         Some(Kind::Word(Keyword::Module)) => {

@@ -1,7 +1,8 @@
 //! Laws of sources. They follow from the definitions and from the laws of tokens; the functions run no code, and a
 //! crate above takes a law by calling its function.
 
-ghost use Rattle.bb_parse.specs.Laws.{SourcesAreOne, FaultsAreOne, SourceOrFault, NotSourceAndFault, TextsReadOnce, SourcesAreShort, TextsAreLong, SourcesAreFormed, SourcesAreRead, FaultsAreRead};
+ghost use Rattle.bb_parse.specs.Laws.{SourcesAreOne, FaultsAreOne, SourceOrFault, NotSourceAndFault, TextsReadOnce};
+ghost use Rattle.bb_parse.specs.Laws.{SourcesAreShort, TextsAreLong, SourcesAreFormed, SourcesAreRead, FaultsAreRead};
 
 use bb_lex::laws;
 

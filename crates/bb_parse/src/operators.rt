@@ -4,7 +4,8 @@
 
 ghost use Rattle.std.specs.Prelude.{◌≡◌, length};
 ghost use Rattle.bb_ast.specs.Levels.{level_of};
-ghost use Rattle.bb_parse.specs.Expressions.{on_one, bit_operator_of, bit_row, on_words, bit_operator, word_operator, is_bitwise};
+ghost use Rattle.bb_parse.specs.Expressions.{on_one, bit_operator_of, bit_row, on_words, bit_operator, word_operator};
+ghost use Rattle.bb_parse.specs.Expressions.{is_bitwise};
 ghost use Rattle.bb_parse.specs.Inside.Expressions.{read_signs};
 
 use crate::cursor::Cursor;

@@ -2,7 +2,8 @@
 //! alone, with only whether a module is open. So the first fault is the first statement that is not good after a list
 //! of good ones, and no recovery is needed to find it.
 
-ghost use Rattle.std.specs.Prelude.{◌≡◌, ◌<◌, ◌^◌, ℕ, List, map, length, option_map, option_to_list, ◌++◌, OnOk, IfOk, IfErr, MatchResult, ◌⊎◌};
+ghost use Rattle.std.specs.Prelude.{◌≡◌, ◌<◌, ◌^◌, ℕ, List, map, length, option_map, option_to_list, ◌++◌, OnOk, IfOk};
+ghost use Rattle.std.specs.Prelude.{IfErr, MatchResult, ◌⊎◌};
 ghost use Rattle.std.specs.List.{AllByRecursion};
 ghost use Rattle.bb_ast.specs.declared.module.Module.{Module};
 ghost use Rattle.bb_ast.specs.Syntax.{PlainModule};
@@ -11,7 +12,8 @@ ghost use Rattle.bb_lex.specs.Cut.{IsTokenOf, AreTokens};
 ghost use Rattle.bb_parse.specs.declared.fault.ParseFault.{ParseFault};
 ghost use Rattle.bb_parse.specs.Sources.{line_of, IsSource, IsParseFault};
 ghost use Rattle.bb_parse.specs.Inside.Symbols.{symbols, next_kind};
-ghost use Rattle.bb_parse.specs.Inside.Sources.{Answers, with_modules, at_end, is_endmodule, then_read, item_added, step_view, read_item_of, read_step, read_source};
+ghost use Rattle.bb_parse.specs.Inside.Sources.{Answers, with_modules, at_end, is_endmodule, then_read, item_added};
+ghost use Rattle.bb_parse.specs.Inside.Sources.{step_view, read_item_of, read_step, read_source};
 
 use crate::fault::ParseFault;
 use crate::statement::{first, header_of, item_of, line};
@@ -73,7 +75,8 @@ fn with_item(
 ) -> Result<Module, ParseFault>
     requires of_text { AllByRecursion (λ token. IsTokenOf token text.now) statement.now }
     requires small { length statement.now < 2 ^ 32 }
-    ensures { Answers module_view result (then_read (read_item_of text.now statement.now) (item_added (module_view target) (line_of statement.now))) }
+    ensures { Answers module_view result (then_read (read_item_of text.now statement.now) (item_added
+        (module_view target) (line_of statement.now))) }
 {
     let body = item_of(alloc, statement, text)?;
     target.items.push(Item {
@@ -84,7 +87,8 @@ fn with_item(
 }
 
 fn keep(modules: &mut Vec<Module>, closed: Option<Module>) -> Result<(), ParseFault>
-    ensures ok { OnOk result (map module_view modules.new.items ≡ map module_view modules.old.items ++ option_to_list (option_map module_view closed)) }
+    ensures ok { OnOk result (map module_view modules.new.items
+        ≡ map module_view modules.old.items ++ option_to_list (option_map module_view closed)) }
     ensures err { IfErr result (λ e. e ≡ ParseFault.NoMemory) }
 {
     if let Some(module) = closed {
@@ -98,7 +102,8 @@ fn finished(
     current: Option<Module>,
     rest: &[Token],
 ) -> Result<Source, ParseFault>
-    ensures { Answers source_view result (with_modules (map module_view modules.items) (at_end (option_map module_view current) rest.now)) }
+    ensures { Answers source_view result (with_modules (map module_view modules.items) (at_end
+        (option_map module_view current) rest.now)) }
 {
     if current.is_some() || !rest.is_empty() {
         return Err(ParseFault::Unended);

@@ -9,7 +9,8 @@ ghost use Rattle.bb_ast.specs.Inside.Views.{head_view, body_view};
 ghost use Rattle.bb_lex.specs.Cut.{IsTokenOf};
 ghost use Rattle.bb_parse.specs.Nesting.{nesting};
 ghost use Rattle.bb_parse.specs.Sources.{ends_statement, line_of};
-ghost use Rattle.bb_parse.specs.Inside.Sources.{judged, Answers, count_at, square_at, first_statement, read_header_of, read_item_of};
+ghost use Rattle.bb_parse.specs.Inside.Sources.{judged, Answers, count_at, square_at, first_statement, read_header_of};
+ghost use Rattle.bb_parse.specs.Inside.Sources.{read_item_of};
 
 use crate::cursor::Cursor;
 use crate::fault::ParseFault;

@@ -1,7 +1,8 @@
 //! The least point at which a diagram has a bit. One walk down suffices: in a reduced diagram an inner node takes both
 //! values, so the 0 branch is taken unless it is the other leaf, and nothing is searched.
 
-ghost use Rattle.std.specs.Prelude.{◌≡◌, ◌≢◌, ◌≤◌, true, false, if◌then◌else◌, ℕ, List, Bool, length, take, slice_index_or};
+ghost use Rattle.std.specs.Prelude.{◌≡◌, ◌≢◌, ◌≤◌, true, false, if◌then◌else◌, ℕ, List, Bool, length, take};
+ghost use Rattle.std.specs.Prelude.{slice_index_or};
 ghost use Rattle.bb_bits.specs.Truth.{truth_at};
 ghost use Rattle.bb_uniq.specs.Inside.Nodes.{IsRef};
 ghost use Rattle.bb_uniq.specs.Inside.Cofactors.{top_of};
@@ -19,7 +20,8 @@ pub fn least(d: &Diagrams, f: Ref, want: bool, fixed: usize, point: &mut [bool])
     requires point { length point.old ≡ d.now.store.vars }
     requires fixed { fixed ≤ length point.old }
     ensures found { result ≡ true → IsLeastPoint (truth_of d.now.store f.0) want fixed point.old point.new }
-    ensures none { result ≡ false → (q : List Bool) → BeginsAs fixed point.old q → truth_at (truth_of d.now.store f.0) q ≡ want → ⊥ }
+    ensures none { result ≡ false → (q : List Bool) → BeginsAs fixed point.old q
+        → truth_at (truth_of d.now.store f.0) q ≡ want → ⊥ }
     ensures kept { result ≡ false → point.new ≡ point.old }
 {
     truth::tables();
@@ -57,7 +59,8 @@ fn under(d: &Diagrams, f: Ref, fixed: usize, point: &[bool]) -> Ref
     requires fixed { fixed ≤ length point.now }
     ensures inside { IsRef d.now.store result.0 }
     ensures later { fixed ≤ top_of d.now.store result.0 }
-    ensures same { (q : List Bool) → BeginsAs fixed point.now q → truth_at (truth_of d.now.store f.0) q ≡ truth_at (truth_of d.now.store result.0) q }
+    ensures same { (q : List Bool) → BeginsAs fixed point.now q
+        → truth_at (truth_of d.now.store f.0) q ≡ truth_at (truth_of d.now.store result.0) q }
 {
     truth::tables();
     laws::stores();

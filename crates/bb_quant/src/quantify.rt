@@ -49,8 +49,11 @@ pub fn exists(d: &mut Diagrams, f: Ref, v: u32) -> Result<Ref, DdFault>
 fn join(d: &mut Diagrams, all: bool, f: Ref, g: Ref) -> Result<Ref, DdFault>
     requires f { IsRef d.old.store f.0 }
     requires g { IsRef d.old.store g.0 }
-    ensures ok { IfOk result (λ r. Adds d.old.store d.new.store (joined_tables (quantifier all) (truth_of d.old.store f.0) (truth_of d.old.store g.0)) r.0) }
-    ensures full { IsErrOf result DdFault.Full → IsTooMany d.old.store (joined_tables (quantifier all) (truth_of d.old.store f.0) (truth_of d.old.store g.0)) }
+    ensures ok { IfOk result (λ r. Adds d.old.store d.new.store
+        (joined_tables (quantifier all) (truth_of d.old.store f.0) (truth_of d.old.store g.0)) r.0) }
+    ensures full { IsErrOf result DdFault.Full
+        → IsTooMany d.old.store (joined_tables (quantifier all) (truth_of d.old.store f.0)
+        (truth_of d.old.store g.0)) }
     ensures kept { Keeps d.old.store d.new.store }
     ensures capacity { d.new.capacity ≡ d.old.capacity }
 {
@@ -63,8 +66,10 @@ fn join(d: &mut Diagrams, all: bool, f: Ref, g: Ref) -> Result<Ref, DdFault>
 fn quantify(d: &mut Diagrams, all: bool, f: Ref, v: u32) -> Result<Ref, DdFault>
     requires f { IsRef d.old.store f.0 }
     requires v { v < d.old.store.vars }
-    ensures ok { IfOk result (λ r. Adds d.old.store d.new.store (quantified (quantifier all) v (truth_of d.old.store f.0)) r.0) }
-    ensures full { IsErrOf result DdFault.Full → IsTooMany d.old.store (quantified (quantifier all) v (truth_of d.old.store f.0)) }
+    ensures ok { IfOk result (λ r.
+        Adds d.old.store d.new.store (quantified (quantifier all) v (truth_of d.old.store f.0)) r.0) }
+    ensures full { IsErrOf result DdFault.Full
+        → IsTooMany d.old.store (quantified (quantifier all) v (truth_of d.old.store f.0)) }
     ensures kept { Keeps d.old.store d.new.store }
     ensures capacity { d.new.capacity ≡ d.old.capacity }
 {
@@ -104,8 +109,10 @@ fn quantify_node(
     requires v { v < d.old.store.vars }
     requires node { view_of d.old.store f.0 ≡ seen.Node var lo hi }
     requires no_later { var ≤ v }
-    ensures ok { IfOk result (λ r. Adds d.old.store d.new.store (quantified (quantifier all) v (truth_of d.old.store f.0)) r.0) }
-    ensures full { IsErrOf result DdFault.Full → IsTooMany d.old.store (quantified (quantifier all) v (truth_of d.old.store f.0)) }
+    ensures ok { IfOk result (λ r.
+        Adds d.old.store d.new.store (quantified (quantifier all) v (truth_of d.old.store f.0)) r.0) }
+    ensures full { IsErrOf result DdFault.Full
+        → IsTooMany d.old.store (quantified (quantifier all) v (truth_of d.old.store f.0)) }
     ensures kept { Keeps d.old.store d.new.store }
     ensures capacity { d.new.capacity ≡ d.old.capacity }
 {

@@ -3,7 +3,7 @@ use Rattle.std.proofs.Common.{◌≡◌, ◌≢◌, ◌∙◌, ◌⊎◌, inl, i
 use Rattle.std.proofs.lemmas.List.{map-append}
 use Rattle.std.proofs.lemmas.List.Elements.{All-contains, Contains-append_cases, Contains-append_left}
 use Rattle.bb_bits.specs.Tables.{TableBits}
-use Rattle.bb_net.specs.CutPoints.{register_texts}
+use Rattle.bb_net.specs.CutPoints.{state_texts}
 use Rattle.bb_net.specs.Flats.{FlatNet, HaveClocks}
 use Rattle.bb_fill.specs.Words.{NetWord, Bit, Named, CellNet, ChoiceNet, stem_of}
 use Rattle.bb_fill.specs.Lines.{Line, Module, Input, Output, Reg, Gate, Assign, Always, End}
@@ -103,7 +103,7 @@ module _ (f : FlatNet) (tables : List TableBits) (ready : IsReady f tables) wher
         by : Contains (map Named f.ins) word ⊎ Contains (flat_map driven lines) word → IsNet word × IsWordOf f word
         by (inl input) =
             let n = from_map Named f.ins word input in
-            let text = Contains-append_left (f.ins ++ register_texts f) f.outs n.0 (Contains-append_left f.ins (register_texts f) n.0 n.1) in
+            let text = Contains-append_left (f.ins ++ state_texts f) f.outs n.0 (Contains-append_left f.ins (state_texts f) n.0 n.1) in
             (subst IsNet n.2 tt, subst (IsWordOf f) n.2 text)
         by (inr there) =
             let line = from_flat driven lines word there in

@@ -9,7 +9,7 @@ use Rattle.bb_bits.specs.Earlier.{has_name}
 use Rattle.bb_bits.specs.Tables.{TableBits}
 use Rattle.bb_expr.specs.Cells.{MadeTerms}
 use Rattle.bb_net.specs.declared.flat.Reg.{Reg as NetRegister}
-use Rattle.bb_net.specs.CutPoints.{register_texts}
+use Rattle.bb_net.specs.CutPoints.{state_texts}
 use Rattle.bb_net.specs.Flats.{FlatNet}
 use Rattle.bb_fill.specs.Words.{NetWord, Named, stem_of, word_at}
 use Rattle.bb_fill.specs.Lines.{Line, Primitive, Not, And, Or, Xor, Buf, Module, Input, Output, Reg, Gate, Assign, Always, End}
@@ -59,7 +59,7 @@ registers_make_none f k [] = All-nil MakesNone
 registers_make_none f k (r ∷ rs) = All-cons MakesNone (register_line f k r) (register_lines f (k + 1) rs) refl (registers_make_none f (k + 1) rs)
 
 output_makes_none : (f : FlatNet) (o : ℕ) → All MakesNone (output_lines f o)
-output_makes_none f o = by (has_name (output_text f o) (register_texts f))
+output_makes_none f o = by (has_name (output_text f o) (state_texts f))
   where
     copy : Line
     copy = Gate Buf (Named (output_text f o)) (word_at f (slice_index f.net.outs o) ∷ [])

@@ -6,7 +6,7 @@ use Rattle.bb_bits.specs.Names.{same_name}
 use Rattle.bb_ast.specs.Syntax.{PlainModule}
 use Rattle.bb_names.specs.Declarations.{Declaration, is_port}
 use Rattle.bb_names.specs.Faults.{clashes}
-use Rattle.bb_net.specs.CutPoints.{register_texts}
+use Rattle.bb_net.specs.CutPoints.{state_texts}
 use Rattle.bb_net.specs.Flats.{HasDistinctNames, FlatNet}
 use Rattle.bb_fill.specs.Clashes.{AreInputsApart}
 use Rattle.bb_lemmas.proofs.Members.{either, from_map}
@@ -21,10 +21,10 @@ pub record AreOthers (f : FlatNet) : Type 0 where
 
 module _ (f : FlatNet) (others : AreOthers f) where
   pub no_output : (n : List ℕ) → Contains f.ins n → Contains f.outs n → ⊥
-  no_output n has = (All-contains (λ t. (Contains (register_texts f) t → ⊥) × (Contains f.outs t → ⊥)) f.ins n others.inputs has).1
+  no_output n has = (All-contains (λ t. (Contains (state_texts f) t → ⊥) × (Contains f.outs t → ⊥)) f.ins n others.inputs has).1
 
-  pub no_register : (n : List ℕ) → Contains f.ins n → Contains (register_texts f) n → ⊥
-  no_register n has = (All-contains (λ t. (Contains (register_texts f) t → ⊥) × (Contains f.outs t → ⊥)) f.ins n others.inputs has).0
+  pub no_register : (n : List ℕ) → Contains f.ins n → Contains (state_texts f) n → ⊥
+  no_register n has = (All-contains (λ t. (Contains (state_texts f) t → ⊥) × (Contains f.outs t → ⊥)) f.ins n others.inputs has).0
 
 pub names_differ : (a b : List ℕ) → a ≢ b → same_name a b ≡ false
 names_differ a b differ = by (either (same_name a b))
@@ -54,7 +54,7 @@ module _ (m : PlainModule) where
     input_then_output a b input output =
         other_names (said_of_input a) (said_of_output b) (λ same. no_output f others b (subst (Contains f.ins) same input) output)
 
-    input_then_register : (a b : List ℕ) → Contains f.ins a → Contains (register_texts f) b → NoClash (said_of_input a) (said_of_register b)
+    input_then_register : (a b : List ℕ) → Contains f.ins a → Contains (state_texts f) b → NoClash (said_of_input a) (said_of_register b)
     input_then_register a b input register =
         other_names (said_of_input a) (said_of_register b) (λ same. no_register f others b (subst (Contains f.ins) same input) register)
 
@@ -68,11 +68,11 @@ module _ (m : PlainModule) where
         → NoClash d e
     port_then_register d e (inl here) there =
         let a = from_map said_of_input f.ins d here in
-        let b = from_map said_of_register (register_texts f) e there in
+        let b = from_map said_of_register (state_texts f) e there in
         subst₂ NoClash a.2 b.2 (input_then_register a.0 b.0 a.1 b.1)
     port_then_register d e (inr here) there =
         let a = from_map said_of_output f.outs d here in
-        let b = from_map said_of_register (register_texts f) e there in
+        let b = from_map said_of_register (state_texts f) e there in
         subst₂ NoClash a.2 b.2 (output_then_register a.0 b.0)
 
     -- declarations of one sort
@@ -86,5 +86,5 @@ module _ (m : PlainModule) where
         pairs_both NoClash (inputs_said f ++ outputs_said f) (registers_said f)
         (pairs_both NoClash (inputs_said f) (outputs_said f)
         (one_sort said_of_input (λ n. refl) f.ins others.apart.ins) (one_sort said_of_output (λ n. refl) f.outs others.apart.outs) port_then_port)
-        (one_sort said_of_register (λ n. refl) (register_texts f) others.apart.regs)
+        (one_sort said_of_register (λ n. refl) (state_texts f) others.apart.regs)
         (λ d e here there. port_then_register d e (Contains-append_cases (inputs_said f) (outputs_said f) d here) there)

@@ -6,7 +6,7 @@ use Rattle.std.proofs.lemmas.Option.{slice_get-get_or, slice_get-map, slice_get_
 use Rattle.bb_bits.specs.Tables.{TableBits}
 use Rattle.bb_net.specs.declared.flat.Reg.{Reg as Register}
 use Rattle.bb_net.specs.Equivalence.{out_bit}
-use Rattle.bb_net.specs.CutPoints.{CutOutput, cut_inputs, NextState, TopOutput, cut_outputs, register_texts}
+use Rattle.bb_net.specs.CutPoints.{CutOutput, cut_inputs, NextState, TopOutput, cut_outputs, state_texts}
 use Rattle.bb_net.specs.Flats.{AreNamed, FlatNet}
 use Rattle.bb_net.specs.Values.{bit_of, flat_with}
 use Rattle.bb_design.specs.Worlds.{Vector}
@@ -23,14 +23,14 @@ module _ (f : FlatNet) where
   tops = map TopOutput f.outs
 
   abbrev nexts : List CutOutput
-  nexts = map NextState (register_texts f)
+  nexts = map NextState (state_texts f)
 
   tops_count : length tops ≡ length f.outs
   tops_count = length-map f.outs TopOutput
 
   outputs_count : AreNamed f → length (cut_outputs f) ≡ length f.net.outs
   outputs_count named =
-      let registers_count = length-map (register_texts f) NextState ∙ length-map f.regs (λ (r : Register). r.text) in
+      let registers_count = length-map (state_texts f) NextState ∙ length-map f.regs (λ (r : Register). r.text) in
       length-append tops nexts ∙ ap₂ ◌+◌ tops_count registers_count ∙ sym named.outputs
 
   pub top_place : (k : ℕ) (n : List ℕ) → slice_get f.outs k ≡ Some n → slice_get (cut_outputs f) k ≡ Some (TopOutput n)
@@ -43,7 +43,7 @@ module _ (f : FlatNet) where
       → slice_get (cut_outputs f) (length f.outs + k) ≡ Some (NextState register.text)
   next_place k register at =
       let text = got-map (λ (r : Register). r.text) f.regs k register at in
-      next_after k ∙ got-map NextState (register_texts f) k register.text text
+      next_after k ∙ got-map NextState (state_texts f) k register.text text
 
   -- an output at a place is one of the top, or the next state of a register
 
@@ -55,7 +55,7 @@ module _ (f : FlatNet) where
 
   next_is_at : (j : ℕ) (o : CutOutput) → slice_get nexts j ≡ Some o → IsNextAt (length f.outs + j) o
   next_is_at j o at =
-      let text = mapped_there NextState (slice_get (register_texts f) j) o (sym (slice_get-map NextState (register_texts f) j) ∙ at) in
+      let text = mapped_there NextState (slice_get (state_texts f) j) o (sym (slice_get-map NextState (state_texts f) j) ∙ at) in
       let named = slice_get-map (λ (r : Register). r.text) f.regs j in
       let register = mapped_there (λ (r : Register). r.text) (slice_get f.regs j) text.0 (sym named ∙ text.1) in
       (j, register.0, register.1, ap NextState register.2 ∙ text.2, refl)

@@ -7,7 +7,7 @@ use Rattle.bb_bits.specs.Tables.{TableBits}
 use Rattle.bb_ast.specs.Syntax.{PlainModule}
 use Rattle.bb_names.specs.Declarations.{implicit_names, implicit_places, is_known}
 use Rattle.bb_net.specs.declared.flat.Reg.{Reg as Register}
-use Rattle.bb_net.specs.CutPoints.{register_texts}
+use Rattle.bb_net.specs.CutPoints.{state_texts}
 use Rattle.bb_net.specs.Flats.{FlatNet, HaveClocks}
 use Rattle.bb_fill.specs.Words.{NetWord, Bit, Named, CellNet, ChoiceNet, stem_of, texts_of}
 use Rattle.bb_fill.specs.Lines.{Line, End}
@@ -58,7 +58,7 @@ module _ (f : FlatNet) (tables : List TableBits) (ready : IsReady f tables) wher
         (apart_right (map Named f.ins) (flat_map driven lines) (nets f tables ready).0)
 
     no_register_driven : (word : NetWord) → Contains (flat_map driven (driving_lines f tables)) word
-        → Contains (map Named (register_texts f)) word → ⊥
+        → Contains (map Named (state_texts f)) word → ⊥
     no_register_driven word has register =
         let stored = subst (λ l. Contains l word) (sym (registers-driven f 0 f.regs)) register in
         let prefix = Contains-append_right (flat_map driven (declared_lines f)) (flat_map driven (driving_lines f tables)) word has in
@@ -117,10 +117,10 @@ module _ (f : FlatNet) (tables : List TableBits) (ready : IsReady f tables) wher
 
       pub driven_no_input : (n : List ℕ) → identifier (stem_of f) word ≡ Some n → Contains f.ins n → ⊥
       driven_no_input n e input =
-          let there = Contains-append_left (f.ins ++ register_texts f) f.outs n (Contains-append_left f.ins (register_texts f) n input) in
+          let there = Contains-append_left (f.ins ++ state_texts f) f.outs n (Contains-append_left f.ins (state_texts f) n input) in
           no_input_driven nets word drives (subst (Contains (map Named f.ins)) (is_named n e there) (contains-map Named f.ins n input))
 
-      pub driven_no_register : (n : List ℕ) → identifier (stem_of f) word ≡ Some n → Contains (register_texts f) n → ⊥
+      pub driven_no_register : (n : List ℕ) → identifier (stem_of f) word ≡ Some n → Contains (state_texts f) n → ⊥
       driven_no_register n e register =
-          let there = Contains-append_left (f.ins ++ register_texts f) f.outs n (Contains-append_right f.ins (register_texts f) n register) in
-          no_register_driven nets word drives (subst (Contains (map Named (register_texts f))) (is_named n e there) (contains-map Named (register_texts f) n register))
+          let there = Contains-append_left (f.ins ++ state_texts f) f.outs n (Contains-append_right f.ins (state_texts f) n register) in
+          no_register_driven nets word drives (subst (Contains (map Named (state_texts f))) (is_named n e there) (contains-map Named (state_texts f) n register))

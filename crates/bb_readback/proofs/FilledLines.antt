@@ -7,7 +7,7 @@ use Rattle.std.proofs.lemmas.List.{length-map, length-reverse, get_or_past, reve
 use Rattle.std.proofs.lemmas.List.Elements.{All-append, recursion_from_All, All-from_recursion}
 use Rattle.bb_bits.specs.Names.{IsPrintable}
 use Rattle.bb_bits.specs.Earlier.{has_name}
-use Rattle.bb_bits.specs.Tables.{TableBits, table_bit}
+use Rattle.bb_bits.specs.Tables.{TableBits, table_bit, column}
 use Rattle.bb_lemmas.proofs.Orders.{less_or_past}
 use Rattle.bb_lemmas.proofs.Places.{some_at, got}
 use Rattle.bb_lemmas.proofs.Ranges.{length-range}
@@ -18,10 +18,10 @@ use Rattle.bb_net.specs.declared.flat.Reg.{Reg as Register}
 use Rattle.bb_net.specs.Netlists.{Pins, ReadsBefore, cell_at, box_at}
 use Rattle.bb_net.specs.Values.{FitBoxes, table_at}
 use Rattle.bb_net.specs.Flats.{FlatNet, IsFlat, HaveClocks}
-use Rattle.bb_net.specs.CutPoints.{register_texts}
+use Rattle.bb_net.specs.CutPoints.{state_texts}
 use Rattle.bb_fill.specs.Words.{NetWord, Bit, Named, CellNet, ChoiceNet, cell_word, word_at}
 use Rattle.bb_fill.specs.Lines.{Line, Input, Output, Reg, Gate, Buf}
-use Rattle.bb_fill.specs.Trees.{column, halved, choice_nets, tree_lines, tree_values}
+use Rattle.bb_fill.specs.Trees.{halved, choice_nets, tree_lines, tree_values}
 use Rattle.bb_fill.specs.Filled.{pin_words, output_pin_words, first_choice, cell_lines, lines_of_cells, output_text, output_lines, register_lines}
 use Rattle.bb_readback.proofs.Classes.{all-append}
 use Rattle.bb_readback.proofs.LineFits.{IsGoodWord, AreGoodWords, IsGoodLine}
@@ -53,7 +53,7 @@ all-reverse P (x ∷ xs) all =
 -- the lines between the first and the last
 abbrev pub inner_lines : FlatNet → List TableBits → List Line
 inner_lines f tables =
-    map Input f.ins ++ map Output f.outs ++ map Reg (register_texts f) ++ lines_of_cells f tables
+    map Input f.ins ++ map Output f.outs ++ map Reg (state_texts f) ++ lines_of_cells f tables
     ++ flat_map (output_lines f) (range_with_len 0 (length f.outs)) ++ register_lines f 0 f.regs
 
 -- a line that is an item with good names
@@ -102,17 +102,17 @@ values_left (pin ∷ pins) number values is =
     values_left pins (number + length values / 2) (choice_nets number (length values / 2)) (length-choices number (length values / 2) ∙ half)
 
 module _ (f : FlatNet) (tables : List TableBits) (flat : IsFlat f) (fit : FitBoxes tables f.net.boxes) where
-  texts_printable : All IsPrintable (register_texts f)
+  texts_printable : All IsPrintable (state_texts f)
   texts_printable =
-      All-from_recursion IsPrintable (register_texts f) (all-map IsPrintable (λ (r : Register). r.text) f.regs
+      All-from_recursion IsPrintable (state_texts f) (all-map IsPrintable (λ (r : Register). r.text) f.regs
       (recursion_from_All (λ (r : Register). IsPrintable r.text) f.regs flat.printable.regs))
 
-  inputs_printable : All IsPrintable (f.ins ++ register_texts f)
-  inputs_printable = All-append IsPrintable f.ins (register_texts f) flat.printable.ins texts_printable
+  inputs_printable : All IsPrintable (f.ins ++ state_texts f)
+  inputs_printable = All-append IsPrintable f.ins (state_texts f) flat.printable.ins texts_printable
 
-  inputs_many : length (f.ins ++ register_texts f) ≡ f.net.inputs
+  inputs_many : length (f.ins ++ state_texts f) ≡ f.net.inputs
   inputs_many =
-      length-append f.ins (register_texts f) ∙ ap (λ n. length f.ins + n) (length-map f.regs (λ (r : Register). r.text)) ∙ sym flat.named.inputs
+      length-append f.ins (state_texts f) ∙ ap (λ n. length f.ins + n) (length-map f.regs (λ (r : Register). r.text)) ∙ sym flat.named.inputs
 
   cell_good : (number place : ℕ) (cell : Cell) → ReadsBefore f.net.inputs f.net.boxes place cell
       → IsGoodWord (cell_word f number cell)
@@ -184,7 +184,7 @@ module _ (f : FlatNet) (tables : List TableBits) (flat : IsFlat f) (fit : FitBox
 
   -- an output without a line, or with one
   output_inner : (o : ℕ) → o < length f.outs → AllByRecursion IsInner (output_lines f o)
-  output_inner o lt = by (has_name (output_text f o) (register_texts f))
+  output_inner o lt = by (has_name (output_text f o) (state_texts f))
     where
       by : (b : Bool)
           → AllByRecursion IsInner (if b then [] else Gate Buf (Named (output_text f o)) (word_at f (slice_index f.net.outs o) ∷ []) ∷ [])
@@ -227,11 +227,11 @@ module _ (f : FlatNet) (tables : List TableBits) (flat : IsFlat f) (fit : FitBox
   filled_inner clocks =
       let ins = declared_inner Input (λ name good. (tt, good)) f.ins flat.printable.ins in
       let outs = declared_inner Output (λ name good. (tt, good)) f.outs flat.printable.outs in
-      let regs = declared_inner Reg (λ name good. (tt, good)) (register_texts f) texts_printable in
+      let regs = declared_inner Reg (λ name good. (tt, good)) (state_texts f) texts_printable in
       all-append IsInner _ (register_lines f 0 f.regs)
       (all-append IsInner _ (flat_map (output_lines f) (range_with_len 0 (length f.outs)))
       (all-append IsInner _ (lines_of_cells f tables)
-      (all-append IsInner (map Input f.ins ++ map Output f.outs) (map Reg (register_texts f))
+      (all-append IsInner (map Input f.ins ++ map Output f.outs) (map Reg (state_texts f))
       (all-append IsInner (map Input f.ins) (map Output f.outs) ins outs) regs)
       cells_inner) outputs_inner) (registers_inner clocks)
 

@@ -2,7 +2,7 @@
 use Rattle.std.proofs.Common.{ℕ, List, ◌∷◌, [], ◌++◌, map, All, sym, subst}
 use Rattle.std.proofs.lemmas.List.Elements.{All-append, All-cons, All-map, All-nil, All-weaker}
 use Rattle.bb_bits.specs.Tables.{TableBits}
-use Rattle.bb_net.specs.CutPoints.{register_texts}
+use Rattle.bb_net.specs.CutPoints.{state_texts}
 use Rattle.bb_net.specs.Flats.{FlatNet}
 use Rattle.bb_fill.specs.Lines.{Line, Module, Input, Output, Reg, Gate, Assign, Always, End}
 use Rattle.bb_fill.specs.Filled.{filled_lines}
@@ -25,7 +25,7 @@ driving_formed (Reg name) driving = absurd driving
 driving_formed (Always falling clock name data_word) driving = absurd driving
 driving_formed End driving = absurd driving
 
-storing_formed : (f : FlatNet) (line : Line) → IsStoring (register_texts f) line → IsFormed line
+storing_formed : (f : FlatNet) (line : Line) → IsStoring (state_texts f) line → IsFormed line
 storing_formed f (Always falling clock name data_word) storing = tt
 storing_formed f (Gate primitive out ins) storing = absurd storing
 storing_formed f (Assign left condition high low) storing = absurd storing
@@ -45,12 +45,12 @@ pub declared_all : (P : Line → Type 0) (f : FlatNet) → P (Module (f.ins ++ f
 declared_all P f header input output register =
     let ports = All-append P (map Input f.ins) (map Output f.outs) (said_all P Input input f.ins) (said_all P Output output f.outs) in
     let prefix = All-cons P (Module (f.ins ++ f.outs)) (map Input f.ins ++ map Output f.outs) header ports in
-    All-append P (Module (f.ins ++ f.outs) ∷ map Input f.ins ++ map Output f.outs) (map Reg (register_texts f)) prefix (said_all P Reg register (register_texts f))
+    All-append P (Module (f.ins ++ f.outs) ∷ map Input f.ins ++ map Output f.outs) (map Reg (state_texts f)) prefix (said_all P Reg register (state_texts f))
 
 pub are_formed : (f : FlatNet) (tables : List TableBits) → IsReady f tables → All IsFormed (filled_lines f tables)
 are_formed f tables ready =
     let driving = All-weaker IsDriving IsFormed driving_formed (driving_lines f tables) (are_driving f tables ready) in
-    let storing = All-weaker (IsStoring (register_texts f)) IsFormed (storing_formed f) (storing_lines f) (are_storing f) in
+    let storing = All-weaker (IsStoring (state_texts f)) IsFormed (storing_formed f) (storing_lines f) (are_storing f) in
     let prefix = All-append IsFormed (declared_lines f) (driving_lines f tables) (declared_all IsFormed f tt (λ n. tt) (λ n. tt) (λ n. tt)) driving in
     let back = All-append IsFormed (storing_lines f) (End ∷ []) storing (All-cons IsFormed End [] tt (All-nil IsFormed)) in
     subst (All IsFormed) (sym (lines_are f tables)) (All-append IsFormed (declared_lines f ++ driving_lines f tables) (storing_lines f ++ End ∷ []) prefix back)

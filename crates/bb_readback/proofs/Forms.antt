@@ -6,17 +6,17 @@ use Rattle.std.proofs.lemmas.List.{get_or_past, length-map, length-reverse}
 use Rattle.std.proofs.lemmas.List.Elements.{All-append, All-cons, All-nil, All-push}
 use Rattle.std.proofs.lemmas.List.FromFn.{length-range_with_len}
 use Rattle.bb_bits.specs.Earlier.{has_name}
-use Rattle.bb_bits.specs.Tables.{TableBits, table_bit}
+use Rattle.bb_bits.specs.Tables.{TableBits, table_bit, column}
 use Rattle.bb_net.specs.declared.cell.Cell.{Cell}
 use Rattle.bb_net.specs.declared.cell.Cell.TheVariants as cells
 use Rattle.bb_net.specs.declared.flat.Reg.{Reg as Register}
-use Rattle.bb_net.specs.CutPoints.{register_texts}
+use Rattle.bb_net.specs.CutPoints.{state_texts}
 use Rattle.bb_net.specs.Flats.{FlatNet}
 use Rattle.bb_net.specs.Netlists.{Pins, box_at, cell_at}
 use Rattle.bb_net.specs.Values.{FitBoxes, table_at}
 use Rattle.bb_fill.specs.Words.{NetWord, Bit, Named, CellNet, ChoiceNet, word_at}
 use Rattle.bb_fill.specs.Lines.{Line, Primitive, Not, And, Or, Xor, Buf, Module, Input, Output, Reg, Gate, Assign, Always, End}
-use Rattle.bb_fill.specs.Trees.{choice_nets, column, halved, tree_lines, tree_values}
+use Rattle.bb_fill.specs.Trees.{choice_nets, halved, tree_lines, tree_values}
 use Rattle.bb_fill.specs.Filled.{cell_lines, filled_lines, first_choice, lines_of_cells, output_lines, output_text, output_pin_words, pin_words, register_lines}
 use Rattle.bb_fill.specs.Laws.{IsReady}
 use Rattle.bb_lemmas.proofs.Members.{contains-map, contains_here, contains_there}
@@ -25,7 +25,7 @@ use Rattle.bb_lemmas.proofs.Places.{only_one}
 
 -- the parts of the text
 abbrev pub declared_lines : FlatNet → List Line
-declared_lines f = Module (f.ins ++ f.outs) ∷ map Input f.ins ++ map Output f.outs ++ map Reg (register_texts f)
+declared_lines f = Module (f.ins ++ f.outs) ∷ map Input f.ins ++ map Output f.outs ++ map Reg (state_texts f)
 
 abbrev pub driving_lines : FlatNet → List TableBits → List Line
 driving_lines f tables = lines_of_cells f tables ++ flat_map (output_lines f) (range_with_len 0 (length f.outs))
@@ -135,7 +135,7 @@ module _ (f : FlatNet) (tables : List TableBits) (fit : FitBoxes tables f.net.bo
       All-push IsDriving (tree_lines pins first bits) (Gate Buf (CellNet k) (tree_values pins first bits)) (tree_driving pins first bits) (tt, pin_value k b p)
 
 output_driving : (f : FlatNet) (o : ℕ) → All IsDriving (output_lines f o)
-output_driving f o = by (has_name (output_text f o) (register_texts f))
+output_driving f o = by (has_name (output_text f o) (state_texts f))
   where
     copy : Line
     copy = Gate Buf (Named (output_text f o)) (word_at f (slice_index f.net.outs o) ∷ [])
@@ -166,5 +166,5 @@ registers_storing f texts k (r ∷ rs) there =
     All-cons (IsStoring texts) _ (register_lines f (k + 1) rs) (there r (contains_here r rs))
     (registers_storing f texts (k + 1) rs (λ q has. there q (contains_there r rs q has)))
 
-pub are_storing : (f : FlatNet) → All (IsStoring (register_texts f)) (storing_lines f)
-are_storing f = registers_storing f (register_texts f) 0 f.regs (λ r has. contains-map (λ (q : Register). q.text) f.regs r has)
+pub are_storing : (f : FlatNet) → All (IsStoring (state_texts f)) (storing_lines f)
+are_storing f = registers_storing f (state_texts f) 0 f.regs (λ r has. contains-map (λ (q : Register). q.text) f.regs r has)

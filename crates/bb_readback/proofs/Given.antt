@@ -5,7 +5,7 @@ use Rattle.std.proofs.lemmas.List.Elements.{All-contains}
 use Rattle.bb_bits.specs.Tables.{TableBits}
 use Rattle.bb_net.specs.declared.flat.Reg.{Reg as Register}
 use Rattle.bb_net.specs.Equivalence.{IsVector}
-use Rattle.bb_net.specs.CutPoints.{State, TopInput, cut_inputs, register_texts}
+use Rattle.bb_net.specs.CutPoints.{State, TopInput, cut_inputs, state_texts}
 use Rattle.bb_net.specs.Flats.{FlatNet}
 use Rattle.bb_net.specs.Values.{bit_of}
 use Rattle.bb_fill.specs.Words.{stem_of}
@@ -45,7 +45,7 @@ module _ (f : FlatNet) (tables : List TableBits) (ready : IsReady f tables) wher
         All-contains (λ b. bit_in w b ≡ x (TopInput (bit_text of_design b))) (top_inputs of_design) (bit_named n) has.inputs there
         ∙ ap (λ t. x (TopInput t)) (bit_text_is f tables ready n)
 
-    state_given : (n : List ℕ) → Contains (register_texts f) n → w [] n 0 ≡ x (State n)
+    state_given : (n : List ℕ) → Contains (state_texts f) n → w [] n 0 ≡ x (State n)
     state_given n text =
         let register = from_map (λ (r : Register). r.text) f.regs n text in
         let bit = λ (q : Register). (r : RegisterBit) × Contains (registers of_design) r × IsRegisterOf of_design f r q in
@@ -56,21 +56,21 @@ module _ (f : FlatNet) (tables : List TableBits) (ready : IsReady f tables) wher
         ∙ ap (λ t. x (State t)) named
 
     abbrev names : List (List ℕ)
-    names = f.ins ++ register_texts f
+    names = f.ins ++ state_texts f
 
     abbrev pub vector : List Bool
     vector = map x (cut_inputs f)
 
     vector_is : vector ≡ map (λ n. w [] n 0) names
     vector_is =
-        map-append x (map TopInput f.ins) (map State (register_texts f))
+        map-append x (map TopInput f.ins) (map State (state_texts f))
         ∙ ap₂ ◌++◌
         (map-twice TopInput x f.ins ∙ same_on (λ n. x (TopInput n)) (λ n. w [] n 0) f.ins (λ n input. sym (input_given n input)))
-        (map-twice State x (register_texts f) ∙ same_on (λ n. x (State n)) (λ n. w [] n 0) (register_texts f) (λ n text. sym (state_given n text)))
-        ∙ sym (map-append (λ n. w [] n 0) f.ins (register_texts f))
+        (map-twice State x (state_texts f) ∙ same_on (λ n. x (State n)) (λ n. w [] n 0) (state_texts f) (λ n text. sym (state_given n text)))
+        ∙ sym (map-append (λ n. w [] n 0) f.ins (state_texts f))
 
     names_count : length names ≡ f.net.inputs
-    names_count = length-append f.ins (register_texts f) ∙ ap (λ n. length f.ins + n) (length-map f.regs (λ (r : Register). r.text)) ∙ sym ready.flat.named.inputs
+    names_count = length-append f.ins (state_texts f) ∙ ap (λ n. length f.ins + n) (length-map f.regs (λ (r : Register). r.text)) ∙ sym ready.flat.named.inputs
 
     pub is_vector : IsVector f.net vector
     is_vector = ap length vector_is ∙ length-map names (λ n. w [] n 0) ∙ names_count

@@ -6,7 +6,7 @@ use Rattle.std.proofs.lemmas.List.Folds.{flat_map-map}
 use Rattle.bb_bits.specs.Tables.{TableBits}
 use Rattle.bb_ast.specs.Syntax.{PlainBody, PlainItem}
 use Rattle.bb_names.specs.Declarations.{Declaration, declared_by, declared_by_head}
-use Rattle.bb_net.specs.CutPoints.{register_texts}
+use Rattle.bb_net.specs.CutPoints.{state_texts}
 use Rattle.bb_net.specs.Flats.{FlatNet}
 use Rattle.bb_fill.specs.Words.{stem_of}
 use Rattle.bb_fill.specs.Lines.{Line, Module, Input, Output, Reg, Gate, Assign, Always, End}
@@ -79,8 +79,8 @@ declared_lines_say : (stem : List ℕ) (f : FlatNet) → flat_map (line_reports 
 declared_lines_say stem f =
     let inputs = each_single (line_reports stem) Input said_of_input (λ n. refl) f.ins in
     let outputs = each_single (line_reports stem) Output said_of_output (λ n. refl) f.outs in
-    let registers = each_single (line_reports stem) Reg said_of_register (λ n. refl) (register_texts f) in
-    flat_map-append (line_reports stem) (map Input f.ins ++ map Output f.outs) (map Reg (register_texts f))
+    let registers = each_single (line_reports stem) Reg said_of_register (λ n. refl) (state_texts f) in
+    flat_map-append (line_reports stem) (map Input f.ins ++ map Output f.outs) (map Reg (state_texts f))
     ∙ ap₂ ◌++◌ (flat_map-append (line_reports stem) (map Input f.ins) (map Output f.outs) ∙ ap₂ ◌++◌ inputs outputs) registers
 
 heads_say_none : (names : List (List ℕ)) → flat_map declared_by_head (map plain_head names) ≡ []
@@ -99,7 +99,7 @@ module _ (f : FlatNet) (tables : List TableBits) (ready : IsReady f tables) wher
   storing_none : flat_map reports (storing_lines f) ≡ []
   storing_none =
       flat_none reports (storing_lines f)
-      (All-weaker (IsStoring (register_texts f)) (λ line. reports line ≡ []) (storing_reports_none (stem_of f) (register_texts f)) (storing_lines f) (are_storing f))
+      (All-weaker (IsStoring (state_texts f)) (λ line. reports line ≡ []) (storing_reports_none (stem_of f) (state_texts f)) (storing_lines f) (are_storing f))
 
   lines_say : flat_map reports (filled_lines f tables) ≡ all_said f
   lines_say =

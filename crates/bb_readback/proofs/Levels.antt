@@ -8,7 +8,7 @@ use Rattle.std.proofs.lemmas.List.Sums.{fails_before_first, passes_at_first}
 use Rattle.std.specs.List.{position_or_len}
 use Rattle.bb_bits.specs.Tables.{TableBits}
 use Rattle.bb_ast.specs.Syntax.{PlainModule}
-use Rattle.bb_net.specs.CutPoints.{register_texts}
+use Rattle.bb_net.specs.CutPoints.{state_texts}
 use Rattle.bb_net.specs.Flats.{FlatNet, HaveClocks}
 use Rattle.bb_fill.specs.Words.{NetWord, Named, stem_of}
 use Rattle.bb_fill.specs.Lines.{Line, Module, Input, Output, Reg, Gate, Assign, Always, End}
@@ -80,7 +80,7 @@ module _ (f : FlatNet) (tables : List TableBits) (ready : IsReady f tables) wher
 
   -- inputs, registers, and then what the lines drive
   abbrev given_nets : List NetWord
-  given_nets = map Named (f.ins ++ register_texts f)
+  given_nets = map Named (f.ins ++ state_texts f)
 
   abbrev level : NetBit → ℕ
   level b = position_or_len (same_bit b) (map bit_of (given_nets ++ flat_map driven lines))
@@ -99,13 +99,13 @@ module _ (f : FlatNet) (tables : List TableBits) (ready : IsReady f tables) wher
       (apart : WordsAreApart) where
     -- what depends on other bits is no register
 
-    no_register : (word : NetWord) → IsDriven here (stem_of f) word → (n : List ℕ) → Contains (register_texts f) n → bit_of word ≡ bit_named n → ⊥
+    no_register : (word : NetWord) → IsDriven here (stem_of f) word → (n : List ℕ) → Contains (state_texts f) n → bit_of word ≡ bit_named n → ⊥
     no_register word drives n register same =
         let called = net_named (stem_of f) word drives.0 ∙ ap (λ (b : NetBit). Some b.net) same in
         absurd (true≢false (sym (register_is_reg here f (module_declares f tables ready) n register) ∙ (drives.1 n called).no_reg))
 
     made_no_register : (line : Line) → IsPlain here (stem_of f) line → (x : Drive) → Contains (drives_of (stem_of f) line) x → (c : NetBit)
-        → Contains (needed x.source) c → (n : List ℕ) → Contains (register_texts f) n → x.bit ≡ bit_named n → ⊥
+        → Contains (needed x.source) c → (n : List ℕ) → Contains (state_texts f) n → x.bit ≡ bit_named n → ⊥
     made_no_register (Gate primitive out ins) plain x has c need n register same =
         no_register out plain.0 n register (ap (λ (y : Drive). y.bit) (only_one_of _ x has) ∙ same)
     made_no_register (Assign left condition high low) plain x has c need n register same =
@@ -142,7 +142,7 @@ module _ (f : FlatNet) (tables : List TableBits) (ready : IsReady f tables) wher
             apart_append (map bit_of (map Named f.ins ++ flat_map driven before)) (map bit_of (flat_map driven (line ∷ after))) b
             (subst (AllPairs ◌≢◌) parts once) again afterwards
 
-        not_earlier : (b : NetBit) → Contains (map bit_of (driven line)) b → ((n : List ℕ) → Contains (register_texts f) n → b ≡ bit_named n → ⊥)
+        not_earlier : (b : NetBit) → Contains (map bit_of (driven line)) b → ((n : List ℕ) → Contains (state_texts f) n → b ≡ bit_named n → ⊥)
             → Contains (map bit_of earlier) b → ⊥
         not_earlier b here other has =
             let word = from_map bit_of earlier b has in
@@ -153,15 +153,15 @@ module _ (f : FlatNet) (tables : List TableBits) (ready : IsReady f tables) wher
                 not_again b here (subst (Contains (map bit_of (map Named f.ins ++ flat_map driven before))) same
                 (contains-map bit_of (map Named f.ins ++ flat_map driven before) w there))
 
-            given : (w : NetWord) → bit_of w ≡ b → (n : List ℕ) → Named n ≡ w → Contains f.ins n ⊎ Contains (register_texts f) n → ⊥
+            given : (w : NetWord) → bit_of w ≡ b → (n : List ℕ) → Named n ≡ w → Contains f.ins n ⊎ Contains (state_texts f) n → ⊥
             given w same n is (inl input) =
                 again w same (Contains-append_left (map Named f.ins) (flat_map driven before) w (subst (Contains (map Named f.ins)) is (contains-map Named f.ins n input)))
             given w same n is (inr register) = other n register (sym same ∙ sym (ap bit_of is))
 
             by : (w : NetWord) → bit_of w ≡ b → Contains given_nets w ⊎ Contains (flat_map driven before) w → ⊥
             by w same (inl there) =
-                let n = from_map Named (f.ins ++ register_texts f) w there in
-                given w same n.0 n.2 (Contains-append_cases f.ins (register_texts f) n.0 n.1)
+                let n = from_map Named (f.ins ++ state_texts f) w there in
+                given w same n.0 n.2 (Contains-append_cases f.ins (state_texts f) n.0 n.1)
             by w same (inr there) = again w same (Contains-append_right (map Named f.ins) (flat_map driven before) w there)
 
         falls : (b c : NetBit) → Contains (map bit_of earlier) c → (Contains (map bit_of earlier) b → ⊥) → level c < level b

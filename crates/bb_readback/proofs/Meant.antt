@@ -7,7 +7,7 @@ use Rattle.bb_ast.specs.declared.module.Port.{Port}
 use Rattle.bb_ast.specs.Syntax.{PlainModule}
 use Rattle.bb_names.specs.declared.net.NetKind.TheVariants.{Reg}
 use Rattle.bb_names.specs.Declarations.{Declaration, declarations, net_declaration, port_declaration}
-use Rattle.bb_net.specs.CutPoints.{register_texts}
+use Rattle.bb_net.specs.CutPoints.{state_texts}
 use Rattle.bb_net.specs.Flats.{FlatNet}
 use Rattle.bb_readback.specs.Laws.Modules.{plain_head}
 use Rattle.bb_lemmas.proofs.Members.{contains-map, from_map}
@@ -32,7 +32,7 @@ abbrev pub outputs_said : FlatNet → List Declaration
 outputs_said f = map said_of_output f.outs
 
 abbrev pub registers_said : FlatNet → List Declaration
-registers_said f = map said_of_register (register_texts f)
+registers_said f = map said_of_register (state_texts f)
 
 abbrev pub all_said : FlatNet → List Declaration
 all_said f = inputs_said f ++ outputs_said f ++ registers_said f
@@ -46,7 +46,7 @@ pub record Declares (m : PlainModule) (f : FlatNet) : Type 0 where
 pub record HoldsOf (f : FlatNet) (P : Declaration → Type 0) : Type 0 where
   pub input : (n : List ℕ) → Contains f.ins n → P (said_of_input n)
   pub output : (n : List ℕ) → Contains f.outs n → P (said_of_output n)
-  pub register : (n : List ℕ) → Contains (register_texts f) n → P (said_of_register n)
+  pub register : (n : List ℕ) → Contains (state_texts f) n → P (said_of_register n)
 
 module _ (m : PlainModule) (f : FlatNet) (declares : Declares m f) where
   -- so it holds of each declaration
@@ -59,7 +59,7 @@ module _ (m : PlainModule) (f : FlatNet) (declares : Declares m f) where
 
       by : Contains (inputs_said f ++ outputs_said f) d ⊎ Contains (registers_said f) d → P d
       by (inl there) = port (Contains-append_cases (inputs_said f) (outputs_said f) d there)
-      by (inr there) = let n = from_map said_of_register (register_texts f) d there in subst P n.2 (holds.register n.0 n.1)
+      by (inr there) = let n = from_map said_of_register (state_texts f) d there in subst P n.2 (holds.register n.0 n.1)
 
   port_said : (d : Declaration) → Contains (inputs_said f ++ outputs_said f) d → Contains (declarations m) d
   port_said d has = subst (λ l. Contains l d) (sym declares.all) (Contains-append_left (inputs_said f ++ outputs_said f) (registers_said f) d has)
@@ -74,8 +74,8 @@ module _ (m : PlainModule) (f : FlatNet) (declares : Declares m f) where
       let d = said_of_output n in
       port_said d (Contains-append_right (inputs_said f) (outputs_said f) d (contains-map said_of_output f.outs n has))
 
-  pub register_said : (n : List ℕ) → Contains (register_texts f) n → Contains (declarations m) (said_of_register n)
+  pub register_said : (n : List ℕ) → Contains (state_texts f) n → Contains (declarations m) (said_of_register n)
   register_said n has =
       let d = said_of_register n in
-      let there = contains-map said_of_register (register_texts f) n has in
+      let there = contains-map said_of_register (state_texts f) n has in
       subst (λ l. Contains l d) (sym declares.all) (Contains-append_right (inputs_said f ++ outputs_said f) (registers_said f) d there)

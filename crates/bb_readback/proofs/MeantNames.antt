@@ -11,7 +11,7 @@ use Rattle.bb_names.specs.declared.net.NetKind.{NetKind}
 use Rattle.bb_names.specs.declared.net.NetKind.TheVariants.{Wire}
 use Rattle.bb_names.specs.Declarations.{Declaration, declarations, direction_of, is_declared, is_instance, is_port, kind_of, range_of}
 use Rattle.bb_names.specs.Faults.{is_input, is_input_port, is_reg, is_supply}
-use Rattle.bb_net.specs.CutPoints.{register_texts}
+use Rattle.bb_net.specs.CutPoints.{state_texts}
 use Rattle.bb_net.specs.Flats.{FlatNet}
 use Rattle.bb_readback.specs.Laws.Modules.{plain_head}
 use Rattle.bb_lemmas.proofs.Members.{contains-map, find_there}
@@ -69,7 +69,7 @@ module _ (m : PlainModule) (f : FlatNet) (declares : Declares m f) where
 
   -- a register is a reg, and no other name is
 
-  pub register_is_reg : (n : List ℕ) → Contains (register_texts f) n → is_reg (kind_of m n) ≡ true
+  pub register_is_reg : (n : List ℕ) → Contains (state_texts f) n → is_reg (kind_of m n) ≡ true
   register_is_reg n has =
       let first = find_there (has_kind n) (declarations m) (said_of_register n) (register_said m f declares n has) (ap (λ b. b && true) (same_self n)) in
       ap is_reg (kind_is n) ∙ ap (λ o. is_reg (found_kind o)) first.1
@@ -77,12 +77,12 @@ module _ (m : PlainModule) (f : FlatNet) (declares : Declares m f) where
       (record { input = λ k h some. absurd (true≢false (sym some)); output = λ k h some. absurd (true≢false (sym some)); register = λ k h some. refl })
       first.0 first.3 (and_both (same_name first.0.name n) (is_some first.0.kind) first.2).1
 
-  pub other_is_no_reg : (n : List ℕ) → (Contains (register_texts f) n → ⊥) → is_reg (kind_of m n) ≡ false
+  pub other_is_no_reg : (n : List ℕ) → (Contains (state_texts f) n → ⊥) → is_reg (kind_of m n) ≡ false
   other_is_no_reg n other =
       ap is_reg (kind_is n)
       ∙ find_gives (has_kind n) (λ o. is_reg (found_kind o) ≡ false) (declarations m) refl
       (λ d has passes. each_said m f declares (λ e. has_kind n e ≡ true → is_reg (unwrap_or e.kind Wire) ≡ false)
-      (record { input = λ k h p. refl; output = λ k h p. refl; register = λ k h p. absurd (other (same_is (register_texts f) k n true p h)) }) d has passes)
+      (record { input = λ k h p. refl; output = λ k h p. refl; register = λ k h p. absurd (other (same_is (state_texts f) k n true p h)) }) d has passes)
 
   -- an input and an output have a direction
 
@@ -129,13 +129,13 @@ module _ (m : PlainModule) (f : FlatNet) (declares : Declares m f) where
   declared_by_one : (n : List ℕ) (d : Declaration) → Contains (declarations m) d → same_name d.name n ≡ true → is_declared m n ≡ true
   declared_by_one n d has same = any_here (λ e. same_name e.name n) (declarations m) d has same
 
-  pub text_declared : (n : List ℕ) → Contains (f.ins ++ register_texts f ++ f.outs) n → is_declared m n ≡ true
-  text_declared n has = by (Contains-append_cases (f.ins ++ register_texts f) f.outs n has)
+  pub text_declared : (n : List ℕ) → Contains (f.ins ++ state_texts f ++ f.outs) n → is_declared m n ≡ true
+  text_declared n has = by (Contains-append_cases (f.ins ++ state_texts f) f.outs n has)
     where
-      prefix : Contains f.ins n ⊎ Contains (register_texts f) n → is_declared m n ≡ true
+      prefix : Contains f.ins n ⊎ Contains (state_texts f) n → is_declared m n ≡ true
       prefix (inl input) = declared_by_one n (said_of_input n) (input_said m f declares n input) (same_self n)
       prefix (inr register) = declared_by_one n (said_of_register n) (register_said m f declares n register) (same_self n)
 
-      by : Contains (f.ins ++ register_texts f) n ⊎ Contains f.outs n → is_declared m n ≡ true
-      by (inl there) = prefix (Contains-append_cases f.ins (register_texts f) n there)
+      by : Contains (f.ins ++ state_texts f) n ⊎ Contains f.outs n → is_declared m n ≡ true
+      by (inl there) = prefix (Contains-append_cases f.ins (state_texts f) n there)
       by (inr output) = declared_by_one n (said_of_output n) (output_said m f declares n output) (same_self n)

@@ -12,7 +12,7 @@ use Rattle.bb_names.specs.declared.net.NetInfo.{NetInfo}
 use Rattle.bb_names.specs.Declarations.{Declaration, declarations, implicit_names, implicit_places, is_declared}
 use Rattle.bb_names.specs.Nets.{net_names, net_of}
 use Rattle.bb_expr.specs.Laws.FitLaws.{NetNamesDiffer}
-use Rattle.bb_net.specs.CutPoints.{register_texts}
+use Rattle.bb_net.specs.CutPoints.{state_texts}
 use Rattle.bb_net.specs.Flats.{FlatNet, HaveClocks}
 use Rattle.bb_fill.specs.Words.{NetWord, Bit, Named, CellNet, ChoiceNet, stem_of}
 use Rattle.bb_fill.specs.Lines.{Line, Module, Input, Output, Reg, Gate, Assign, Always, End}
@@ -96,13 +96,13 @@ module _ (f : FlatNet) (tables : List TableBits) (ready : IsReady f tables) wher
   port_called : (n : List ℕ) → Contains (f.ins ++ f.outs) n → IsCalledHere n
   port_called n has =
       let header = Module (f.ins ++ f.outs) in
-      let rest = map Input f.ins ++ map Output f.outs ++ map Reg (register_texts f) in
+      let rest = map Input f.ins ++ map Output f.outs ++ map Reg (state_texts f) in
       of_line header n (declared_line header (contains_here header rest)) (Named n, contains-map Named (f.ins ++ f.outs) n has, refl)
 
-  register_called : (n : List ℕ) → Contains (register_texts f) n → IsCalledHere n
+  register_called : (n : List ℕ) → Contains (state_texts f) n → IsCalledHere n
   register_called n has =
       let prefix = Module (f.ins ++ f.outs) ∷ map Input f.ins ++ map Output f.outs in
-      let there = Contains-append_right prefix (map Reg (register_texts f)) (Reg n) (contains-map Reg (register_texts f) n has) in
+      let there = Contains-append_right prefix (map Reg (state_texts f)) (Reg n) (contains-map Reg (state_texts f) n has) in
       of_line (Reg n) n (declared_line (Reg n) there) (Named n, contains_here (Named n) [], refl)
 
   declared_called : (d : Declaration) → Contains (declarations here) d → IsCalledHere d.name

@@ -3,7 +3,7 @@ use Rattle.std.proofs.Common.{◌≡◌, ◌⊎◌, inl, inr, refl, List, [], �
 use Rattle.std.proofs.lemmas.List.Elements.{All-contains, Contains-append_cases}
 use Rattle.bb_bits.specs.Tables.{TableBits}
 use Rattle.bb_ast.specs.Syntax.{PlainModule}
-use Rattle.bb_net.specs.CutPoints.{register_texts}
+use Rattle.bb_net.specs.CutPoints.{state_texts}
 use Rattle.bb_net.specs.Flats.{FlatNet, HaveClocks}
 use Rattle.bb_fill.specs.Words.{NetWord, Named, stem_of}
 use Rattle.bb_fill.specs.Lines.{Line, Module, Input, Output, Reg, Gate, Assign, Always, End}
@@ -72,7 +72,7 @@ module _ (f : FlatNet) (tables : List TableBits) (ready : IsReady f tables) (clo
   driving_plain End has driving = absurd driving
 
   -- the lines of registers
-  storing_plain : (line : Line) → Contains lines line → IsStoring (register_texts f) line → IsPlainLine line
+  storing_plain : (line : Line) → Contains lines line → IsStoring (state_texts f) line → IsPlainLine line
   storing_plain (Always falling clock name data_word) has storing =
       let line = Always falling clock name data_word in (
         known line has (Named clock) (0, omega arith, refl) clock refl,
@@ -90,7 +90,7 @@ module _ (f : FlatNet) (tables : List TableBits) (ready : IsReady f tables) (clo
 
   -- nothing is asked of the header and the declarations
   declared_plain : (line : Line) → Contains (declared_lines f) line → IsPlainLine line
-  declared_plain line has = by (Contains-append_cases (Module (f.ins ++ f.outs) ∷ map Input f.ins ++ map Output f.outs) (map Reg (register_texts f)) line has)
+  declared_plain line has = by (Contains-append_cases (Module (f.ins ++ f.outs) ∷ map Input f.ins ++ map Output f.outs) (map Reg (state_texts f)) line has)
     where
       port : Contains (map Input f.ins) line ⊎ Contains (map Output f.outs) line → IsPlainLine line
       port (inl there) = let n = from_map Input f.ins line there in subst IsPlainLine n.2 tt
@@ -100,10 +100,10 @@ module _ (f : FlatNet) (tables : List TableBits) (ready : IsReady f tables) (clo
       prefix (inl same) = subst IsPlainLine same tt
       prefix (inr there) = port (Contains-append_cases (map Input f.ins) (map Output f.outs) line there)
 
-      by : Contains (Module (f.ins ++ f.outs) ∷ map Input f.ins ++ map Output f.outs) line ⊎ Contains (map Reg (register_texts f)) line
+      by : Contains (Module (f.ins ++ f.outs) ∷ map Input f.ins ++ map Output f.outs) line ⊎ Contains (map Reg (state_texts f)) line
           → IsPlainLine line
       by (inl there) = prefix (contains_cases (Module (f.ins ++ f.outs)) (map Input f.ins ++ map Output f.outs) line there)
-      by (inr there) = let n = from_map Reg (register_texts f) line there in subst IsPlainLine n.2 tt
+      by (inr there) = let n = from_map Reg (state_texts f) line there in subst IsPlainLine n.2 tt
 
   pub line_plain : (line : Line) → Contains lines line → IsPlainLine line
   line_plain line has =
@@ -118,7 +118,7 @@ module _ (f : FlatNet) (tables : List TableBits) (ready : IsReady f tables) (clo
       last (inr more) = absurd (none_in_nil line more)
 
       back : Contains (storing_lines f) line ⊎ Contains (End ∷ []) line → IsPlainLine line
-      back (inl there) = storing_plain line has (All-contains (IsStoring (register_texts f)) (storing_lines f) line (are_storing f) there)
+      back (inl there) = storing_plain line has (All-contains (IsStoring (state_texts f)) (storing_lines f) line (are_storing f) there)
       back (inr there) = last (contains_cases End [] line there)
 
       by : Contains (declared_lines f ++ driving_lines f tables) line ⊎ Contains (storing_lines f ++ End ∷ []) line → IsPlainLine line

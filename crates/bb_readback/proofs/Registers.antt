@@ -9,7 +9,7 @@ use Rattle.bb_bits.specs.Tables.{TableBits}
 use Rattle.bb_expr.specs.Laws.FitLaws.{NetNamesDiffer}
 use Rattle.bb_names.specs.Nets.{net_names}
 use Rattle.bb_net.specs.declared.flat.Reg.{Reg as Register}
-use Rattle.bb_net.specs.CutPoints.{clock_text, register_texts}
+use Rattle.bb_net.specs.CutPoints.{clock_text, state_texts}
 use Rattle.bb_net.specs.Flats.{FlatNet, HaveClocks}
 use Rattle.bb_fill.specs.Words.{Named, stem_of}
 use Rattle.bb_fill.specs.Lines.{Line, Module, Input, Output, Reg, Gate, Assign, Always, End}
@@ -155,15 +155,15 @@ module _ (f : FlatNet) (tables : List TableBits) (ready : IsReady f tables) wher
 
         -- so they are at most as many as those of the netlist
 
-        text_there : (t : List ℕ) → Contains (refusals.register_texts design) t → Contains (register_texts f) t
+        text_there : (t : List ℕ) → Contains (refusals.register_texts design) t → Contains (state_texts f) t
         text_there t has =
             let r = from_map text (registers design) t has in
             let register = All-contains IsNamed (registers design) r.0 registers_named r.1 in
-            subst (Contains (register_texts f)) (sym register.2.text ∙ r.2) (contains-map (λ (q : Register). q.text) f.regs register.0 register.1)
+            subst (Contains (state_texts f)) (sym register.2.text ∙ r.2) (contains-map (λ (q : Register). q.text) f.regs register.0 register.1)
 
         pub registers_are_few : length (registers design) ≤ length f.regs
         registers_are_few =
-            let few = at_most_as_many (refusals.register_texts design) (register_texts f) registers_apart text_there in
+            let few = at_most_as_many (refusals.register_texts design) (state_texts f) registers_apart text_there in
             omega (arith, few, length-map (registers design) text, length-map f.regs (λ (q : Register). q.text))
 
       -- each register of the netlist is one
@@ -201,9 +201,9 @@ module _ (f : FlatNet) (tables : List TableBits) (ready : IsReady f tables) wher
         pub registers_are_as_many : NetNamesDiffer → length (registers design) ≡ length f.regs
         registers_are_as_many differ =
             let named = λ (q : Register). (r : RegisterBit) × Contains (registers design) r × IsRegisterOf design f r q in
-            let among = λ (t : List ℕ) (has : Contains (register_texts f) t).
+            let among = λ (t : List ℕ) (has : Contains (state_texts f) t).
             let register = from_map (λ (q : Register). q.text) f.regs t has in
             let r = All-contains named f.regs register.0 registers_all register.1 in
             subst (Contains (refusals.register_texts design)) (r.2.text ∙ register.2) (contains-map (λ (q : RegisterBit). bit_text design q.bit) (registers design) r.0 r.1) in
-            let many = at_most_as_many (register_texts f) (refusals.register_texts design) ready.flat.apart.regs among in
+            let many = at_most_as_many (state_texts f) (refusals.register_texts design) ready.flat.apart.regs among in
             omega (arith, many, registers_are_few differ, length-map (registers design) (λ (q : RegisterBit). bit_text design q.bit), length-map f.regs (λ (q : Register). q.text))

@@ -1,7 +1,8 @@
 //! Laws of the filled module as a design. Each function has a law as its contract and does nothing. The design is never
 //! refused by these laws, so the program has no branch for a filled text that is refused.
 
-ghost use Rattle.bb_readback.specs.Laws.{FilledDesignsAreNamedTheSame, FilledDesignsAreCounted, FilledDesignsAreSound, FilledDesignsHaveBits};
+ghost use Rattle.bb_readback.specs.Laws.{FilledDesignsAreNamedTheSame, FilledDesignsAreCounted, FilledDesignsAreSound};
+ghost use Rattle.bb_readback.specs.Laws.{FilledDesignsHaveBits};
 ghost use Rattle.bb_readback.specs.Laws.{FilledModulesAreSound, FilledModulesAreTops, FilledTextsAreRead};
 
 use bb_design::laws::{laws_of_designs, sound_bits_are_there};

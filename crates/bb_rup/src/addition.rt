@@ -3,7 +3,8 @@
 //! clause follows for every clause, up to the first literal that the clause has itself, and there the clause that
 //! implies it is false, so the addition follows.
 
-ghost use Rattle.std.specs.Prelude.{◌≡◌, ◌+◌, ◌<◌, ◌≤◌, ◌++◌, [], true, false, length, take, slice_get, Some, All, IfOk, OnOk};
+ghost use Rattle.std.specs.Prelude.{◌≡◌, ◌+◌, ◌<◌, ◌≤◌, ◌++◌, [], true, false, length, take, slice_get, Some, All};
+ghost use Rattle.std.specs.Prelude.{IfOk, OnOk};
 ghost use Rattle.bb_cnf.specs.Clauses.{lists_of};
 ghost use Rattle.bb_rup.specs.Propagation.{Follows, Stays};
 ghost use Rattle.bb_rup.specs.Inside.Trails.{marked_by, IsTrail, IsReached, HasMarks, HaveMarks};

@@ -3,13 +3,15 @@
 //! against the function. Deletions are read and passed over: what follows from fewer clauses follows from more, so a
 //! deleted clause may still be used.
 
-ghost use Rattle.std.specs.Prelude.{◌≡◌, ◌⊎◌, ◌≤◌, List, [], ◌∷◌, ◌++◌, length, Some, None, Ok, Err, IfSome, IfOk, IfErr, OnOk};
+ghost use Rattle.std.specs.Prelude.{◌≡◌, ◌⊎◌, ◌≤◌, List, [], ◌∷◌, ◌++◌, length, Some, None, Ok, Err, IfSome, IfOk};
+ghost use Rattle.std.specs.Prelude.{IfErr, OnOk};
 ghost use Rattle.bb_cnf.specs.declared.clauses.Lit.{Lit};
 ghost use Rattle.bb_cnf.specs.Clauses.{HasVariablesWithin, lists_of};
 ghost use Rattle.bb_rup.specs.declared.fault.RupFault.TheVariants.{Header as HeaderFault, NoMemory};
 ghost use Rattle.bb_rup.specs.TextWords.{words_of};
 ghost use Rattle.bb_rup.specs.Dimacs.{is_end, is_mark, header_of, first_line, clauses_of, dimacs_of, additions_of};
-ghost use Rattle.bb_rup.specs.Inside.Ahead.{seen, words_at, words_with, IsCounted, literals_to_end, prepended, header_seen, IsFaultOf};
+ghost use Rattle.bb_rup.specs.Inside.Ahead.{seen, words_at, words_with, IsCounted, literals_to_end, prepended};
+ghost use Rattle.bb_rup.specs.Inside.Ahead.{header_seen, IsFaultOf};
 
 use crate::fault::RupFault;
 use crate::numerals::{literal, size};
@@ -86,7 +88,8 @@ fn literals<'a>(
         ≡ Ok (into.new.items, words_at place)) }
     ensures counted { IfOk result (λ place. IsCounted place) }
     ensures left { IfOk result (λ place. length place.rest.now ≤ length first.entry.after.rest.now) }
-    ensures err { IfErr result (λ fault. IsFaultOf (literals_to_end vars into.old.items (words_with first.entry)) fault) }
+    ensures err { IfErr result (λ fault.
+        IsFaultOf (literals_to_end vars into.old.items (words_with first.entry)) fault) }
 {
     let mut found = first;
     'words: loop {
@@ -145,7 +148,8 @@ fn entry<'a>(
     into: &mut Vec<SmallVec<Lit, 4>>,
 ) -> Result<Place<'a>, RupFault>
     requires { IsCounted first.after }
-    ensures ok { IfOk result (λ place. prepended (lists_of into.old.items) (clauses_of deletions vars (words_with first.entry))
+    ensures ok { IfOk result (λ place. prepended (lists_of into.old.items) (clauses_of deletions vars
+        (words_with first.entry))
         ≡ prepended (lists_of into.new.items) (clauses_of deletions vars (words_at place))) }
     ensures counted { IfOk result (λ place. IsCounted place) }
     ensures left { IfOk result (λ place. length place.rest.now ≤ length first.entry.after.rest.now) }

@@ -84,7 +84,8 @@ pub fn rup(alloc: Global, cnf: &Cnf, adds: &[SmallVec<Lit, 4>]) -> Result<RupAns
     requires within { HasVariablesWithin cnf.now.vars (lists_of adds.now) }
     requires few { length adds.now < 4294967295 }
     ensures yes { IfOk result (λ a. (a ≡ answers.Yes) ↔ Succeed cnf.now.clauses (lists_of adds.now)) }
-    ensures no { IfOk result (λ a. (n : ℕ) → (a ≡ answers.No n) ↔ IsFirstWithout cnf.now.clauses (lists_of adds.now) n) }
+    ensures no { IfOk result (λ a.
+        (n : ℕ) → (a ≡ answers.No n) ↔ IsFirstWithout cnf.now.clauses (lists_of adds.now) n) }
     ensures none { IfOk result (λ a. a ≡ answers.Yes → HaveNoModel cnf.now.clauses) }
 {
     let mut trail = none_false(alloc, cnf.vars)?;

@@ -1,7 +1,8 @@
 //! The trail: the false literals in the order in which they became so, and a mark for each. Literals of the prefix are
 //! false whatever the addition, and stay; the others are taken back after each addition.
 
-ghost use Rattle.std.specs.Prelude.{◌≡◌, ◌-◌, ◌+◌, ◌*◌, ◌<◌, ◌≤◌, ◌++◌, ◌∷◌, [], true, false, length, take, set, All, IfOk, OnOk};
+ghost use Rattle.std.specs.Prelude.{◌≡◌, ◌-◌, ◌+◌, ◌*◌, ◌<◌, ◌≤◌, ◌++◌, ◌∷◌, [], true, false, length, take, set, All};
+ghost use Rattle.std.specs.Prelude.{IfOk, OnOk};
 ghost use Rattle.bb_cnf.specs.Clauses.{literals_of, same_literal};
 ghost use Rattle.bb_rup.specs.Inside.Trails.{mark_place, marked_by, IsTrail, Makes, HasMarks};
 

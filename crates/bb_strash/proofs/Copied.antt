@@ -8,7 +8,7 @@ use Rattle.bb_net.specs.declared.cell.Cell.{Cell}
 use Rattle.bb_net.specs.declared.cell.Cell.TheVariants.{Const, Input, Not, And, Or, Xor, Mux, BoxOut}
 use Rattle.bb_net.specs.Netlists.{Netlist, IsNetlist, Pins, cell_at, ReadsBefore}
 use Rattle.bb_net.specs.Values.{xor}
-use Rattle.bb_subst.specs.Embeddings.{moved}
+use Rattle.bb_subst.specs.Embeddings.{renumbered}
 use Rattle.bb_strash.specs.Inside.Copies.{AreCopied}
 use Rattle.bb_strash.specs.Inside.Extensions.{bit, gate_bit, Extends, Gives}
 use Rattle.bb_strash.specs.Laws.{BitsAreGates, BitsStay}
@@ -17,7 +17,7 @@ use Rattle.bb_strash.proofs.BitLaws.{longer, no_pin}
 
 -- a cell that reads the new places of what it read
 gate_moved : (x : List Bool) (value old : ℕ → Bool) (at : ℕ → ℕ) (n m : ℕ) (boxes : List Pins) (c : Cell) → ReadsBefore n boxes m c → ((b p : ℕ) → c ≡ BoxOut b p → ⊥) → ((k : ℕ) → k < m → value (at k) ≡ old k)
-    → gate_bit x value (moved at c) ≡ gate_bit x old c
+    → gate_bit x value (renumbered at c) ≡ gate_bit x old c
 gate_moved x value old at n m boxes (Const b) reads none same = refl
 gate_moved x value old at n m boxes (Input i) reads none same = refl
 gate_moved x value old at n m boxes (Not a) reads none same = ap not (same a reads)
@@ -29,7 +29,7 @@ gate_moved x value old at n m boxes (Mux c t e) reads none same =
 gate_moved x value old at n m boxes (BoxOut b p) reads none same = absurd (none b p refl)
 
 -- it reads what is there
-pub moved_reads : (at : ℕ → ℕ) (n more m long : ℕ) (boxes : List Pins) (c : Cell) → n ≡ more → ReadsBefore n boxes m c → ((b p : ℕ) → c ≡ BoxOut b p → ⊥) → ((k : ℕ) → k < m → at k < long) → ReadsBefore more [] long (moved at c)
+pub moved_reads : (at : ℕ → ℕ) (n more m long : ℕ) (boxes : List Pins) (c : Cell) → n ≡ more → ReadsBefore n boxes m c → ((b p : ℕ) → c ≡ BoxOut b p → ⊥) → ((k : ℕ) → k < m → at k < long) → ReadsBefore more [] long (renumbered at c)
 moved_reads at n more m long boxes (Const b) is reads none there = tt
 moved_reads at n more m long boxes (Input i) is reads none there = omega (arith, reads, is)
 moved_reads at n more m long boxes (Not a) is reads none there = there a reads
@@ -39,7 +39,7 @@ moved_reads at n more m long boxes (Xor a b) is reads none there = (there a read
 moved_reads at n more m long boxes (Mux c t e) is reads none there = (there c reads.0, there t reads.1, there e reads.2)
 moved_reads at n more m long boxes (BoxOut b p) is reads none there = absurd (none b p refl)
 
-pub moved_pin : (at : ℕ → ℕ) (c : Cell) → ((b p : ℕ) → c ≡ BoxOut b p → ⊥) → (b p : ℕ) → moved at c ≡ BoxOut b p → ⊥
+pub moved_pin : (at : ℕ → ℕ) (c : Cell) → ((b p : ℕ) → c ≡ BoxOut b p → ⊥) → (b p : ℕ) → renumbered at c ≡ BoxOut b p → ⊥
 moved_pin at (Const b) none d p is = absurd (cc is)
 moved_pin at (Input i) none d p is = absurd (cc is)
 moved_pin at (Not a) none d p is = absurd (cc is)
@@ -64,7 +64,7 @@ module _ (gates : BitsAreGates) (stay : BitsStay) (source : Netlist) (kept : IsN
 
   -- one cell more is copied
   pub copied_next : (old new : Netlist) (most k place : ℕ) (places : List ℕ) → k < length source.cells → Extends old new most → AreCopied source k old places
-      → Gives new place (λ x. gate_bit x (bit old x) (moved (slice_index places) (cell_at source.cells k))) → AreCopied source (k + 1) new (places ++ place ∷ [])
+      → Gives new place (λ x. gate_bit x (bit old x) (renumbered (slice_index places) (cell_at source.cells k))) → AreCopied source (k + 1) new (places ++ place ∷ [])
   copied_next old new most k place places lt e so gives = record {
     long = length-append places (place ∷ []) ∙ ap (λ n. n + 1) so.long;
     there = λ j h. there j (same_or_less j k (omega (arith, h)));

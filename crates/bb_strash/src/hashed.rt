@@ -56,7 +56,8 @@ impl Hashed {
     /// Constants 0 and 1 at places 0 and 1; input `i` at place `i + 2`.
     pub fn start(alloc: Global, inputs: u32) -> Result<Hashed, NoMemory>
         requires { inputs + 2 < 2 ^ 32 }
-        ensures start { IfOk result (λ h. h ≡ record { inputs = inputs; cells = first_cells inputs; boxes = []; outs = [] }) }
+        ensures start { IfOk result (λ h.
+            h ≡ record { inputs = inputs; cells = first_cells inputs; boxes = []; outs = [] }) }
     {
         let net = Net::start(alloc, inputs)?;
         let index = Index::new(alloc);

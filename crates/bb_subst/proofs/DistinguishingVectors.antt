@@ -9,7 +9,7 @@ use Rattle.std.proofs.lemmas.Option.{slice_get-get_or}
 use Rattle.bb_bits.specs.Numbers.{number_of, bits_of}
 use Rattle.bb_lemmas.proofs.Apart.{at_most_as_many}
 use Rattle.bb_lemmas.proofs.Places.{drop_at}
-use Rattle.bb_net.specs.Kinds.{spread}
+use Rattle.bb_net.specs.Kinds.{per_box}
 use Rattle.bb_subst.specs.Distinguishing.{AreEquivalentAt}
 use Rattle.bb_subst.specs.Laws.DistinguishingLaws.{DistinguishingVectorsAreDistinct, VectorsAreFew}
 use Rattle.bb_subst.proofs.ChoiceTrees.{NumbersAreBelow}
@@ -20,7 +20,7 @@ distinguishing_vectors_are_distinct spec imp kinds vectors distinguishing i j d 
     let split : vectors ≡ take j vectors ++ x ∷ drop (j + 1) vectors =
     sym (take-append-drop j vectors) ∙ ap (λ l. take j vectors ++ l) (drop_at vectors j x (slice_get-get_or vectors j d within)) in
     let found = distinguishing.each (take j vectors) (drop (j + 1) vectors) x split in
-    let tables = spread kinds found.0 in
+    let tables = per_box kinds found.0 in
     let earlier : AreEquivalentAt spec imp tables (get_or (take j vectors) i d) =
     All-get_or (AreEquivalentAt spec imp tables) (take j vectors) i d (omega (arith, less, within, length-take-le j vectors (omega (arith, within)))) found.2 in
     let there : AreEquivalentAt spec imp tables x = subst (AreEquivalentAt spec imp tables) (get_or-take j vectors i d less ∙ same) earlier in

@@ -6,14 +6,14 @@ use Rattle.std.proofs.lemmas.List.{length-map, get_or-map}
 use Rattle.std.proofs.lemmas.List.Elements.{All-get_or}
 use Rattle.std.proofs.lemmas.List.FromFn.{get_or-map-range_with_len}
 use Rattle.bb_bits.specs.Numbers.{number_of}
-use Rattle.bb_bits.specs.Tables.{TableBits, table_bit}
+use Rattle.bb_bits.specs.Tables.{TableBits, table_bit, column}
 use Rattle.bb_lemmas.proofs.Maps.{map-twice}
 use Rattle.bb_net.specs.Equivalence.{out_bit}
 use Rattle.bb_net.specs.Netlists.{Netlist, IsNetlist, Pins, box_at}
 use Rattle.bb_net.specs.Completions.{table_bits}
 use Rattle.bb_net.specs.Pairs.{NamesPins, pin_count}
 use Rattle.bb_net.specs.Values.{bit_of, flat, flat_with, free_bit, tabled_bit, table_at, FitBoxes}
-use Rattle.bb_subst.specs.Filled.{column, IsFilled}
+use Rattle.bb_subst.specs.Filled.{IsFilled}
 use Rattle.bb_subst.specs.Laws.EmbeddingLaws.{OccurrencesKeepBits, TreesChoose}
 use Rattle.bb_net.specs.Kinds.{FitKinds}
 use Rattle.bb_net.specs.Laws.KindLaws.{PlacesFit}

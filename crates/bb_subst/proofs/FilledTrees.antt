@@ -7,11 +7,10 @@ use Rattle.std.proofs.lemmas.List.{get_or_append_left, get_or_push, get_or_read_
 use Rattle.bb_lemmas.proofs.Orders.{less_or_not}
 use Rattle.bb_net.specs.declared.cell.Cell.{Cell}
 use Rattle.bb_net.specs.declared.cell.Cell.TheVariants.{Const, Mux, BoxOut}
-use Rattle.bb_bits.specs.Tables.{TableBits}
+use Rattle.bb_bits.specs.Tables.{TableBits, column}
 use Rattle.bb_net.specs.Netlists.{Netlist, cell_at, Pins, box_at, with_cell}
-use Rattle.bb_net.specs.Kinds.{spread}
+use Rattle.bb_net.specs.Kinds.{per_box}
 use Rattle.bb_net.specs.Values.{FitBoxes, table_at}
-use Rattle.bb_subst.specs.Filled.{column}
 use Rattle.bb_subst.specs.Inside.Filling.{GrowsBy, HasConstants, cost}
 use Rattle.bb_subst.specs.Trees.{IsTree, IsInTree}
 
@@ -175,8 +174,8 @@ pushed_only (Ok root) a b pin rest pins lower upper low high n m is at named dow
 pushed_only (Err e) a b pin rest pins lower upper low high n m is at named down up first second = tt
 
 -- the table that is read at the kind of a box is that of the box
-pub table_is : (kinds : List ℕ) (tables : List TableBits) (b : ℕ) → slice_index kinds b < length tables → table_at (spread kinds tables) b ≡ table_at tables (slice_index kinds b)
-    → (t : TableBits) → t ≡ slice_index_or tables (slice_index kinds b) t → t ≡ table_at (spread kinds tables) b
+pub table_is : (kinds : List ℕ) (tables : List TableBits) (b : ℕ) → slice_index kinds b < length tables → table_at (per_box kinds tables) b ≡ table_at tables (slice_index kinds b)
+    → (t : TableBits) → t ≡ slice_index_or tables (slice_index kinds b) t → t ≡ table_at (per_box kinds tables) b
 table_is kinds tables b there at t read = get_or_read_under tables (slice_index kinds b) (length tables) t (record { inputs = 0; outputs = 0; rows = [] }) read there refl ∙ sym at
 
 -- an output pin of a box with its table

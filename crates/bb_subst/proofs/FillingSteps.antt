@@ -6,7 +6,7 @@ use Rattle.std.proofs.lemmas.List.{get_or_append_left, get_or_push, get_or-take,
 use Rattle.std.proofs.lemmas.List.Elements.{All-nil, All-cons, All-head, All-tail, All-weaker, All-get_or}
 use Rattle.std.proofs.lemmas.List.FromFn.{get_or-range_with_len, get_or-map-range_with_len}
 use Rattle.std.proofs.lemmas.List.Sums.{sum_by_push, sum_by_more, sum_by-cons, sum_by-take-le}
-use Rattle.bb_bits.specs.Tables.{TableBits}
+use Rattle.bb_bits.specs.Tables.{TableBits, column}
 use Rattle.bb_lemmas.proofs.Orders.{less_or_not, less_or_same}
 use Rattle.bb_lemmas.proofs.Ranges.{length-range}
 use Rattle.bb_net.specs.declared.cell.Cell.{Cell}
@@ -14,7 +14,7 @@ use Rattle.bb_net.specs.declared.cell.Cell.TheVariants.{Const, Input, Not, And, 
 use Rattle.bb_net.specs.Netlists.{Netlist, Pins, cell_at, box_at, first_cells, ReadsBefore, IsNetlist}
 use Rattle.bb_net.specs.Values.{table_at}
 use Rattle.bb_subst.specs.Embeddings.{OccursAt}
-use Rattle.bb_subst.specs.Filled.{IsFilled, IsPlaceOf, column}
+use Rattle.bb_subst.specs.Filled.{IsFilled, IsPlaceOf}
 use Rattle.bb_subst.specs.Inside.Filling.{GrowsBy, IsFilledUpTo, cost}
 use Rattle.bb_subst.specs.Trees.{IsTree, IsInTree}
 use Rattle.bb_subst.specs.Inside.Filling.{CostsAreFew}

@@ -8,12 +8,12 @@ use Rattle.bb_iso.specs.Laws.Isomorphism.{AreIsomorphic}
 use Rattle.bb_iso.specs.Laws.Formulas.{Formula, BoxOut, cell_formula, formula_at, pin_formulas}
 use Rattle.bb_iso.specs.Laws.{IsomorphicCellsHaveOneBit, IsomorphicNetsHaveCells, FormulasAreOfCells}
 use Rattle.bb_bits.specs.Numbers.{number_of}
-use Rattle.bb_bits.specs.Tables.{TableBits}
+use Rattle.bb_bits.specs.Tables.{TableBits, column}
 use Rattle.bb_net.specs.declared.cell.Cell.{Cell}
 use Rattle.bb_net.specs.declared.cell.Cell.TheVariants as cell
 use Rattle.bb_net.specs.Netlists.{Netlist, Pins, IsNetlist, box_at, cell_at}
 use Rattle.bb_net.specs.Values.{FitBoxes, bit_of, flat, free_bit, tabled_bit, table_at}
-use Rattle.bb_subst.specs.Filled.{IsFilled, IsPlaceOf, column}
+use Rattle.bb_subst.specs.Filled.{IsFilled, IsPlaceOf}
 use Rattle.bb_subst.specs.Laws.IsomorphismLaws.{IsomorphicFilledNetsHaveSameBits, HaveSameBits}
 use Rattle.bb_subst.specs.Laws.EmbeddingLaws.{TreesChoose}
 use Rattle.bb_subst.specs.Laws.FilledLaws.{FilledHaveBits}

@@ -4,14 +4,14 @@ use Rattle.std.specs.Prelude.{slice_index}
 use Rattle.std.specs.List.{range_with_len}
 use Rattle.std.proofs.lemmas.List.{get_or_push, length-map}
 use Rattle.std.proofs.lemmas.List.Elements.{All-get_or, All-weaker}
-use Rattle.bb_bits.specs.Tables.{TableBits, table_bit}
+use Rattle.bb_bits.specs.Tables.{TableBits, table_bit, column}
 use Rattle.bb_lemmas.proofs.Ranges.{length-run}
 use Rattle.bb_net.specs.declared.cell.Cell.{Cell}
 use Rattle.bb_net.specs.declared.cell.Cell.TheVariants.{Const, Input, Not, And, Or, Xor, Mux, BoxOut}
 use Rattle.bb_net.specs.Netlists.{Netlist, Pins, IsNetlist, ReadsBefore, box_at, cell_at, first_cells}
 use Rattle.bb_net.specs.Values.{FitBoxes, table_at}
 use Rattle.bb_subst.specs.Embeddings.{OccursAt}
-use Rattle.bb_subst.specs.Filled.{IsFilled, column}
+use Rattle.bb_subst.specs.Filled.{IsFilled}
 use Rattle.bb_subst.specs.Inside.Filling.{GrowsBy, HasConstants, IsFilledUpTo, cost}
 use Rattle.bb_subst.specs.Laws.FilledLaws.{FilledExist}
 use Rattle.bb_subst.specs.Trees.{IsTree, IsInTree}

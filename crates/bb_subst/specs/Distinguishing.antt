@@ -3,7 +3,7 @@
 use Rattle.std.specs.Prelude.{◌≡◌, ℕ, Bool, List, ◌∷◌, ◌++◌, All}
 use Rattle.bb_bits.specs.Tables.{TableBits}
 use Rattle.bb_net.specs.Equivalence.{AllRight, IsVector, SomeWrong}
-use Rattle.bb_net.specs.Kinds.{shown, spread}
+use Rattle.bb_net.specs.Kinds.{representatives, per_box}
 use Rattle.bb_net.specs.Netlists.{Netlist}
 use Rattle.bb_net.specs.Values.{FitBoxes, flat_with}
 
@@ -19,4 +19,4 @@ FailAt spec imp tables x = SomeWrong spec imp x (flat_with imp x tables)
 pub record AreDistinguishing (spec imp : Netlist) (kinds : List ℕ) (vectors : List (List Bool)) : Type 0 where
   pub whole : All (IsVector imp) vectors
   pub each : (before after : List (List Bool)) (x : List Bool) → vectors ≡ before ++ x ∷ after
-      → (tables : List TableBits) × FitBoxes tables (shown kinds imp.boxes) × All (AreEquivalentAt spec imp (spread kinds tables)) before × FailAt spec imp (spread kinds tables) x
+      → (tables : List TableBits) × FitBoxes tables (representatives kinds imp.boxes) × All (AreEquivalentAt spec imp (per_box kinds tables)) before × FailAt spec imp (per_box kinds tables) x

@@ -7,20 +7,20 @@ use Rattle.bb_net.specs.declared.cell.Cell.TheVariants.{Const, Input, Not, And, 
 use Rattle.bb_net.specs.Netlists.{Netlist, cell_at}
 
 -- a cell that reads other places
-abbrev pub moved : (ℕ → ℕ) → Cell → Cell
-moved at (Const b) = Const b
-moved at (Input i) = Input i
-moved at (Not a) = Not (at a)
-moved at (And a b) = And (at a) (at b)
-moved at (Or a b) = Or (at a) (at b)
-moved at (Xor a b) = Xor (at a) (at b)
-moved at (Mux c t e) = Mux (at c) (at t) (at e)
-moved at (BoxOut b p) = BoxOut b p
+abbrev pub renumbered : (ℕ → ℕ) → Cell → Cell
+renumbered at (Const b) = Const b
+renumbered at (Input i) = Input i
+renumbered at (Not a) = Not (at a)
+renumbered at (And a b) = And (at a) (at b)
+renumbered at (Or a b) = Or (at a) (at b)
+renumbered at (Xor a b) = Xor (at a) (at b)
+renumbered at (Mux c t e) = Mux (at c) (at t) (at e)
+renumbered at (BoxOut b p) = BoxOut b p
 
 -- a cell is at a place among others
 abbrev pub OccursAt : List Cell → (ℕ → ℕ) → Cell → ℕ → Type 0
 OccursAt cells at (BoxOut b p) place = Unit {0}
-OccursAt cells at cell place = cell_at cells place ≡ moved at cell
+OccursAt cells at cell place = cell_at cells place ≡ renumbered at cell
 
 -- each cell of the old netlist is in the new one, where at gives its place
 pub record OccursIn (old new : Netlist) (at : ℕ → ℕ) : Type 0 where

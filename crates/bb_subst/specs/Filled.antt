@@ -1,18 +1,13 @@
 -- A netlist whose boxes are filled with tables: each output pin of a box is a multiplexer tree over its column of the
 -- table.
-use Rattle.std.specs.Prelude.{◌≡◌, ◌⊎◌, ℕ, ◌+◌, ◌^◌, ◌<◌, ◌≤◌, Bool, List, [], length, map}
-use Rattle.std.specs.List.{range_with_len}
-use Rattle.bb_bits.specs.Tables.{TableBits, table_bit}
+use Rattle.std.specs.Prelude.{◌≡◌, ◌⊎◌, ℕ, ◌+◌, ◌<◌, ◌≤◌, List, [], length, map}
+use Rattle.bb_bits.specs.Tables.{TableBits, column}
 use Rattle.bb_net.specs.Completions.{table_bits}
 use Rattle.bb_net.specs.declared.cell.Cell.TheVariants.{BoxOut}
 use Rattle.bb_net.specs.Netlists.{Netlist, box_at, cell_at}
 use Rattle.bb_net.specs.Values.{table_at}
 use Rattle.bb_subst.specs.Embeddings.{OccursIn}
 use Rattle.bb_subst.specs.Trees.{IsTree, IsInTree}
-
--- the bits of an output pin in all rows, row 0 first
-abbrev pub column : TableBits → ℕ → List Bool
-column t pin = map (λ row. table_bit t row pin) (range_with_len 0 (2 ^ t.inputs))
 
 -- a place of the new netlist is that of an old cell, or is in the tree of an output pin
 abbrev pub IsPlaceOf : Netlist → Netlist → (ℕ → ℕ) → ℕ → ℕ → Type 0

@@ -5,14 +5,16 @@
 //! cell, and nothing else is added: checks by BDD count the nodes of all cells, so a cell too many could change their
 //! result.
 
-ghost use Rattle.std.specs.Prelude.{◌≡◌, ◌+◌, ◌^◌, ◌<◌, ◌≤◌, ◌⊎◌, ℕ, [], ◌++◌, ◌∷◌, All, length, map, slice_index, sum_by, take, IfOk, OnOk};
+ghost use Rattle.std.specs.Prelude.{◌≡◌, ◌+◌, ◌^◌, ◌<◌, ◌≤◌, ◌⊎◌, ℕ, [], ◌++◌, ◌∷◌, All, length, map, slice_index};
+ghost use Rattle.std.specs.Prelude.{sum_by, take, IfOk, OnOk};
 ghost use Rattle.std.specs.List.{range_with_len};
 ghost use Rattle.bb_net.specs.Completions.{table_bits};
-ghost use Rattle.bb_net.specs.Kinds.{spread};
+ghost use Rattle.bb_net.specs.Kinds.{per_box};
 ghost use Rattle.bb_net.specs.Netlists.{Netlist, ReadsBefore, IsPinAt, box_at, cell_at};
 ghost use Rattle.bb_net.specs.Values.{FitBoxes, table_at};
 ghost use Rattle.bb_subst.specs.Embeddings.{OccursAt};
-ghost use Rattle.bb_subst.specs.Filled.{IsFilled, column};
+ghost use Rattle.bb_bits.specs.Tables.{column};
+ghost use Rattle.bb_subst.specs.Filled.{IsFilled};
 ghost use Rattle.bb_subst.specs.Inside.Filling.{CostsAreFew, GrowsBy, HasConstants, IsFilledUpTo, cost};
 ghost use Rattle.bb_subst.specs.Trees.{IsTree, IsInTree};
 
@@ -64,9 +66,10 @@ fn add_cell(
     places: &[u32],
     cell: Cell,
 ) -> Result<u32, NoMemory>
-    requires tables { FitBoxes (spread kinds.now tables.now) boxes.now }
+    requires tables { FitBoxes (per_box kinds.now tables.now) boxes.now }
     requires reads { ReadsBefore net.old.inputs boxes.now (length places.now) cell }
-    requires pin { (b p : ℕ) → cell ≡ Cell.BoxOut b p → (b < length boxes.now) × (p < length (box_at boxes.now b).outs) }
+    requires pin { (b p : ℕ) → cell ≡ Cell.BoxOut b p
+        → (b < length boxes.now) × (p < length (box_at boxes.now b).outs) }
     requires there { All (λ k. k < length net.old.cells) places.now }
     requires constants { HasConstants net.old.cells }
     requires no_box { net.old.boxes ≡ [] }
@@ -75,9 +78,12 @@ fn add_cell(
     ensures there { IfOk result (λ place. place < length net.new.cells) }
     ensures occurs { IfOk result (OccursAt net.new.cells (slice_index places.now) cell) }
     ensures tree { IfOk result (λ place. (b p : ℕ) → cell ≡ Cell.BoxOut b p
-        → IsTree net.new.cells (map (slice_index places.now) (box_at boxes.now b).ins) (column (table_at (spread kinds.now tables.now) b) p) place) }
+        → IsTree net.new.cells (map (slice_index places.now) (box_at boxes.now b).ins)
+        (column (table_at (per_box kinds.now tables.now) b) p) place) }
     ensures only { IfOk result (λ root. (place : ℕ) → length net.old.cells ≤ place → place < length net.new.cells
-        → (place ≡ root) ⊎ ((b p : ℕ) × (cell ≡ Cell.BoxOut b p) × IsInTree net.new.cells (map (slice_index places.now) (box_at boxes.now b).ins) root place)) }
+        → (place ≡ root)
+        ⊎ ((b p : ℕ) × (cell ≡ Cell.BoxOut b p)
+        × IsInTree net.new.cells (map (slice_index places.now) (box_at boxes.now b).ins) root place)) }
 {
     match cell {
         Cell::BoxOut(b, p) => {
@@ -109,10 +115,11 @@ fn add_cells(
     kinds: &[u32],
     places: &mut Vec<u32>,
 ) -> Result<(), NoMemory>
-    requires tables { FitBoxes (spread kinds.now tables.now) old.now.boxes }
+    requires tables { FitBoxes (per_box kinds.now tables.now) old.now.boxes }
     requires room { sum_by (cost old.now.boxes) old.now.cells < 2 ^ 32 }
-    requires begun { IsFilledUpTo old.now (spread kinds.now tables.now) (old.now.inputs + 2) new.old places.old.items }
-    ensures filled { OnOk result (IsFilledUpTo old.now (spread kinds.now tables.now) (length old.now.cells) new.new places.new.items) }
+    requires begun { IsFilledUpTo old.now (per_box kinds.now tables.now) (old.now.inputs + 2) new.old places.old.items }
+    ensures filled { OnOk result (IsFilledUpTo old.now (per_box kinds.now tables.now) (length old.now.cells) new.new
+        places.new.items) }
 {
     for k in old.inputs() as usize + 2..old.cells().len() {
         let cell = old.cells()[k];
@@ -124,7 +131,8 @@ fn add_cells(
 
 fn add_outs(new: &mut Net, outs: &[u32], places: &[u32]) -> Result<(), NoMemory>
     requires there { All (λ k. slice_index places.now k < length new.old.cells) outs.now }
-    ensures outs { OnOk result (new.new ≡ record new.old { outs = new.old.outs ++ map (slice_index places.now) outs.now }) }
+    ensures outs { OnOk result (new.new
+        ≡ record new.old { outs = new.old.outs ++ map (slice_index places.now) outs.now }) }
 {
     for out in outs {
         new.add_out(place_of(places, *out))?;
@@ -140,9 +148,9 @@ fn costs_are_few()
 /// `tables` has one for each sharing class, and `kinds` the class of each box. The netlist is copied and not changed in
 /// place: the search for tables fills it again and again.
 pub fn fill(alloc: Global, net: &Net, tables: &[Table], kinds: &[u32]) -> Result<Net, NoMemory>
-    requires tables { FitBoxes (spread kinds.now tables.now) net.now.boxes }
+    requires tables { FitBoxes (per_box kinds.now tables.now) net.now.boxes }
     requires room { length net.now.cells + table_bits net.now.boxes < 2 ^ 32 }
-    ensures filled { IfOk result (λ filled. (at : ℕ → ℕ) × IsFilled net.now (spread kinds.now tables.now) filled at) }
+    ensures filled { IfOk result (λ filled. (at : ℕ → ℕ) × IsFilled net.now (per_box kinds.now tables.now) filled at) }
 {
     costs_are_few();
     let mut filled = Net::start(alloc, net.inputs())?;

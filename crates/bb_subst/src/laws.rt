@@ -3,7 +3,8 @@
 
 ghost use Rattle.bb_subst.specs.Laws.IsomorphismLaws.{IsomorphicFilledNetsHaveSameBits};
 ghost use Rattle.bb_subst.specs.Laws.EmbeddingLaws.{OccurrencesKeepBits, TreesChoose};
-ghost use Rattle.bb_subst.specs.Laws.FilledLaws.{FilledExist, FilledHaveBits, FilledAreRight, FilledAreWrong, FilledArePairs};
+ghost use Rattle.bb_subst.specs.Laws.FilledLaws.{FilledExist, FilledHaveBits, FilledAreRight, FilledAreWrong};
+ghost use Rattle.bb_subst.specs.Laws.FilledLaws.{FilledArePairs};
 ghost use Rattle.bb_subst.specs.Laws.DistinguishingLaws.{DistinguishingVectorsAreDistinct, VectorsAreFew};
 
 use bb_bits::{number_is_below, number_spelled_once};

@@ -1,7 +1,7 @@
 //! Cells whose operands are moved, for netlists that are embedded in others.
 
 ghost use Rattle.std.specs.Prelude.{◌≡◌, slice_index};
-ghost use Rattle.bb_subst.specs.Embeddings.{moved};
+ghost use Rattle.bb_subst.specs.Embeddings.{renumbered};
 
 use bb_net::Cell;
 
@@ -14,7 +14,7 @@ pub fn place_of(places: &[u32], k: u32) -> u32
 
 /// Inputs and output pins keep their numbers; only places are moved.
 pub fn moved(places: &[u32], cell: Cell) -> Cell
-    ensures cell { result ≡ moved (slice_index places.now) cell }
+    ensures cell { result ≡ renumbered (slice_index places.now) cell }
 {
     match cell {
         Cell::Const(b) => Cell::Const(b),

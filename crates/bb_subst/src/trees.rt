@@ -4,7 +4,7 @@
 ghost use Rattle.std.specs.Prelude.{◌≡◌, ◌+◌, ◌-◌, ◌^◌, ◌<◌, ◌≤◌, ℕ, false, true, All, length, IfOk, OnOk};
 ghost use Rattle.bb_net.specs.declared.cell.Cell.TheVariants.{Const};
 ghost use Rattle.bb_net.specs.Netlists.{Netlist, cell_at};
-ghost use Rattle.bb_subst.specs.Filled.{column};
+ghost use Rattle.bb_bits.specs.Tables.{column};
 ghost use Rattle.bb_subst.specs.Inside.Filling.{GrowsBy, HasConstants};
 ghost use Rattle.bb_subst.specs.Trees.{IsTree, IsInTree};
 
@@ -35,7 +35,8 @@ pub(crate) fn add_tree(net: &mut Net, column: &[bool], pins: &[u32]) -> Result<u
     requires room { length net.old.cells + 2 ^ length pins.now < 2 ^ 32 }
     ensures grows { OnOk result (GrowsBy net.old net.new (2 ^ length pins.now - 1)) }
     ensures tree { IfOk result (IsTree net.new.cells pins.now column.now) }
-    ensures only { IfOk result (λ root. (place : ℕ) → length net.old.cells ≤ place → place < length net.new.cells → IsInTree net.new.cells pins.now root place) }
+    ensures only { IfOk result (λ root. (place : ℕ) → length net.old.cells ≤ place → place < length net.new.cells
+        → IsInTree net.new.cells pins.now root place) }
 {
     let Some((choice, rest)) = pins.split_first() else {
         return Ok(if column[0] { 1 } else { 0 });

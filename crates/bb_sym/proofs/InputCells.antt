@@ -8,7 +8,7 @@ use Rattle.bb_uniq.specs.declared.store.Ref.{Ref}
 use Rattle.bb_sym.specs.declared.known_gates.DualRail.{DualRail}
 use Rattle.bb_uniq.specs.Inside.Nodes.{NodeStore}
 use Rattle.bb_sym.specs.Functions.{spec_bit, known_tables, mismatches, symbolic_functions}
-use Rattle.bb_sym.specs.Plain.{Reading, AreVariables, IsReadSo, cell_bit, table, tables, variables, places, outputs}
+use Rattle.bb_sym.specs.Plain.{Reading, AreVariables, IsReadSo, cell_bit, table, tables, variables, cell_numbers, output_numbers}
 use Rattle.bb_sym.specs.Inside.Made.{Makes, AreTooMany, RepresentAll}
 use Rattle.bb_sym.specs.Inside.Rails.{HaveAllRails, HaveKnown, known_functions, known_rails}
 use Rattle.bb_sym.proofs.MadeLemmas.{within_append_left, too_many_within, too_many_then, Makes-then, RepresentAll-kept}
@@ -26,10 +26,10 @@ inputs_fit p pair n v few = record { few = few; inputs = omega (arith, pair.besi
 
 module _ (p : NetPair) (pair : IsPair p) (a : NodeStore) (v : p.imp.inputs ≡ a.vars) where
   abbrev bits : List Truth
-  bits = tables p.imp.inputs (map (spec_bit p.spec) (places p.spec))
+  bits = tables p.imp.inputs (map (spec_bit p.spec) (cell_numbers p.spec))
 
   abbrev known : List Truth
-  known = flat_map (known_tables p.imp) (places p.imp)
+  known = flat_map (known_tables p.imp) (cell_numbers p.imp)
 
   abbrev all_cells : List Truth
   all_cells = known_functions p.spec p.imp
@@ -47,14 +47,14 @@ module _ (p : NetPair) (pair : IsPair p) (a : NodeStore) (v : p.imp.inputs ≡ a
     pub spec_fits : a.vars ≤ 2048 → AreVariables b.vars 0 [] p.spec
     spec_fits few = inputs_fit p pair b.vars b_vars (omega (arith, few, first.kept.vars))
 
-    bits_are : tables b.vars (map (cell_bit inputs_only p.spec) (places p.spec)) ≡ bits
-    bits_are = ap (λ n. tables n (map (cell_bit inputs_only p.spec) (places p.spec))) b_vars
+    bits_are : tables b.vars (map (cell_bit inputs_only p.spec) (cell_numbers p.spec)) ≡ bits
+    bits_are = ap (λ n. tables n (map (cell_bit inputs_only p.spec) (cell_numbers p.spec))) b_vars
 
-    pub refused_bits : AreTooMany b (tables b.vars (map (cell_bit inputs_only p.spec) (places p.spec))) → AreTooMany a all_cells
+    pub refused_bits : AreTooMany b (tables b.vars (map (cell_bit inputs_only p.spec) (cell_numbers p.spec))) → AreTooMany a all_cells
     refused_bits many =
         too_many_then a b (variables p.imp.inputs) (bits ++ known) first_made (too_many_within b bits (bits ++ known) (within_append_left bits known) (subst (AreTooMany b) bits_are many))
 
-    module _ (mid : NodeStore) (second : Makes b mid (tables b.vars (map (cell_bit inputs_only p.spec) (places p.spec)))) where
+    module _ (mid : NodeStore) (second : Makes b mid (tables b.vars (map (cell_bit inputs_only p.spec) (cell_numbers p.spec)))) where
       second_made : Makes b mid bits
       second_made = subst (Makes b mid) bits_are second
 
@@ -80,9 +80,9 @@ module _ (p : NetPair) (pair : IsPair p) (a : NodeStore) (v : p.imp.inputs ≡ a
         }
 
 -- the cells and then the outputs are all functions of the check
-pub symbolic_are : (spec imp : Netlist) → known_functions spec imp ++ flat_map (mismatches spec imp) (outputs imp) ≡ symbolic_functions spec imp
+pub symbolic_are : (spec imp : Netlist) → known_functions spec imp ++ flat_map (mismatches spec imp) (output_numbers imp) ≡ symbolic_functions spec imp
 symbolic_are spec imp =
-    let bits = tables imp.inputs (map (spec_bit spec) (places spec)) in
-    let known = flat_map (known_tables imp) (places imp) in
-    let last = flat_map (mismatches spec imp) (outputs imp) in
+    let bits = tables imp.inputs (map (spec_bit spec) (cell_numbers spec)) in
+    let known = flat_map (known_tables imp) (cell_numbers imp) in
+    let last = flat_map (mismatches spec imp) (output_numbers imp) in
     append_assoc (variables imp.inputs) (bits ++ known) last ∙ ap (λ ts. variables imp.inputs ++ ts) (append_assoc bits known last)

@@ -6,7 +6,7 @@ use Rattle.bb_net.specs.Netlists.{Netlist, IsNetlist, ReadsBefore, cell_at}
 use Rattle.bb_uniq.specs.Inside.Nodes.{NodeStore}
 use Rattle.bb_sym.specs.declared.known_gates.DualRail.{DualRail}
 use Rattle.bb_sym.specs.Functions.{known_tables}
-use Rattle.bb_sym.specs.Plain.{places}
+use Rattle.bb_sym.specs.Plain.{cell_numbers}
 use Rattle.bb_sym.specs.Inside.Made.{Makes, AreTooMany}
 use Rattle.bb_sym.specs.Inside.Rails.{HaveRails, HaveAllRails, pair_at, rails_at, cell_rails, tables_made, known_rails}
 use Rattle.bb_sym.proofs.OutputLoop.{flat_makes, flat_refused}
@@ -49,7 +49,7 @@ module _ (first now : NodeStore) (net : Netlist) (made : List DualRail) (i : ℕ
       ap (λ n. tables_made n (rails_at now made) cell) vars_is
       ∙ tables_made-same net.inputs net.inputs i net.boxes (rails_at now made) (known_rails net) same cell reads
 
-  pub known_refused : AreTooMany now (tables_made now.vars (rails_at now made) cell) → AreTooMany first (flat_map (known_tables net) (places net))
+  pub known_refused : AreTooMany now (tables_made now.vars (rails_at now made) cell) → AreTooMany first (flat_map (known_tables net) (cell_numbers net))
   known_refused many = flat_refused first now (known_tables net) i (length net.cells) m.there m.makes (subst (AreTooMany now) next_tables many)
 
   module _ (new : NodeStore) (makes : Makes now new (tables_made now.vars (rails_at now made) cell)) where

@@ -7,7 +7,7 @@ use Rattle.bb_net.specs.Netlists.{Netlist, IsNetlist, cell_at}
 use Rattle.bb_uniq.specs.declared.store.Ref.{Ref}
 use Rattle.bb_uniq.specs.Inside.Nodes.{NodeStore}
 use Rattle.bb_uniq.specs.Inside.Meaning.{truth_of, Adds, IsTooMany}
-use Rattle.bb_sym.specs.Plain.{Reading, AreVariables, IsReadSo, cell_bit, table, tables, places}
+use Rattle.bb_sym.specs.Plain.{Reading, AreVariables, IsReadSo, cell_bit, table, tables, cell_numbers}
 use Rattle.bb_sym.specs.Inside.Made.{Makes, AreTooMany, RepresentAll, cell_table, ref_at}
 use Rattle.bb_sym.proofs.MadeLemmas.{Makes-more, refused_more, RepresentAll-push, Represents-added}
 use Rattle.bb_sym.proofs.CellTables.{ValueExists, cell_table-is}
@@ -20,8 +20,8 @@ next_table now first starts made net i = cell_table now.vars first starts (λ pl
 abbrev pub CellsMade : NodeStore → NodeStore → Netlist → List Ref → ℕ → Reading → Type 0
 CellsMade s now net made i r = RepresentAll now (λ place. table s.vars (cell_bit r net place)) made × Makes s now (map (λ place. table s.vars (cell_bit r net place)) (range_with_len 0 i))
 
-all_of : (n : ℕ) (net : Netlist) (r : Reading) → map (λ place. table n (cell_bit r net place)) (places net) ≡ tables n (map (cell_bit r net) (places net))
-all_of n net r = sym (map-map (table n) (cell_bit r net) (places net))
+all_of : (n : ℕ) (net : Netlist) (r : Reading) → map (λ place. table n (cell_bit r net place)) (cell_numbers net) ≡ tables n (map (cell_bit r net) (cell_numbers net))
+all_of n net r = sym (map-map (table n) (cell_bit r net) (cell_numbers net))
 
 module _ (exists : ValueExists) (s now : NodeStore) (net : Netlist) (kept : IsNetlist net) (first : ℕ) (starts : List ℕ) (vars : AreVariables s.vars first starts net) (made : List Ref) (i : ℕ) (there : i < length net.cells) (count : length made ≡ i)
     (r : Reading) (reads : IsReadSo s.vars first starts net r) (so_far : CellsMade s now net made i r) where
@@ -30,7 +30,7 @@ module _ (exists : ValueExists) (s now : NodeStore) (net : Netlist) (kept : IsNe
       ap (λ n. cell_table n first starts (λ place. truth_of now (ref_at made place).0) (cell_at net.cells i)) so_far.1.kept.vars
       ∙ cell_table-is exists net kept s.vars first starts vars r reads i there (λ place. truth_of now (ref_at made place).0) (λ k l. (so_far.0 k (omega (arith, l, count))).table)
 
-  pub next_refused : IsTooMany now (next_table now first starts made net i) → AreTooMany s (tables s.vars (map (cell_bit r net) (places net)))
+  pub next_refused : IsTooMany now (next_table now first starts made net i) → AreTooMany s (tables s.vars (map (cell_bit r net) (cell_numbers net)))
   next_refused many =
       subst (AreTooMany s) (all_of s.vars net r) (refused_more s now (λ place. table s.vars (cell_bit r net place)) i (length net.cells) so_far.1 there (subst (IsTooMany now) next_is many))
 
@@ -41,5 +41,5 @@ module _ (exists : ValueExists) (s now : NodeStore) (net : Netlist) (kept : IsNe
         Makes-more s now new (λ place. table s.vars (cell_bit r net place)) i q.0 so_far.1 also,
       )
 
-pub whole_makes : (s now : NodeStore) (net : Netlist) (made : List Ref) (i : ℕ) (r : Reading) → i ≡ length net.cells → CellsMade s now net made i r → Makes s now (tables s.vars (map (cell_bit r net) (places net)))
+pub whole_makes : (s now : NodeStore) (net : Netlist) (made : List Ref) (i : ℕ) (r : Reading) → i ≡ length net.cells → CellsMade s now net made i r → Makes s now (tables s.vars (map (cell_bit r net) (cell_numbers net)))
 whole_makes s now net made i r e h = subst (Makes s now) (ap (λ k. map (λ place. table s.vars (cell_bit r net place)) (range_with_len 0 k)) e ∙ all_of s.vars net r) h.1

@@ -7,13 +7,13 @@ use Rattle.bb_uniq.specs.declared.store.Ref.{Ref}
 use Rattle.bb_uniq.specs.Inside.Nodes.{NodeStore}
 use Rattle.bb_uniq.specs.Inside.Meaning.{truth_of}
 use Rattle.bb_sym.specs.Functions.{plain_functions, is_wrong, some_wrong, first_some_wrong, all_always_wrong, inputs_and_pins, for_all_pins, output_functions}
-use Rattle.bb_sym.specs.Plain.{block_functions, table, tables, outputs}
+use Rattle.bb_sym.specs.Plain.{block_functions, table, tables, output_numbers}
 use Rattle.bb_sym.specs.Inside.Made.{Makes, AreTooMany, Represents}
 use Rattle.bb_sym.proofs.MadeLemmas.{Makes-then, too_many_within, too_many_then, within_append_left}
 
 -- where each output is wrong, and where one of the first is
 abbrev pub wrong_tables : ℕ → Netlist → Netlist → List Truth
-wrong_tables n spec imp = tables n (map (is_wrong spec imp) (outputs imp)) ++ tables n (map (first_some_wrong spec imp) (outputs imp))
+wrong_tables n spec imp = tables n (map (is_wrong spec imp) (output_numbers imp)) ++ tables n (map (first_some_wrong spec imp) (output_numbers imp))
 
 module _ (spec imp : Netlist) (inputs pins : ℕ) (i : inputs ≡ imp.inputs) (k : pins ≡ output_pins imp.boxes) (a : NodeStore) (v : inputs + pins ≡ a.vars) where
   abbrev n : ℕ
@@ -26,7 +26,7 @@ module _ (spec imp : Netlist) (inputs pins : ℕ) (i : inputs ≡ imp.inputs) (k
   pins_part = for_all_pins imp any_table
 
   parts_are : plain_functions spec imp ++ (wrong_tables n spec imp ++ pins_part) ≡ output_functions spec imp
-  parts_are = ap (λ ts. plain_functions spec imp ++ ts) (append_assoc (tables n (map (is_wrong spec imp) (outputs imp))) (tables n (map (first_some_wrong spec imp) (outputs imp))) pins_part)
+  parts_are = ap (λ ts. plain_functions spec imp ++ ts) (append_assoc (tables n (map (is_wrong spec imp) (output_numbers imp))) (tables n (map (first_some_wrong spec imp) (output_numbers imp))) pins_part)
 
   vars_is : a.vars ≡ n
   vars_is = sym v ∙ ap₂ ◌+◌ i k

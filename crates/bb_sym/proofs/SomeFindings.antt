@@ -11,7 +11,7 @@ use Rattle.bb_net.specs.Netlists.{Netlist, IsNetlist}
 use Rattle.bb_net.specs.Values.{flat}
 use Rattle.bb_net.specs.Ternary.{tern, tern_of}
 use Rattle.bb_net.specs.Equivalence.{wanted_bit, IsVector, AreBoxOutputs, IsOutput, AllRight}
-use Rattle.bb_net.specs.Conditions.{IsKnownWrong, MayBeRight, MayBeRightEverywhere, IsAlwaysWrong, EachSometimesRight, HasAlwaysWrong, AllSometimesRight}
+use Rattle.bb_net.specs.Conditions.{IsKnownWrong, MayBeRight, MayBeRightEverywhere, IsAlwaysWrong, EachSometimesRight, AlwaysSomeWrongAt, AllRightTogether}
 use Rattle.bb_sym.specs.declared.found.Found.{Found}
 use Rattle.bb_sym.specs.Finds.{IsLeastVector, IsFirstFound, IsSometimesRight, FindsOutput, FindsVector}
 
@@ -75,10 +75,10 @@ module _ (below : Below) where
       → ((found : Found) × FindsOutput imp (IsAlwaysWrong spec imp) (IsSometimesRight spec imp) found) ⊎ EachSometimesRight spec imp
   always_or_none spec imp kept cases = output_or_none imp (IsAlwaysWrong spec imp) (IsSometimesRight spec imp) kept (λ y j wrong right. wrong right.0 right.1 right.2) cases
 
-  pub all_or_none : (spec imp : Netlist) → IsNetlist imp → ((x : List Bool) → HasAlwaysWrong spec imp x ⊎ ((z : List Bool) × AreBoxOutputs imp z × AllRight spec imp x (flat imp x z)))
-      → ((found : Found) × FindsVector imp (HasAlwaysWrong spec imp) found) ⊎ AllSometimesRight spec imp
-  all_or_none spec imp kept cases = elim (vector_or_none imp (HasAlwaysWrong spec imp) (λ x. (z : List Bool) × AreBoxOutputs imp z × AllRight spec imp x (flat imp x z))
+  pub all_or_none : (spec imp : Netlist) → IsNetlist imp → ((x : List Bool) → AlwaysSomeWrongAt spec imp x ⊎ ((z : List Bool) × AreBoxOutputs imp z × AllRight spec imp x (flat imp x z)))
+      → ((found : Found) × FindsVector imp (AlwaysSomeWrongAt spec imp) found) ⊎ AllRightTogether spec imp
+  all_or_none spec imp kept cases = elim (vector_or_none imp (AlwaysSomeWrongAt spec imp) (λ x. (z : List Bool) × AreBoxOutputs imp z × AllRight spec imp x (flat imp x z))
       (λ y wrong right. (let w = wrong right.0 right.1 in w.2 (right.2 w.0 w.1))) cases) [
-        | inl one ↦ let f = written imp None one.0 kept one.1.vector in inl (f.0, (f.1, subst (IsLeastVector imp (HasAlwaysWrong spec imp)) (sym f.2) one.1))
+        | inl one ↦ let f = written imp None one.0 kept one.1.vector in inl (f.0, (f.1, subst (IsLeastVector imp (AlwaysSomeWrongAt spec imp)) (sym f.2) one.1))
         | inr none ↦ inr none
       ]

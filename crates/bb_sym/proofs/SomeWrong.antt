@@ -8,7 +8,7 @@ use Rattle.bb_bits.specs.Laws.TruthLaws.{QuantifierLaws}
 use Rattle.bb_net.specs.Netlists.{Netlist}
 use Rattle.bb_net.specs.Values.{flat, output_pins}
 use Rattle.bb_net.specs.Equivalence.{wanted_bit, out_bit}
-use Rattle.bb_net.specs.Conditions.{HasAlwaysWrong, AllSometimesRight}
+use Rattle.bb_net.specs.Conditions.{AlwaysSomeWrongAt, AllRightTogether}
 use Rattle.bb_quant.specs.Inside.LeastPoints.{IsLeastPoint}
 use Rattle.bb_sym.specs.Functions.{is_wrong, some_wrong, all_always_wrong, inputs_and_pins}
 use Rattle.bb_sym.specs.Finds.{IsLeastVector}
@@ -33,9 +33,9 @@ pub none_of : (p : ℕ → Bool) (n j : ℕ) → j < n → list_any p (range_wit
 none_of p n j l e = not_true (p j) (λ h. never_both (list_any p (range_with_len 0 n)) (any_of p n j l h) e)
 
 module _ (laws : QuantifierLaws) (spec imp : Netlist) where
-  pub least_some : (old p : List Bool) → length old ≡ inputs_and_pins imp → IsLeastPoint (all_always_wrong spec imp) true 0 old p → IsLeastVector imp (HasAlwaysWrong spec imp) (take imp.inputs p)
+  pub least_some : (old p : List Bool) → length old ≡ inputs_and_pins imp → IsLeastPoint (all_always_wrong spec imp) true 0 old p → IsLeastVector imp (AlwaysSomeWrongAt spec imp) (take imp.inputs p)
   least_some old p long =
-      least_inputs laws imp.inputs (output_pins imp.boxes) (some_wrong spec imp (length imp.outs)) imp refl (HasAlwaysWrong spec imp)
+      least_inputs laws imp.inputs (output_pins imp.boxes) (some_wrong spec imp (length imp.outs)) imp refl (AlwaysSomeWrongAt spec imp)
       (λ x e all z l.
       let found = any_there (λ j. is_wrong spec imp j (x ++ (z ++ []))) 0 (length imp.outs) (all z l) in
       (found.0, omega (arith, found.1), xor_differ (wanted_bit spec x found.0) (out_bit imp (flat imp x z) found.0) (sym (wrong_bit spec imp found.0 x z e) ∙ found.2)))
@@ -44,7 +44,7 @@ module _ (laws : QuantifierLaws) (spec imp : Netlist) where
       any_of (λ j. is_wrong spec imp j (x ++ (z ++ []))) (length imp.outs) w.0 w.1 (wrong_bit spec imp w.0 x z e ∙ differ_xor (wanted_bit spec x w.0) (out_bit imp (flat imp x z) w.0) w.2))
       old p long
 
-  pub all_right : IsNowhereTrue (inputs_and_pins imp) (all_always_wrong spec imp) → AllSometimesRight spec imp
+  pub all_right : IsNowhereTrue (inputs_and_pins imp) (all_always_wrong spec imp) → AllRightTogether spec imp
   all_right none x e =
       let found = one_of_none laws imp.inputs (output_pins imp.boxes) (some_wrong spec imp (length imp.outs)) none x e in (
         found.0,

@@ -10,7 +10,7 @@ use Rattle.bb_bits.specs.Laws.TruthLaws.{TableLaws, BeadLaws}
 use Rattle.bb_net.specs.Netlists.{Netlist}
 use Rattle.bb_sym.specs.Functions.{spec_bit, specification_functions, known_tables, mismatches, inputs_first, inputs_and_pins, plain_functions, wrong_for_all_pins, is_wrong, first_some_wrong, some_wrong, for_all_pins, symbolic_functions, local_functions, output_functions}
 use Rattle.bb_sym.specs.Laws.{CellsHoldSpecification, HoldsSpecification, ReadsInputs}
-use Rattle.bb_sym.specs.Plain.{Function, Reading, table, tables, variables, places, outputs, cell_bit, without_pins, plain_functions_at}
+use Rattle.bb_sym.specs.Plain.{Function, Reading, table, tables, variables, cell_numbers, output_numbers, cell_bit, without_pins, plain_functions_at}
 use Rattle.bb_sym.proofs.Deepened.{deepened, deepened_same, beads_deepened, table-after, table-before}
 use Rattle.bb_sym.proofs.FunctionTables.{table_same}
 use Rattle.bb_sym.proofs.MadeLemmas.{AreWithin, within_append_left, within_append_right}
@@ -52,7 +52,7 @@ module _ (laws : TableLaws) (beads : BeadLaws) (spec imp : Netlist) (vars before
   image t = lifted before (deepened after t)
 
   abbrev own_tables : List Truth
-  own_tables = tables vars (map (cell_bit (without_pins r) spec) (places spec))
+  own_tables = tables vars (map (cell_bit (without_pins r) spec) (cell_numbers spec))
 
   cell_is : (place : ℕ) → table vars (cell_bit (without_pins r) spec place) ≡ image (table imp.inputs (spec_bit spec place))
   cell_is place =
@@ -66,15 +66,15 @@ module _ (laws : TableLaws) (beads : BeadLaws) (spec imp : Netlist) (vars before
   bead_there : (b : Truth) → IsBeadOfAny (specification_functions spec imp) b → IsBeadOfAny own_tables (deepened after b)
   bead_there b h = (
     image h.0,
-    subst (λ (ts : List Truth). Contains ts (image h.0)) (sym (tables_are imp.inputs vars image (spec_bit spec) (cell_bit (without_pins r) spec) cell_is (places spec))) (listed_image image (specification_functions spec imp) h.0 h.1),
+    subst (λ (ts : List Truth). Contains ts (image h.0)) (sym (tables_are imp.inputs vars image (spec_bit spec) (cell_bit (without_pins r) spec) cell_is (cell_numbers spec))) (listed_image image (specification_functions spec imp) h.0 h.1),
     (beads.lifted before (deepened after b) (deepened after h.0)).1 (beads_deepened laws after b h.0 h.2),
   )
 
   own_within : AreWithin own_tables (plain_functions_at vars r spec imp)
   own_within b h =
-      let imp_tables = tables vars (map (cell_bit r imp) (places imp)) in
-      within_append_right (variables vars) (tables vars (map (cell_bit (without_pins r) spec) (places spec) ++ map (cell_bit r imp) (places imp))) b
-      (subst (λ (ts : List Truth). IsBeadOfAny ts b) (sym (map-append (table vars) (map (cell_bit (without_pins r) spec) (places spec)) (map (cell_bit r imp) (places imp)))) (within_append_left own_tables imp_tables b h))
+      let imp_tables = tables vars (map (cell_bit r imp) (cell_numbers imp)) in
+      within_append_right (variables vars) (tables vars (map (cell_bit (without_pins r) spec) (cell_numbers spec) ++ map (cell_bit r imp) (cell_numbers imp))) b
+      (subst (λ (ts : List Truth). IsBeadOfAny ts b) (sym (map-append (table vars) (map (cell_bit (without_pins r) spec) (cell_numbers spec)) (map (cell_bit r imp) (cell_numbers imp)))) (within_append_left own_tables imp_tables b h))
 
   pub cells_count : (k : ℕ) → HasMoreThan (IsBeadOfAny (specification_functions spec imp)) k → HasMoreThan (IsBeadOfAny (plain_functions_at vars r spec imp)) k
   cells_count k h =
@@ -87,7 +87,7 @@ cells_hold laws beads spec imp k vars before r reads = cells_count laws beads sp
 pub symbolic_holds : HoldsSpecification symbolic_functions
 symbolic_holds spec imp k =
     let own = specification_functions spec imp in
-    let rest = flat_map (known_tables imp) (places imp) ++ flat_map (mismatches spec imp) (outputs imp) in
+    let rest = flat_map (known_tables imp) (cell_numbers imp) ++ flat_map (mismatches spec imp) (output_numbers imp) in
     more_within own (symbolic_functions spec imp) k (λ b h. within_append_right (variables imp.inputs) (own ++ rest) b (within_append_left own rest b h))
 
 -- the inputs and then the output pins
@@ -97,11 +97,11 @@ plain_holds laws beads spec imp k = cells_count laws beads spec imp (inputs_and_
 pub local_holds : TableLaws → BeadLaws → HoldsSpecification local_functions
 local_holds laws beads spec imp k h =
     let plain = plain_functions spec imp in
-    more_within plain (local_functions spec imp) k (within_append_left plain (flat_map (wrong_for_all_pins spec imp) (outputs imp))) (plain_holds laws beads spec imp k h)
+    more_within plain (local_functions spec imp) k (within_append_left plain (flat_map (wrong_for_all_pins spec imp) (output_numbers imp))) (plain_holds laws beads spec imp k h)
 
 pub output_holds : TableLaws → BeadLaws → HoldsSpecification output_functions
 output_holds laws beads spec imp k h =
     let n = inputs_and_pins imp in
     let plain = plain_functions spec imp in
-    let rest = tables n (map (is_wrong spec imp) (outputs imp)) ++ (tables n (map (first_some_wrong spec imp) (outputs imp)) ++ for_all_pins imp (table n (some_wrong spec imp (length imp.outs)))) in
+    let rest = tables n (map (is_wrong spec imp) (output_numbers imp)) ++ (tables n (map (first_some_wrong spec imp) (output_numbers imp)) ++ for_all_pins imp (table n (some_wrong spec imp (length imp.outs)))) in
     more_within plain (output_functions spec imp) k (within_append_left plain rest) (plain_holds laws beads spec imp k h)

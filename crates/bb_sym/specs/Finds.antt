@@ -5,7 +5,7 @@ use Rattle.bb_bits.specs.Numbers.{number_of}
 use Rattle.bb_net.specs.Netlists.{Netlist}
 use Rattle.bb_net.specs.Equivalence.{IsVector, AreBoxOutputs, IsOutput, IsRight}
 use Rattle.bb_net.specs.Values.{flat}
-use Rattle.bb_net.specs.Conditions.{IsKnownWrong, MayBeRight, MayBeRightEverywhere, IsAlwaysWrong, EachSometimesRight, HasAlwaysWrong, AllSometimesRight}
+use Rattle.bb_net.specs.Conditions.{IsKnownWrong, MayBeRight, MayBeRightEverywhere, IsAlwaysWrong, EachSometimesRight, AlwaysSomeWrongAt, AllRightTogether}
 use Rattle.bb_sym.specs.declared.found.Found.{Found}
 
 -- x is the least vector of which P holds
@@ -36,4 +36,4 @@ FindsVector imp P found = (found.output ≡ None) × IsLeastVector imp P found.i
 pub record FindingsExist (spec imp : Netlist) : Type 0 where
   pub known : ((found : Found) × FindsOutput imp (IsKnownWrong spec imp) (MayBeRight spec imp) found) ⊎ MayBeRightEverywhere spec imp
   pub always : ((found : Found) × FindsOutput imp (IsAlwaysWrong spec imp) (IsSometimesRight spec imp) found) ⊎ EachSometimesRight spec imp
-  pub all : ((found : Found) × FindsVector imp (HasAlwaysWrong spec imp) found) ⊎ AllSometimesRight spec imp
+  pub all : ((found : Found) × FindsVector imp (AlwaysSomeWrongAt spec imp) found) ⊎ AllRightTogether spec imp

@@ -10,7 +10,7 @@ use Rattle.bb_net.specs.declared.cell.Cell.TheVariants.{Const, Input, Not, And, 
 use Rattle.bb_net.specs.Netlists.{Netlist, cell_at}
 use Rattle.bb_net.specs.Values.{bit_of, flat, output_pins}
 use Rattle.bb_net.specs.Ternary.{tern, tern_of}
-use Rattle.bb_sym.specs.Plain.{Function, Reading, table, tables, variables, places, outputs, is_wrong_at, one_of, first_of, plain_functions_at, block_functions}
+use Rattle.bb_sym.specs.Plain.{Function, Reading, table, tables, variables, cell_numbers, output_numbers, is_wrong_at, one_of, first_of, plain_functions_at, block_functions}
 
 -- Where boxes are unknown, the variables are the inputs.
 
@@ -20,7 +20,7 @@ spec_bit spec place = λ x. bit_of (flat spec x []) place
 
 -- only the cells of the specification, over the inputs of the implementation, which are its own
 abbrev pub specification_functions : Netlist → Netlist → List Truth
-specification_functions spec imp = tables imp.inputs (map (spec_bit spec) (places spec))
+specification_functions spec imp = tables imp.inputs (map (spec_bit spec) (cell_numbers spec))
 
 abbrev pub is_one : Option Bool → Bool
 is_one None = false
@@ -93,8 +93,8 @@ known_tables imp place = cell_tables imp.inputs (high imp) (low imp) (cell_at im
 abbrev pub symbolic_functions : Netlist → Netlist → List Truth
 symbolic_functions spec imp =
     variables imp.inputs ++ (
-    tables imp.inputs (map (spec_bit spec) (places spec)) ++ (
-    flat_map (known_tables imp) (places imp) ++ flat_map (mismatches spec imp) (outputs imp)))
+    tables imp.inputs (map (spec_bit spec) (cell_numbers spec)) ++ (
+    flat_map (known_tables imp) (cell_numbers imp) ++ flat_map (mismatches spec imp) (output_numbers imp)))
 
 -- Where boxes may give any bits, the variables are the inputs and then the output pins of the boxes, box after box.
 
@@ -126,7 +126,7 @@ abbrev pub always_wrong : Netlist → Netlist → ℕ → Truth
 always_wrong spec imp j = quantified_block ◌&&◌ imp.inputs (output_pins imp.boxes) (table (inputs_and_pins imp) (is_wrong spec imp j))
 
 abbrev pub local_functions : Netlist → Netlist → List Truth
-local_functions spec imp = plain_functions spec imp ++ flat_map (wrong_for_all_pins spec imp) (outputs imp)
+local_functions spec imp = plain_functions spec imp ++ flat_map (wrong_for_all_pins spec imp) (output_numbers imp)
 
 -- one of the first outputs is wrong
 abbrev pub some_wrong : Netlist → Netlist → ℕ → Function
@@ -143,6 +143,6 @@ all_always_wrong spec imp = quantified_block ◌&&◌ imp.inputs (output_pins im
 abbrev pub output_functions : Netlist → Netlist → List Truth
 output_functions spec imp =
     plain_functions spec imp ++ (
-    tables (inputs_and_pins imp) (map (is_wrong spec imp) (outputs imp)) ++ (
-    tables (inputs_and_pins imp) (map (first_some_wrong spec imp) (outputs imp))
+    tables (inputs_and_pins imp) (map (is_wrong spec imp) (output_numbers imp)) ++ (
+    tables (inputs_and_pins imp) (map (first_some_wrong spec imp) (output_numbers imp))
     ++ for_all_pins imp (table (inputs_and_pins imp) (some_wrong spec imp (length imp.outs)))))

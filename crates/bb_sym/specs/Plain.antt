@@ -35,11 +35,11 @@ abbrev pub first_of : (ℕ → Function) → ℕ → Function
 first_of f j = one_of f (j + 1)
 
 -- the places of the cells of a netlist, and the numbers of its outputs
-abbrev pub places : Netlist → List ℕ
-places net = range_with_len 0 (length net.cells)
+abbrev pub cell_numbers : Netlist → List ℕ
+cell_numbers net = range_with_len 0 (length net.cells)
 
-abbrev pub outputs : Netlist → List ℕ
-outputs net = range_with_len 0 (length net.outs)
+abbrev pub output_numbers : Netlist → List ℕ
+output_numbers net = range_with_len 0 (length net.outs)
 
 -- how a point is read: the bits of the inputs, and those of the output pins of the boxes, box after box
 pub record Reading : Type 0 where
@@ -60,7 +60,7 @@ is_wrong_at r spec imp j = differ (cell_bit (without_pins r) spec (slice_index s
 
 -- the variables and the bits of all cells, as functions of n variables
 abbrev pub plain_functions_at : ℕ → Reading → Netlist → Netlist → List Truth
-plain_functions_at n r spec imp = variables n ++ tables n (map (cell_bit (without_pins r) spec) (places spec) ++ map (cell_bit r imp) (places imp))
+plain_functions_at n r spec imp = variables n ++ tables n (map (cell_bit (without_pins r) spec) (cell_numbers spec) ++ map (cell_bit r imp) (cell_numbers imp))
 
 -- a table with the variables from each one of a block on quantified, the last one first
 abbrev pub block_functions : (Bool → Bool → Bool) → ℕ → ℕ → Truth → List Truth

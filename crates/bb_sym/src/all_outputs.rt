@@ -3,10 +3,11 @@
 //! of all differences. All functions are made before a vector is looked for, so `Nodes` comes exactly where their beads
 //! exceed the budget, whatever would be found.
 
-ghost use Rattle.std.specs.Prelude.{◌≡◌, ◌≤◌, ◌+◌, ◌++◌, ℕ, [], length, map, Some, None, IfOk, OnOk, IsErrOf, IfSome, IfNone};
+ghost use Rattle.std.specs.Prelude.{◌≡◌, ◌≤◌, ◌+◌, ◌++◌, ℕ, [], length, map, Some, None, IfOk, OnOk, IsErrOf, IfSome};
+ghost use Rattle.std.specs.Prelude.{IfNone};
 ghost use Rattle.bb_bits.specs.Truth.{IsBeadOfAny};
 ghost use Rattle.bb_bits.specs.TruthSets.{HasMoreThan};
-ghost use Rattle.bb_net.specs.Conditions.{HasAlwaysWrong, AllSometimesRight};
+ghost use Rattle.bb_net.specs.Conditions.{AlwaysSomeWrongAt, AllRightTogether};
 ghost use Rattle.bb_net.specs.Values.{output_pins};
 ghost use Rattle.bb_sym.specs.Functions.{output_functions, all_always_wrong, inputs_and_pins};
 ghost use Rattle.bb_sym.specs.Finds.{FindsVector};
@@ -38,9 +39,11 @@ pub fn output(
     requires nodes { nodes ≤ 50000000 }
     requires cache_least { 1 ≤ cache }
     requires cache_most { cache ≤ 1048576 }
-    ensures found { IfOk result (λ answer. IfSome answer (FindsVector pair.now.imp (HasAlwaysWrong pair.now.spec pair.now.imp))) }
-    ensures none { IfOk result (λ answer. IfNone answer (AllSometimesRight pair.now.spec pair.now.imp)) }
-    ensures nodes { IsErrOf result RungFault.Nodes → HasMoreThan (IsBeadOfAny (output_functions pair.now.spec pair.now.imp)) nodes }
+    ensures found { IfOk result (λ answer.
+        IfSome answer (FindsVector pair.now.imp (AlwaysSomeWrongAt pair.now.spec pair.now.imp))) }
+    ensures none { IfOk result (λ answer. IfNone answer (AllRightTogether pair.now.spec pair.now.imp)) }
+    ensures nodes { IsErrOf result RungFault.Nodes
+        → HasMoreThan (IsBeadOfAny (output_functions pair.now.spec pair.now.imp)) nodes }
     ensures within { HasMoreThan (IsBeadOfAny (output_functions pair.now.spec pair.now.imp)) nodes → OnOk result ⊥ }
 {
     let spec = pair.spec();
@@ -68,9 +71,10 @@ pub fn output_of(
     requires nodes { nodes ≤ 50000000 }
     requires cache_least { 1 ≤ cache }
     requires cache_most { cache ≤ 1048576 }
-    ensures found { IfOk result (λ answer. IfSome answer (FindsVector imp.now (HasAlwaysWrong spec.now imp.now))) }
-    ensures none { IfOk result (λ answer. IfNone answer (AllSometimesRight spec.now imp.now)) }
-    ensures nodes { IsErrOf result RungFault.Nodes → HasMoreThan (IsBeadOfAny (output_functions spec.now imp.now)) nodes }
+    ensures found { IfOk result (λ answer. IfSome answer (FindsVector imp.now (AlwaysSomeWrongAt spec.now imp.now))) }
+    ensures none { IfOk result (λ answer. IfNone answer (AllRightTogether spec.now imp.now)) }
+    ensures nodes { IsErrOf result RungFault.Nodes
+        → HasMoreThan (IsBeadOfAny (output_functions spec.now imp.now)) nodes }
     ensures within { HasMoreThan (IsBeadOfAny (output_functions spec.now imp.now)) nodes → OnOk result ⊥ }
 {
     truth::quantifiers();

@@ -39,9 +39,12 @@ pub fn quantify_block(
     requires vars { first + count ≤ d.old.store.vars }
     requires few { d.old.store.vars ≤ 2048 }
     ensures kept { Keeps d.old.store d.new.store }
-    ensures result { IfOk result (Represents d.new.store (quantified_block (quantifier all) first count (truth_of d.old.store f.0))) }
-    ensures makes { OnOk result (Makes d.old.store d.new.store (block_functions (quantifier all) first count (truth_of d.old.store f.0))) }
-    ensures nodes { IsErrOf result RungFault.Nodes → AreTooMany d.old.store (block_functions (quantifier all) first count (truth_of d.old.store f.0)) }
+    ensures result { IfOk result (Represents d.new.store (quantified_block (quantifier all) first count
+        (truth_of d.old.store f.0))) }
+    ensures makes { OnOk result (Makes d.old.store d.new.store (block_functions (quantifier all) first count
+        (truth_of d.old.store f.0))) }
+    ensures nodes { IsErrOf result RungFault.Nodes
+        → AreTooMany d.old.store (block_functions (quantifier all) first count (truth_of d.old.store f.0)) }
 {
     truth::tables();
     truth::quantifiers();
@@ -63,8 +66,10 @@ fn quantify_one(d: &mut Diagrams, all: bool, f: Ref, v: u32, depends: bool) -> R
     requires v { v < d.old.store.vars }
     requires free { depends ≡ false → IsIndependent d.old.store.vars (truth_of d.old.store f.0) v }
     ensures kept { Keeps d.old.store d.new.store }
-    ensures ok { IfOk result (λ r. Adds d.old.store d.new.store (quantified (quantifier all) v (truth_of d.old.store f.0)) r.0) }
-    ensures full { IsErrOf result DdFault.Full → IsTooMany d.old.store (quantified (quantifier all) v (truth_of d.old.store f.0)) }
+    ensures ok { IfOk result (λ r.
+        Adds d.old.store d.new.store (quantified (quantifier all) v (truth_of d.old.store f.0)) r.0) }
+    ensures full { IsErrOf result DdFault.Full
+        → IsTooMany d.old.store (quantified (quantifier all) v (truth_of d.old.store f.0)) }
 {
     if !depends {
         truth::tables();

@@ -2,14 +2,16 @@
 //! since checks order inputs and pins differently. One loop serves both nets: a specification has no box, so variables
 //! of pins do not change it, by the law that without boxes every value is known.
 
-ghost use Rattle.std.specs.Prelude.{if◌then◌else◌, ◌≡◌, ◌+◌, ◌<◌, ◌≤◌, ℕ, [], length, IfOk, OnOk, IsErrOf, slice_index_or};
+ghost use Rattle.std.specs.Prelude.{if◌then◌else◌, ◌≡◌, ◌+◌, ◌<◌, ◌≤◌, ℕ, [], length, IfOk, OnOk, IsErrOf};
+ghost use Rattle.std.specs.Prelude.{slice_index_or};
 ghost use Rattle.bb_bits.specs.Truth.{variable};
 ghost use Rattle.bb_uniq.specs.Inside.Nodes.{IsRef};
 ghost use Rattle.bb_uniq.specs.Inside.Meaning.{Adds, Keeps, IsTooMany};
 ghost use Rattle.bb_net.specs.declared.cell.Cell.TheVariants as cells;
 ghost use Rattle.bb_net.specs.Netlists.{ReadsBefore};
 ghost use Rattle.bb_sym.specs.Plain.{Reading, AreVariables, cell_bit, table, variables, plain_functions_at};
-ghost use Rattle.bb_sym.specs.Inside.Made.{Makes, AreTooMany, RepresentAll, RepresentFirst, ForEachReading, AreRefs, AreCells, HaveCells};
+ghost use Rattle.bb_sym.specs.Inside.Made.{Makes, AreTooMany, RepresentAll, RepresentFirst, ForEachReading, AreRefs};
+ghost use Rattle.bb_sym.specs.Inside.Made.{AreCells, HaveCells};
 ghost use Rattle.bb_sym.specs.Inside.Made.{bits_tables, cell_table, tables_at};
 
 use crate::RungFault;
@@ -48,14 +50,15 @@ pub fn plain_cells(
     requires no_box { spec.now.boxes ≡ [] }
     requires variables { AreVariables d.old.store.vars first starts.now imp.now }
     ensures kept { Keeps d.old.store d.new.store }
-    ensures variables { IfOk result (λ made. RepresentFirst d.new.store (variable d.old.store.vars) d.old.store.vars made.variables.items) }
+    ensures variables { IfOk result (λ made.
+        RepresentFirst d.new.store (variable d.old.store.vars) d.old.store.vars made.variables.items) }
     ensures refs { IfOk result (λ made. AreCells d.new.store spec.now imp.now made.spec.items made.imp.items) }
     ensures cells { ForEachReading d.old.store.vars first starts.now imp.now
         (λ r. IfOk result (λ made. HaveCells d.new.store r spec.now imp.now made.spec.items made.imp.items)) }
     ensures makes { ForEachReading d.old.store.vars first starts.now imp.now
         (λ r. OnOk result (Makes d.old.store d.new.store (plain_functions_at d.old.store.vars r spec.now imp.now))) }
-    ensures nodes { ForEachReading d.old.store.vars first starts.now imp.now
-        (λ r. IsErrOf result RungFault.Nodes → AreTooMany d.old.store (plain_functions_at d.old.store.vars r spec.now imp.now)) }
+    ensures nodes { ForEachReading d.old.store.vars first starts.now imp.now (λ r. IsErrOf result RungFault.Nodes
+        → AreTooMany d.old.store (plain_functions_at d.old.store.vars r spec.now imp.now)) }
 {
     let variables = make_variables(alloc, d, vars)?;
     let spec = net_cells(alloc, d, spec, first, starts)?;
@@ -74,7 +77,8 @@ pub(crate) fn make_variables(
 ) -> Result<Vec<Ref>, RungFault>
     requires { count ≡ d.old.store.vars }
     ensures kept { Keeps d.old.store d.new.store }
-    ensures refs { IfOk result (λ made. RepresentFirst d.new.store (variable d.old.store.vars) d.old.store.vars made.items) }
+    ensures refs { IfOk result (λ made.
+        RepresentFirst d.new.store (variable d.old.store.vars) d.old.store.vars made.items) }
     ensures makes { OnOk result (Makes d.old.store d.new.store (variables d.old.store.vars)) }
     ensures nodes { IsErrOf result RungFault.Nodes → AreTooMany d.old.store (variables d.old.store.vars) }
 {
@@ -98,8 +102,8 @@ pub(crate) fn net_cells(
     ensures kept { Keeps d.old.store d.new.store }
     ensures count { IfOk result (λ made. length made.items ≡ length net.now.cells) }
     ensures refs { IfOk result (λ made. AreRefs d.new.store made.items) }
-    ensures cells { ForEachReading d.old.store.vars first starts.now net.now
-        (λ r. IfOk result (λ made. RepresentAll d.new.store (λ place. table d.old.store.vars (cell_bit r net.now place)) made.items)) }
+    ensures cells { ForEachReading d.old.store.vars first starts.now net.now (λ r. IfOk result (λ made.
+        RepresentAll d.new.store (λ place. table d.old.store.vars (cell_bit r net.now place)) made.items)) }
     ensures makes { ForEachReading d.old.store.vars first starts.now net.now
         (λ r. OnOk result (Makes d.old.store d.new.store (bits_tables d.old.store.vars r net.now))) }
     ensures nodes { ForEachReading d.old.store.vars first starts.now net.now
@@ -129,8 +133,10 @@ fn cell_diagram(
         → (b < length starts.now) × (slice_index_or starts.now b 0 + p < d.old.store.vars) }
     requires few { d.old.store.vars ≤ 2048 }
     requires made { AreRefs d.old.store made.now }
-    ensures ok { IfOk result (λ r. Adds d.old.store d.new.store (cell_table d.old.store.vars first starts.now (tables_at d.old.store made.now) cell) r.0) }
-    ensures full { IsErrOf result DdFault.Full → IsTooMany d.old.store (cell_table d.old.store.vars first starts.now (tables_at d.old.store made.now) cell) }
+    ensures ok { IfOk result (λ r. Adds d.old.store d.new.store
+        (cell_table d.old.store.vars first starts.now (tables_at d.old.store made.now) cell) r.0) }
+    ensures full { IsErrOf result DdFault.Full
+        → IsTooMany d.old.store (cell_table d.old.store.vars first starts.now (tables_at d.old.store made.now) cell) }
     ensures kept { Keeps d.old.store d.new.store }
 {
     laws::stores();

@@ -9,7 +9,7 @@ ghost use Rattle.bb_bits.specs.TruthSets.{HasMoreThan};
 ghost use Rattle.bb_net.specs.Conditions.{IsAlwaysWrong, EachSometimesRight};
 ghost use Rattle.bb_net.specs.Values.{output_pins};
 ghost use Rattle.bb_sym.specs.Functions.{inputs_first, local_functions, always_wrong, wrong_for_all_pins};
-ghost use Rattle.bb_sym.specs.Plain.{outputs};
+ghost use Rattle.bb_sym.specs.Plain.{output_numbers};
 ghost use Rattle.bb_sym.specs.Finds.{FindsOutput, IsSometimesRight};
 ghost use Rattle.bb_sym.specs.Inside.Made.{Makes, AreTooMany, Represents, RepresentAll, RepresentFirst, HaveCells};
 
@@ -34,10 +34,11 @@ pub fn local(alloc: Global, pair: &Pair, nodes: u32, cache: u32) -> Result<Optio
     requires nodes { nodes ≤ 50000000 }
     requires cache_least { 1 ≤ cache }
     requires cache_most { cache ≤ 1048576 }
-    ensures found { IfOk result (λ answer. IfSome answer
-        (FindsOutput pair.now.imp (IsAlwaysWrong pair.now.spec pair.now.imp) (IsSometimesRight pair.now.spec pair.now.imp))) }
+    ensures found { IfOk result (λ answer. IfSome answer (FindsOutput pair.now.imp
+        (IsAlwaysWrong pair.now.spec pair.now.imp) (IsSometimesRight pair.now.spec pair.now.imp))) }
     ensures none { IfOk result (λ answer. IfNone answer (EachSometimesRight pair.now.spec pair.now.imp)) }
-    ensures nodes { IsErrOf result RungFault.Nodes → HasMoreThan (IsBeadOfAny (local_functions pair.now.spec pair.now.imp)) nodes }
+    ensures nodes { IsErrOf result RungFault.Nodes
+        → HasMoreThan (IsBeadOfAny (local_functions pair.now.spec pair.now.imp)) nodes }
     ensures within { HasMoreThan (IsBeadOfAny (local_functions pair.now.spec pair.now.imp)) nodes → OnOk result ⊥ }
 {
     truth::quantifiers();
@@ -72,9 +73,11 @@ fn local_diagrams(
     requires pins { pins ≡ output_pins pair.now.imp.boxes }
     requires vars { inputs + pins ≡ d.old.store.vars }
     requires few { d.old.store.vars ≤ 2048 }
-    ensures refs { IfOk result (λ refs. RepresentFirst d.new.store (always_wrong pair.now.spec pair.now.imp) (length pair.now.imp.outs) refs.items) }
+    ensures refs { IfOk result (λ refs.
+        RepresentFirst d.new.store (always_wrong pair.now.spec pair.now.imp) (length pair.now.imp.outs) refs.items) }
     ensures makes { OnOk result (Makes d.old.store d.new.store (local_functions pair.now.spec pair.now.imp)) }
-    ensures nodes { IsErrOf result RungFault.Nodes → AreTooMany d.old.store (local_functions pair.now.spec pair.now.imp) }
+    ensures nodes { IsErrOf result RungFault.Nodes
+        → AreTooMany d.old.store (local_functions pair.now.spec pair.now.imp) }
 {
     let spec = pair.spec();
     let imp = pair.imp();
@@ -91,14 +94,19 @@ fn always_wrong_outputs(
     inputs: u32,
     pins: u32,
 ) -> Result<Vec<Ref>, RungFault>
-    requires made { HaveCells d.old.store (inputs_first pair.now.imp) pair.now.spec pair.now.imp made.now.spec.items made.now.imp.items }
+    requires made { HaveCells d.old.store (inputs_first pair.now.imp) pair.now.spec pair.now.imp made.now.spec.items
+        made.now.imp.items }
     requires inputs { inputs ≡ pair.now.imp.inputs }
     requires pins { pins ≡ output_pins pair.now.imp.boxes }
     requires vars { inputs + pins ≡ d.old.store.vars }
     requires few { d.old.store.vars ≤ 2048 }
-    ensures refs { IfOk result (λ refs. RepresentFirst d.new.store (always_wrong pair.now.spec pair.now.imp) (length pair.now.imp.outs) refs.items) }
-    ensures makes { OnOk result (Makes d.old.store d.new.store (flat_map (wrong_for_all_pins pair.now.spec pair.now.imp) (outputs pair.now.imp))) }
-    ensures nodes { IsErrOf result RungFault.Nodes → AreTooMany d.old.store (flat_map (wrong_for_all_pins pair.now.spec pair.now.imp) (outputs pair.now.imp)) }
+    ensures refs { IfOk result (λ refs.
+        RepresentFirst d.new.store (always_wrong pair.now.spec pair.now.imp) (length pair.now.imp.outs) refs.items) }
+    ensures makes { OnOk result (Makes d.old.store d.new.store (flat_map
+        (wrong_for_all_pins pair.now.spec pair.now.imp) (output_numbers pair.now.imp))) }
+    ensures nodes { IsErrOf result RungFault.Nodes
+        → AreTooMany d.old.store (flat_map (wrong_for_all_pins pair.now.spec pair.now.imp)
+        (output_numbers pair.now.imp)) }
 {
     let count = pair.imp().outs().len();
     let mut refs = Vec::with_capacity(alloc, count)?;
@@ -118,7 +126,8 @@ fn always_wrong_output(
     inputs: u32,
     pins: u32,
 ) -> Result<Ref, RungFault>
-    requires made { HaveCells d.old.store (inputs_first pair.now.imp) pair.now.spec pair.now.imp made.now.spec.items made.now.imp.items }
+    requires made { HaveCells d.old.store (inputs_first pair.now.imp) pair.now.spec pair.now.imp made.now.spec.items
+        made.now.imp.items }
     requires j { j < length pair.now.imp.outs }
     requires inputs { inputs ≡ pair.now.imp.inputs }
     requires pins { pins ≡ output_pins pair.now.imp.boxes }
@@ -126,7 +135,8 @@ fn always_wrong_output(
     requires few { d.old.store.vars ≤ 2048 }
     ensures result { IfOk result (Represents d.new.store (always_wrong pair.now.spec pair.now.imp j)) }
     ensures makes { OnOk result (Makes d.old.store d.new.store (wrong_for_all_pins pair.now.spec pair.now.imp j)) }
-    ensures nodes { IsErrOf result RungFault.Nodes → AreTooMany d.old.store (wrong_for_all_pins pair.now.spec pair.now.imp j) }
+    ensures nodes { IsErrOf result RungFault.Nodes
+        → AreTooMany d.old.store (wrong_for_all_pins pair.now.spec pair.now.imp j) }
 {
     let f = wrong_output(d, pair, made, j)?;
     let r = quantify_block(alloc, d, true, f, inputs, pins)?;

@@ -26,7 +26,8 @@ pub(crate) fn ordered_cells(
     requires vars { vars ≡ inputs_and_pins imp.now }
     requires store { vars ≡ d.old.store.vars }
     ensures refs { IfOk result (λ made. AreCells d.new.store spec.now imp.now made.spec.items made.imp.items) }
-    ensures cells { IfOk result (λ made. HaveCells d.new.store (inputs_first imp.now) spec.now imp.now made.spec.items made.imp.items) }
+    ensures cells { IfOk result (λ made.
+        HaveCells d.new.store (inputs_first imp.now) spec.now imp.now made.spec.items made.imp.items) }
     ensures makes { OnOk result (Makes d.old.store d.new.store (plain_functions spec.now imp.now)) }
     ensures nodes { IsErrOf result RungFault.Nodes → AreTooMany d.old.store (plain_functions spec.now imp.now) }
 {
@@ -50,7 +51,8 @@ pub(crate) fn count_pins(boxes: &[BoxPins]) -> u32
 fn first_variables(alloc: Global, first: u32, boxes: &[BoxPins]) -> Result<Vec<u32>, NoMemory>
     requires { first + output_pins boxes.now ≤ 2048 }
     ensures count { IfOk result (λ starts. length starts.items ≡ length boxes.now) }
-    ensures starts { IfOk result (λ starts. (b : ℕ) → b < length boxes.now → slice_index_or starts.items b 0 ≡ first + output_pins (take b boxes.now)) }
+    ensures starts { IfOk result (λ starts.
+        (b : ℕ) → b < length boxes.now → slice_index_or starts.items b 0 ≡ first + output_pins (take b boxes.now)) }
 {
     let mut starts = Vec::with_capacity(alloc, boxes.len())?;
     let mut next = first;

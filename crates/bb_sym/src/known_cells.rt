@@ -6,9 +6,10 @@ ghost use Rattle.std.specs.Prelude.{◌≡◌, [], length, IfOk, OnOk, IsErrOf};
 ghost use Rattle.std.specs.List.{flat_map};
 ghost use Rattle.bb_net.specs.Netlists.{ReadsBefore};
 ghost use Rattle.bb_sym.specs.Functions.{known_tables};
-ghost use Rattle.bb_sym.specs.Plain.{places};
+ghost use Rattle.bb_sym.specs.Plain.{cell_numbers};
 ghost use Rattle.bb_sym.specs.Inside.Made.{Makes, AreTooMany};
-ghost use Rattle.bb_sym.specs.Inside.Rails.{AreAllRails, HaveRails, HaveAllRails, rails_at, cell_rails, tables_made, known_rails};
+ghost use Rattle.bb_sym.specs.Inside.Rails.{AreAllRails, HaveRails, HaveAllRails, rails_at, cell_rails, tables_made};
+ghost use Rattle.bb_sym.specs.Inside.Rails.{known_rails};
 
 use crate::RungFault;
 use crate::cells::leaf;
@@ -26,8 +27,10 @@ pub(crate) fn known_cells(
     requires vars { net.now.inputs ≡ d.old.store.vars }
     ensures count { IfOk result (λ made. length made.items ≡ length net.now.cells) }
     ensures rails { IfOk result (λ made. HaveAllRails d.new.store (known_rails net.now) made.items) }
-    ensures makes { OnOk result (Makes d.old.store d.new.store (flat_map (known_tables net.now) (places net.now))) }
-    ensures nodes { IsErrOf result RungFault.Nodes → AreTooMany d.old.store (flat_map (known_tables net.now) (places net.now)) }
+    ensures makes { OnOk result (Makes d.old.store d.new.store (flat_map (known_tables net.now)
+        (cell_numbers net.now))) }
+    ensures nodes { IsErrOf result RungFault.Nodes
+        → AreTooMany d.old.store (flat_map (known_tables net.now) (cell_numbers net.now)) }
 {
     tern_exists();
     let cells = net.cells();
@@ -42,9 +45,12 @@ pub(crate) fn known_cells(
 fn known_cell(d: &mut Diagrams, cell: Cell, made: &[DualRail]) -> Result<DualRail, RungFault>
     requires reads { ReadsBefore d.old.store.vars [] (length made.now) cell }
     requires made { AreAllRails d.old.store made.now }
-    ensures rails { IfOk result (HaveRails d.new.store (cell_rails d.old.store.vars (rails_at d.old.store made.now) cell)) }
-    ensures makes { OnOk result (Makes d.old.store d.new.store (tables_made d.old.store.vars (rails_at d.old.store made.now) cell)) }
-    ensures nodes { IsErrOf result RungFault.Nodes → AreTooMany d.old.store (tables_made d.old.store.vars (rails_at d.old.store made.now) cell) }
+    ensures rails { IfOk result (HaveRails d.new.store (cell_rails d.old.store.vars (rails_at d.old.store made.now)
+        cell)) }
+    ensures makes { OnOk result (Makes d.old.store d.new.store (tables_made d.old.store.vars
+        (rails_at d.old.store made.now) cell)) }
+    ensures nodes { IsErrOf result RungFault.Nodes
+        → AreTooMany d.old.store (tables_made d.old.store.vars (rails_at d.old.store made.now) cell) }
 {
     laws::stores();
     laws::growth();

@@ -4,7 +4,8 @@
 ghost use Rattle.std.specs.Prelude.{◌<◌, IfOk, OnOk, IsErrOf};
 ghost use Rattle.bb_sym.specs.Inside.Made.{Makes, AreTooMany};
 ghost use Rattle.bb_sym.specs.Inside.Rails.{rails_of, AreRails, HaveRails, input_rails, input_tables};
-ghost use Rattle.bb_sym.specs.Inside.Rails.{and_rails, and_tables, or_rails, or_tables, xor_rails, xor_tables, mux_rails, mux_tables};
+ghost use Rattle.bb_sym.specs.Inside.Rails.{and_rails, and_tables, or_rails, or_tables, xor_rails, xor_tables};
+ghost use Rattle.bb_sym.specs.Inside.Rails.{mux_rails, mux_tables};
 
 use crate::RungFault;
 use crate::sums::{choice, sum_of_products};
@@ -33,8 +34,10 @@ pub(crate) fn known_and(d: &mut Diagrams, a: DualRail, b: DualRail) -> Result<Du
     requires a { AreRails d.old.store a }
     requires b { AreRails d.old.store b }
     ensures rails { IfOk result (HaveRails d.new.store (and_rails (rails_of d.old.store a) (rails_of d.old.store b))) }
-    ensures makes { OnOk result (Makes d.old.store d.new.store (and_tables (rails_of d.old.store a) (rails_of d.old.store b))) }
-    ensures nodes { IsErrOf result RungFault.Nodes → AreTooMany d.old.store (and_tables (rails_of d.old.store a) (rails_of d.old.store b)) }
+    ensures makes { OnOk result (Makes d.old.store d.new.store (and_tables (rails_of d.old.store a)
+        (rails_of d.old.store b))) }
+    ensures nodes { IsErrOf result RungFault.Nodes
+        → AreTooMany d.old.store (and_tables (rails_of d.old.store a) (rails_of d.old.store b)) }
 {
     let one = d.and(a.one, b.one)?;
     let zero = d.or(a.zero, b.zero)?;
@@ -46,8 +49,10 @@ pub(crate) fn known_or(d: &mut Diagrams, a: DualRail, b: DualRail) -> Result<Dua
     requires a { AreRails d.old.store a }
     requires b { AreRails d.old.store b }
     ensures rails { IfOk result (HaveRails d.new.store (or_rails (rails_of d.old.store a) (rails_of d.old.store b))) }
-    ensures makes { OnOk result (Makes d.old.store d.new.store (or_tables (rails_of d.old.store a) (rails_of d.old.store b))) }
-    ensures nodes { IsErrOf result RungFault.Nodes → AreTooMany d.old.store (or_tables (rails_of d.old.store a) (rails_of d.old.store b)) }
+    ensures makes { OnOk result (Makes d.old.store d.new.store (or_tables (rails_of d.old.store a)
+        (rails_of d.old.store b))) }
+    ensures nodes { IsErrOf result RungFault.Nodes
+        → AreTooMany d.old.store (or_tables (rails_of d.old.store a) (rails_of d.old.store b)) }
 {
     let zero = d.and(a.zero, b.zero)?;
     let one = d.or(a.one, b.one)?;
@@ -59,8 +64,10 @@ pub(crate) fn known_xor(d: &mut Diagrams, a: DualRail, b: DualRail) -> Result<Du
     requires a { AreRails d.old.store a }
     requires b { AreRails d.old.store b }
     ensures rails { IfOk result (HaveRails d.new.store (xor_rails (rails_of d.old.store a) (rails_of d.old.store b))) }
-    ensures makes { OnOk result (Makes d.old.store d.new.store (xor_tables (rails_of d.old.store a) (rails_of d.old.store b))) }
-    ensures nodes { IsErrOf result RungFault.Nodes → AreTooMany d.old.store (xor_tables (rails_of d.old.store a) (rails_of d.old.store b)) }
+    ensures makes { OnOk result (Makes d.old.store d.new.store (xor_tables (rails_of d.old.store a)
+        (rails_of d.old.store b))) }
+    ensures nodes { IsErrOf result RungFault.Nodes
+        → AreTooMany d.old.store (xor_tables (rails_of d.old.store a) (rails_of d.old.store b)) }
 {
     let one = sum_of_products(d, a.one, b.zero, a.zero, b.one)?;
     let zero = sum_of_products(d, a.one, b.one, a.zero, b.zero)?;
@@ -77,10 +84,13 @@ pub(crate) fn known_mux(
     requires c { AreRails d.old.store c }
     requires t { AreRails d.old.store t }
     requires e { AreRails d.old.store e }
-    ensures rails { IfOk result (HaveRails d.new.store (mux_rails (rails_of d.old.store c) (rails_of d.old.store t) (rails_of d.old.store e))) }
-    ensures makes { OnOk result (Makes d.old.store d.new.store (mux_tables (rails_of d.old.store c) (rails_of d.old.store t) (rails_of d.old.store e))) }
+    ensures rails { IfOk result (HaveRails d.new.store (mux_rails (rails_of d.old.store c) (rails_of d.old.store t)
+        (rails_of d.old.store e))) }
+    ensures makes { OnOk result (Makes d.old.store d.new.store (mux_tables (rails_of d.old.store c)
+        (rails_of d.old.store t) (rails_of d.old.store e))) }
     ensures nodes { IsErrOf result RungFault.Nodes
-        → AreTooMany d.old.store (mux_tables (rails_of d.old.store c) (rails_of d.old.store t) (rails_of d.old.store e)) }
+        → AreTooMany d.old.store (mux_tables (rails_of d.old.store c) (rails_of d.old.store t)
+        (rails_of d.old.store e)) }
 {
     let one = choice(d, c.one, c.zero, t.one, e.one)?;
     let zero = choice(d, c.one, c.zero, t.zero, e.zero)?;

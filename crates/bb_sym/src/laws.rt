@@ -4,7 +4,8 @@
 ghost use Rattle.bb_net.specs.Netlists.{Netlist, IsNetlist};
 ghost use Rattle.bb_sym.specs.Finds.{FindingsExist};
 ghost use Rattle.bb_sym.specs.Functions.{symbolic_functions, local_functions, output_functions};
-ghost use Rattle.bb_sym.specs.Laws.{CellsHoldSpecification, FunctionLaws, HoldsSpecification, KnownTableLaws, MakingLaws, PointLaws};
+ghost use Rattle.bb_sym.specs.Laws.{CellsHoldSpecification, FunctionLaws, HoldsSpecification, KnownTableLaws};
+ghost use Rattle.bb_sym.specs.Laws.{MakingLaws, PointLaws};
 
 use bb_bits::{number_is_below, truth};
 use bb_net::{tern_exists, vectors_hold_or_not};

@@ -6,9 +6,10 @@ ghost use Rattle.std.specs.List.{flat_map};
 ghost use Rattle.bb_uniq.specs.Inside.Nodes.{IsRef};
 ghost use Rattle.bb_uniq.specs.Inside.Meaning.{truth_of};
 ghost use Rattle.bb_sym.specs.Functions.{mismatch, mismatches};
-ghost use Rattle.bb_sym.specs.Plain.{outputs};
+ghost use Rattle.bb_sym.specs.Plain.{output_numbers};
 ghost use Rattle.bb_sym.specs.Inside.Made.{Makes, AreTooMany, Represents, RepresentAll, RepresentFirst};
-ghost use Rattle.bb_sym.specs.Inside.Rails.{rails_of, AreRails, HaveKnown, known_functions, known_wrong_table, known_wrong_tables};
+ghost use Rattle.bb_sym.specs.Inside.Rails.{rails_of, AreRails, HaveKnown, known_functions, known_wrong_table};
+ghost use Rattle.bb_sym.specs.Inside.Rails.{known_wrong_tables};
 
 use crate::RungFault;
 use crate::cells::{make_variables, net_cells};
@@ -33,9 +34,11 @@ pub(crate) fn input_cells(
     pair: &Pair,
 ) -> Result<InputCells, RungFault>
     requires vars { pair.now.imp.inputs ≡ d.old.store.vars }
-    ensures cells { IfOk result (λ made. HaveKnown d.new.store pair.now.spec pair.now.imp made.spec.items made.imp.items) }
+    ensures cells { IfOk result (λ made.
+        HaveKnown d.new.store pair.now.spec pair.now.imp made.spec.items made.imp.items) }
     ensures makes { OnOk result (Makes d.old.store d.new.store (known_functions pair.now.spec pair.now.imp)) }
-    ensures nodes { IsErrOf result RungFault.Nodes → AreTooMany d.old.store (known_functions pair.now.spec pair.now.imp) }
+    ensures nodes { IsErrOf result RungFault.Nodes
+        → AreTooMany d.old.store (known_functions pair.now.spec pair.now.imp) }
 {
     let spec_net = pair.spec();
     let imp_net = pair.imp();
@@ -53,9 +56,12 @@ pub(crate) fn known_wrong_outputs(
     made: &InputCells,
 ) -> Result<Vec<Ref>, RungFault>
     requires made { HaveKnown d.old.store pair.now.spec pair.now.imp made.now.spec.items made.now.imp.items }
-    ensures refs { IfOk result (λ refs. RepresentFirst d.new.store (mismatch pair.now.spec pair.now.imp) (length pair.now.imp.outs) refs.items) }
-    ensures makes { OnOk result (Makes d.old.store d.new.store (flat_map (mismatches pair.now.spec pair.now.imp) (outputs pair.now.imp))) }
-    ensures nodes { IsErrOf result RungFault.Nodes → AreTooMany d.old.store (flat_map (mismatches pair.now.spec pair.now.imp) (outputs pair.now.imp)) }
+    ensures refs { IfOk result (λ refs.
+        RepresentFirst d.new.store (mismatch pair.now.spec pair.now.imp) (length pair.now.imp.outs) refs.items) }
+    ensures makes { OnOk result (Makes d.old.store d.new.store (flat_map (mismatches pair.now.spec pair.now.imp)
+        (output_numbers pair.now.imp))) }
+    ensures nodes { IsErrOf result RungFault.Nodes
+        → AreTooMany d.old.store (flat_map (mismatches pair.now.spec pair.now.imp) (output_numbers pair.now.imp)) }
 {
     let count = pair.imp().outs().len();
     let mut refs = Vec::with_capacity(alloc, count)?;
@@ -89,8 +95,10 @@ fn known_wrong_output(
 fn wrong_where_known(d: &mut Diagrams, known: DualRail, wanted: Ref) -> Result<Ref, RungFault>
     requires known { AreRails d.old.store known }
     requires wanted { IsRef d.old.store wanted.0 }
-    ensures result { IfOk result (Represents d.new.store (known_wrong_table (rails_of d.old.store known) (truth_of d.old.store wanted.0))) }
-    ensures makes { OnOk result (Makes d.old.store d.new.store (known_wrong_tables (rails_of d.old.store known) (truth_of d.old.store wanted.0))) }
+    ensures result { IfOk result (Represents d.new.store (known_wrong_table (rails_of d.old.store known)
+        (truth_of d.old.store wanted.0))) }
+    ensures makes { OnOk result (Makes d.old.store d.new.store (known_wrong_tables (rails_of d.old.store known)
+        (truth_of d.old.store wanted.0))) }
     ensures nodes { IsErrOf result RungFault.Nodes
         → AreTooMany d.old.store (known_wrong_tables (rails_of d.old.store known) (truth_of d.old.store wanted.0)) }
 {

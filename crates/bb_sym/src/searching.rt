@@ -15,9 +15,12 @@ use bb_quant::least;
 pub(crate) fn first_true(d: &Diagrams, fs: &[Ref], point: &mut [bool]) -> Option<usize>
     requires fs { (j : ℕ) → j < length fs.now → IsRef d.now.store (ref_at fs.now j).0 }
     requires point { length point.old ≡ d.now.store.vars }
-    ensures found { IfSome result (λ j. (j < length fs.now) × IsLeastPoint (truth_of d.now.store (ref_at fs.now j).0) true 0 point.old point.new) }
-    ensures earlier { IfSome result (λ j. (i : ℕ) → i < j → IsNowhereTrue d.now.store.vars (truth_of d.now.store (ref_at fs.now i).0)) }
-    ensures none { IfNone result ((i : ℕ) → i < length fs.now → IsNowhereTrue d.now.store.vars (truth_of d.now.store (ref_at fs.now i).0)) }
+    ensures found { IfSome result (λ j.
+        (j < length fs.now) × IsLeastPoint (truth_of d.now.store (ref_at fs.now j).0) true 0 point.old point.new) }
+    ensures earlier { IfSome result (λ j.
+        (i : ℕ) → i < j → IsNowhereTrue d.now.store.vars (truth_of d.now.store (ref_at fs.now i).0)) }
+    ensures none { IfNone result ((i : ℕ) → i < length fs.now
+        → IsNowhereTrue d.now.store.vars (truth_of d.now.store (ref_at fs.now i).0)) }
 {
     for (j, f) in fs.iter().enumerate() {
         if least(d, *f, true, 0, point) {

@@ -25,8 +25,10 @@ pub fn specification_exceeds(
     requires nodes { nodes ≤ 50000000 }
     requires cache_least { 1 ≤ cache }
     requires cache_most { cache ≤ 1048576 }
-    ensures exceeds { IfOk result (λ exceeds. exceeds ≡ true → HasMoreThan (IsBeadOfAny (specification_functions pair.now.spec pair.now.imp)) nodes) }
-    ensures within { IfOk result (λ exceeds. exceeds ≡ false → HasMoreThan (IsBeadOfAny (specification_functions pair.now.spec pair.now.imp)) nodes → ⊥) }
+    ensures exceeds { IfOk result (λ exceeds.
+        exceeds ≡ true → HasMoreThan (IsBeadOfAny (specification_functions pair.now.spec pair.now.imp)) nodes) }
+    ensures within { IfOk result (λ exceeds.
+        exceeds ≡ false → HasMoreThan (IsBeadOfAny (specification_functions pair.now.spec pair.now.imp)) nodes → ⊥) }
 {
     truth::sizes();
     laws::sequences();

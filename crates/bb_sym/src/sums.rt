@@ -38,7 +38,8 @@ pub(crate) fn choice(d: &mut Diagrams, c: Ref, not_c: Ref, t: Ref, e: Ref) -> Re
     requires e { IsRef d.old.store e.0 }
     ensures result { IfOk result (Represents d.new.store (of_refs d.old.store choice_table c not_c t e)) }
     ensures makes { OnOk result (Makes d.old.store d.new.store (of_refs d.old.store choice_tables c not_c t e)) }
-    ensures nodes { IsErrOf result RungFault.Nodes → AreTooMany d.old.store (of_refs d.old.store choice_tables c not_c t e) }
+    ensures nodes { IsErrOf result RungFault.Nodes
+        → AreTooMany d.old.store (of_refs d.old.store choice_tables c not_c t e) }
 {
     let chosen = sum_of_products(d, c, t, not_c, e)?;
     let same = d.and(t, e)?;

@@ -35,7 +35,8 @@ pub fn symbolic(
     ensures found { IfOk result (λ answer. IfSome answer
         (FindsOutput pair.now.imp (IsKnownWrong pair.now.spec pair.now.imp) (MayBeRight pair.now.spec pair.now.imp))) }
     ensures none { IfOk result (λ answer. IfNone answer (MayBeRightEverywhere pair.now.spec pair.now.imp)) }
-    ensures nodes { IsErrOf result RungFault.Nodes → HasMoreThan (IsBeadOfAny (symbolic_functions pair.now.spec pair.now.imp)) nodes }
+    ensures nodes { IsErrOf result RungFault.Nodes
+        → HasMoreThan (IsBeadOfAny (symbolic_functions pair.now.spec pair.now.imp)) nodes }
     ensures within { HasMoreThan (IsBeadOfAny (symbolic_functions pair.now.spec pair.now.imp)) nodes → OnOk result ⊥ }
 {
     truth::sizes();
@@ -56,9 +57,11 @@ pub fn symbolic(
 
 fn symbolic_diagrams(alloc: Global, d: &mut Diagrams, pair: &Pair) -> Result<Vec<Ref>, RungFault>
     requires vars { pair.now.imp.inputs ≡ d.old.store.vars }
-    ensures refs { IfOk result (λ refs. RepresentFirst d.new.store (mismatch pair.now.spec pair.now.imp) (length pair.now.imp.outs) refs.items) }
+    ensures refs { IfOk result (λ refs.
+        RepresentFirst d.new.store (mismatch pair.now.spec pair.now.imp) (length pair.now.imp.outs) refs.items) }
     ensures makes { OnOk result (Makes d.old.store d.new.store (symbolic_functions pair.now.spec pair.now.imp)) }
-    ensures nodes { IsErrOf result RungFault.Nodes → AreTooMany d.old.store (symbolic_functions pair.now.spec pair.now.imp) }
+    ensures nodes { IsErrOf result RungFault.Nodes
+        → AreTooMany d.old.store (symbolic_functions pair.now.spec pair.now.imp) }
 {
     let made = input_cells(alloc, d, pair)?;
     let refs = known_wrong_outputs(alloc, d, pair, &made)?;

@@ -25,9 +25,12 @@ pub fn differ_at(
     requires same { spec.now.inputs ≡ imp.now.inputs }
     requires outputs { length spec.now.outs ≡ length imp.now.outs }
     ensures len { IfOk result (λ marks. length marks.items ≡ length patterns.now) }
-    ensures marks { IfOk result (λ marks. (k : ℕ) → k < length patterns.now → MatchBool (bit_of marks.items k)
-        (SomeWrong spec.now imp.now (pattern_at (map vec_items patterns.now) k) (flat imp.now (pattern_at (map vec_items patterns.now) k) []))
-        (AllRight spec.now imp.now (pattern_at (map vec_items patterns.now) k) (flat imp.now (pattern_at (map vec_items patterns.now) k) []))) }
+    ensures marks { IfOk result (λ marks. (k : ℕ) → k < length patterns.now
+        → MatchBool (bit_of marks.items k)
+        (SomeWrong spec.now imp.now (pattern_at (map vec_items patterns.now) k) (flat imp.now
+        (pattern_at (map vec_items patterns.now) k) []))
+        (AllRight spec.now imp.now (pattern_at (map vec_items patterns.now) k) (flat imp.now
+        (pattern_at (map vec_items patterns.now) k) []))) }
 {
     let wanted = words(alloc, spec, patterns)?;
     let given = words(alloc, imp, patterns)?;
@@ -41,7 +44,9 @@ pub fn words(alloc: Global, net: &Net, patterns: &[Vec<bool>]) -> Result<Vec<u64
     requires count { length patterns.now ≤ 64 }
     requires inputs { All (λ p. length p.items ≡ net.now.inputs) patterns.now }
     ensures len { IfOk result (λ words. length words.items ≡ length net.now.cells) }
-    ensures bits { IfOk result (λ words. (k : ℕ) → k < length patterns.now → HasBits words.items (length net.now.cells) k (bit_of (flat net.now (pattern_at (map vec_items patterns.now) k) []))) }
+    ensures bits { IfOk result (λ words. (k : ℕ) → k < length patterns.now
+        → HasBits words.items (length net.now.cells) k (bit_of (flat net.now
+        (pattern_at (map vec_items patterns.now) k) []))) }
 {
     value_exists();
     let cells = net.cells();
@@ -56,7 +61,9 @@ fn differing_lanes(spec_outs: &[u32], imp_outs: &[u32], wanted: &[u64], given: &
     requires same { length spec_outs.now ≡ length imp_outs.now }
     requires spec_cells { All (λ place. place < length wanted.now) spec_outs.now }
     requires imp_cells { All (λ place. place < length given.now) imp_outs.now }
-    ensures { (k : ℕ) → k < 64 → ReportsWrong (bits_in wanted.now k) (λ place. Some (bits_in given.now k place)) spec_outs.now imp_outs.now (length imp_outs.now) result k }
+    ensures { (k : ℕ) → k < 64
+        → ReportsWrong (bits_in wanted.now k) (λ place. Some (bits_in given.now k place)) spec_outs.now imp_outs.now
+        (length imp_outs.now) result k }
 {
     let mut lanes = 0;
     for (j, place) in imp_outs.iter().enumerate() {

@@ -2,7 +2,8 @@
 //! 64-bit xorshift register (Marsaglia 2003, shifts 13, 7 and 17). The seed fixes them, so a report is a function of
 //! the texts.
 
-ghost use Rattle.std.specs.Prelude.{◌≡◌, ◌+◌, ◌*◌, ◌≤◌, ◌<◌, ℕ, Bool, true, false, not, List, [], ◌∷◌, ◌++◌, length, map, replicate, vec_items, IfOk, OnOk};
+ghost use Rattle.std.specs.Prelude.{◌≡◌, ◌+◌, ◌*◌, ◌≤◌, ◌<◌, ℕ, Bool, true, false, not, List, [], ◌∷◌, ◌++◌, length};
+ghost use Rattle.std.specs.Prelude.{map, replicate, vec_items, IfOk, OnOk};
 ghost use Rattle.std.specs.List.{range_with_len};
 ghost use Rattle.bb_tern.specs.Patterns.{next_state, state_after, drawn_bit, drawn_pattern, one_against_all, patterns};
 
@@ -36,7 +37,8 @@ fn push_alone(
     inputs: u32,
     bit: bool,
 ) -> Result<(), NoMemory>
-    ensures ok { OnOk result (map vec_items all.new.items ≡ map vec_items all.old.items ++ map (one_against_all inputs bit (not bit)) (range_with_len 0 inputs)) }
+    ensures ok { OnOk result (map vec_items all.new.items
+        ≡ map vec_items all.old.items ++ map (one_against_all inputs bit (not bit)) (range_with_len 0 inputs)) }
 {
     for i in 0..inputs {
         all.push(one_alone(alloc, inputs, i, bit)?)?;
@@ -52,7 +54,8 @@ fn push_drawn(
     drawn: u32,
     seed: u64,
 ) -> Result<(), NoMemory>
-    ensures ok { OnOk result (map vec_items all.new.items ≡ map vec_items all.old.items ++ map (drawn_pattern inputs seed) (range_with_len 0 drawn)) }
+    ensures ok { OnOk result (map vec_items all.new.items
+        ≡ map vec_items all.old.items ++ map (drawn_pattern inputs seed) (range_with_len 0 drawn)) }
 {
     let mut state = seed;
     for _ in 0..drawn {
@@ -90,8 +93,10 @@ fn next(state: u64) -> u64
 }
 
 fn draw(alloc: Global, inputs: u32, state: &mut u64) -> Result<Vec<bool>, NoMemory>
-    ensures ok { IfOk result (λ pattern. (seed n : ℕ) → state.old ≡ state_after seed n → pattern.items ≡ map (drawn_bit seed) (range_with_len n inputs)) }
-    ensures state { IfOk result (λ pattern. (seed n : ℕ) → state.old ≡ state_after seed n → state.new ≡ state_after seed (n + inputs)) }
+    ensures ok { IfOk result (λ pattern. (seed n : ℕ) → state.old ≡ state_after seed n
+        → pattern.items ≡ map (drawn_bit seed) (range_with_len n inputs)) }
+    ensures state { IfOk result (λ pattern.
+        (seed n : ℕ) → state.old ≡ state_after seed n → state.new ≡ state_after seed (n + inputs)) }
 {
     let mut pattern = Vec::with_capacity(alloc, inputs as usize)?;
     for _ in 0..inputs {

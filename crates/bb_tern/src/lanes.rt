@@ -1,7 +1,8 @@
 //! Gates on words of 64 lanes. A value in three values is two words, "known to be 1" and "known to be 0", so X is in
 //! neither and gates are plain word operations. Laws speak of single lanes; only this file knows of words.
 
-ghost use Rattle.std.specs.Prelude.{◌≡◌, ◌<◌, ◌^◌, ℕ, Bool, true, false, not, ◌&&◌, ◌||◌, if◌then◌else◌, Option, Some, None, List, [], length};
+ghost use Rattle.std.specs.Prelude.{◌≡◌, ◌<◌, ◌^◌, ℕ, Bool, true, false, not, ◌&&◌, ◌||◌, if◌then◌else◌, Option, Some};
+ghost use Rattle.std.specs.Prelude.{None, List, [], length};
 ghost use Rattle.bb_net.specs.Netlists.{ReadsBefore};
 ghost use Rattle.bb_net.specs.Values.{xor};
 ghost use Rattle.bb_net.specs.Ternary.{not3, and3, or3, xor3, mux3};
@@ -115,7 +116,8 @@ fn known_xor(a: Known, b: Known) -> Known
 
 // Also known where the condition is X and both branches agree.
 fn known_mux(c: Known, t: Known, e: Known) -> Known
-    ensures { (k : ℕ) (p q r : Option Bool) → k < 64 → Holds c k p → Holds t k q → Holds e k r → Holds result k (mux3 p q r) }
+    ensures { (k : ℕ) (p q r : Option Bool) → k < 64 → Holds c k p → Holds t k q → Holds e k r
+        → Holds result k (mux3 p q r) }
 {
     Known {
         one: chosen_word(c, t.one, e.one),
@@ -124,7 +126,8 @@ fn known_mux(c: Known, t: Known, e: Known) -> Known
 }
 
 fn chosen_word(c: Known, t: u64, e: u64) -> u64
-    ensures { (k : ℕ) → k < 64 → lane result k ≡ (lane c.one k && lane t k || lane c.zero k && lane e k) || lane t k && lane e k }
+    ensures { (k : ℕ) → k < 64
+        → lane result k ≡ (lane c.one k && lane t k || lane c.zero k && lane e k) || lane t k && lane e k }
 {
     let chosen = or_word(and_word(c.one, t), and_word(c.zero, e));
     or_word(chosen, and_word(t, e))

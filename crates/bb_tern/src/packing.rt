@@ -9,7 +9,8 @@ pub fn pack(patterns: &[Vec<bool>], ins: &mut [u64])
     requires count { length patterns.now ≤ 64 }
     requires inputs { All (λ p. length p.items ≡ length ins.old) patterns.now }
     ensures len { length ins.new ≡ length ins.old }
-    ensures packed { (k : ℕ) → k < length patterns.now → HasPattern ins.new k (pattern_at (map vec_items patterns.now) k) }
+    ensures packed { (k : ℕ) → k < length patterns.now
+        → HasPattern ins.new k (pattern_at (map vec_items patterns.now) k) }
 {
     for i in 0..ins.len() {
         ins[i] = column(patterns, i);

@@ -1,9 +1,11 @@
 //! One pass of up to 64 patterns through both nets, over buffers that the caller reuses. All outputs are folded into
 //! one word first; only where it is not 0 is the output looked for.
 
-ghost use Rattle.std.specs.Prelude.{◌≡◌, ◌<◌, ◌≤◌, ℕ, Bool, true, false, [], Option, length, map, vec_items, All, IfSome, IfNone};
+ghost use Rattle.std.specs.Prelude.{◌≡◌, ◌<◌, ◌≤◌, ℕ, Bool, true, false, [], Option, length, map, vec_items, All};
+ghost use Rattle.std.specs.Prelude.{IfSome, IfNone};
 ghost use Rattle.bb_net.specs.Netlists.{ReadsBefore, cell_at};
-ghost use Rattle.bb_tern.specs.Inside.Lanes.{lane, Holds, AreWords, AreKnowns, is_known_wrong, ReportsAll, FindsFirst, HasRoom, AreFilled, IsHitAt, NoneIsHit};
+ghost use Rattle.bb_tern.specs.Inside.Lanes.{lane, Holds, AreWords, AreKnowns, is_known_wrong, ReportsAll, FindsFirst};
+ghost use Rattle.bb_tern.specs.Inside.Lanes.{HasRoom, AreFilled, IsHitAt, NoneIsHit};
 
 use crate::lanes::{Known, and_word, cell_known, cell_word, not_word, or_word};
 use crate::packing::pack;
@@ -12,7 +14,8 @@ use bb_net::{Cell, Pair, tern_exists, value_exists};
 // In cell order, so operands are written before they are read.
 pub fn write_words(cells: &[Cell], ins: &[u64], out: &mut [u64])
     requires room { length out.old ≡ length cells.now }
-    requires ordered { (place : ℕ) → place < length cells.now → ReadsBefore (length ins.now) [] place (cell_at cells.now place) }
+    requires ordered { (place : ℕ) → place < length cells.now
+        → ReadsBefore (length ins.now) [] place (cell_at cells.now place) }
     ensures len { length out.new ≡ length out.old }
     ensures written { AreWords cells.now ins.now out.new (length cells.now) }
 {
@@ -23,7 +26,8 @@ pub fn write_words(cells: &[Cell], ins: &[u64], out: &mut [u64])
 
 fn write_knowns(cells: &[Cell], ins: &[u64], out: &mut [Known])
     requires room { length out.old ≡ length cells.now }
-    requires ordered { (place : ℕ) → place < length cells.now → ReadsBefore (length ins.now) [] place (cell_at cells.now place) }
+    requires ordered { (place : ℕ) → place < length cells.now
+        → ReadsBefore (length ins.now) [] place (cell_at cells.now place) }
     ensures len { length out.new ≡ length out.old }
     ensures written { AreKnowns cells.now ins.now out.new (length cells.now) }
 {
@@ -34,7 +38,8 @@ fn write_knowns(cells: &[Cell], ins: &[u64], out: &mut [Known])
 
 // X is never wrong.
 fn wrong_word(wanted: u64, known: Known) -> u64
-    ensures { (k : ℕ) (bit : Bool) (value : Option Bool) → k < 64 → lane wanted k ≡ bit → Holds known k value → lane result k ≡ is_known_wrong bit value }
+    ensures { (k : ℕ) (bit : Bool) (value : Option Bool) → k < 64 → lane wanted k ≡ bit → Holds known k value
+        → lane result k ≡ is_known_wrong bit value }
 {
     let wrong_one = and_word(known.one, not_word(wanted));
     or_word(wrong_one, and_word(known.zero, wanted))
@@ -115,7 +120,8 @@ pub fn pass(
     requires count { length patterns.now ≤ 64 }
     requires inputs { All (λ p. length p.items ≡ pair.now.imp.inputs) patterns.now }
     requires room { HasRoom pair.now ins.old wanted.old known.old }
-    ensures hit { IfSome result (λ found. IsHitAt pair.now.spec pair.now.imp (map vec_items patterns.now) found.0 found.1) }
+    ensures hit { IfSome result (λ found.
+        IsHitAt pair.now.spec pair.now.imp (map vec_items patterns.now) found.0 found.1) }
     ensures none { IfNone result (NoneIsHit pair.now.spec pair.now.imp (map vec_items patterns.now)) }
     ensures room { HasRoom pair.now ins.new wanted.new known.new }
 {

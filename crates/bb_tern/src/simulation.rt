@@ -25,8 +25,10 @@ pub struct Hit {
 /// a bit for each input of the pair, in order.
 pub fn simulate(alloc: Global, pair: &Pair, patterns: &[Vec<bool>]) -> Result<Option<Hit>, NoMemory>
     requires { All (λ p. length p.items ≡ pair.now.imp.inputs) patterns.now }
-    ensures hit { IfOk result (λ found. IfSome found (λ h. IsFirstHit pair.now.spec pair.now.imp (map vec_items patterns.now) h.pattern.items h.output)) }
-    ensures none { IfOk result (λ found. IfNone found (MayBeRightAmong pair.now.spec pair.now.imp (map vec_items patterns.now))) }
+    ensures hit { IfOk result (λ found. IfSome found (λ h.
+        IsFirstHit pair.now.spec pair.now.imp (map vec_items patterns.now) h.pattern.items h.output)) }
+    ensures none { IfOk result (λ found.
+        IfNone found (MayBeRightAmong pair.now.spec pair.now.imp (map vec_items patterns.now))) }
 {
     let mut ins = vec![in alloc; 0; pair.imp().inputs() as usize]?;
     let mut wanted = vec![in alloc; 0; pair.spec().cells().len()]?;
@@ -50,7 +52,8 @@ fn first_hit(
 ) -> Option<(usize, usize)>
     requires inputs { All (λ p. length p.items ≡ pair.now.imp.inputs) patterns.now }
     requires room { HasRoom pair.now ins.old wanted.old known.old }
-    ensures hit { IfSome result (λ found. IsHitAt pair.now.spec pair.now.imp (map vec_items patterns.now) found.0 found.1) }
+    ensures hit { IfSome result (λ found.
+        IsHitAt pair.now.spec pair.now.imp (map vec_items patterns.now) found.0 found.1) }
     ensures none { IfNone result (NoneIsHit pair.now.spec pair.now.imp (map vec_items patterns.now)) }
 {
     let mut start = 0;

@@ -2,12 +2,14 @@
 //! worked out by hand, and values are those that the scripts in contrib/ find from the texts alone: `contrib/check`
 //! reads this file and finds them anew.
 
-/// The designs, with an empty line between two: a name with what it shows, the text, the names, and values.
-/// Names are the inputs, registers with edge and number of the clock, outputs, boxes with their pins. A line of values has a table
-/// for each box, its rows one after the other, and then vectors with their outputs: a bit for each input and register, and one for
-/// each output and next state. Up to five inputs all vectors are there, else some. A stroke stands for a table without bits.
+/// The designs, with an empty line between two: a name with what it shows, the text, the names, and values. Names are
+/// the inputs, registers with edge and number of the clock, outputs, boxes with their pins. A line of values has a
+/// table for each box, its rows one after the other, and then vectors with their outputs: a bit for each input and
+/// register, and one for each output and next state. Up to five inputs all vectors are there, else some. A stroke
+/// stands for a table without bits.
 pub(crate) const DESIGNS: &str = r#"design ADDER: Two half adders.
-module t(a, b, c, s, o); input a, b, c; output s, o; ha u1(a, b, p, q), u2(.c(r), .y(c), .x(p), .s(s)); or(o, q, r); endmodule
+module t(a, b, c, s, o); input a, b, c; output s, o; ha u1(a, b, p, q), u2(.c(r), .y(c), .x(p), .s(s)); or(o, q, r);
+endmodule
 module ha(x, y, s, c); input x, y; output s, c; xor(s, x, y); and(c, x, y); endmodule
 names in a b c out s o
 values: 000:00 001:10 010:10 011:01 100:10 101:01 110:01 111:11
@@ -45,7 +47,8 @@ values: 1011001:011001 1011110:101110 1011111:110111 1101001:011001 1101111:1101
 values: 1111101:010011 1111110:101111 1111111:110111
 
 design CLOCKS: Registers in instances, whose clocks come over copies, over a gate and out of a bus.
-module t(c, d, y); input [1:0] c; input d; output y; m u(c[0], d, v), w(x, v, z); and(g, c[1], d); m x1(.q(y), .c(g), .d(z));
+module t(c, d, y); input [1:0] c; input d; output y; m u(c[0], d, v), w(x, v, z); and(g, c[1], d);
+m x1(.q(y), .c(g), .d(z));
 buf(e, c[1]); assign x = ~~e; reg r; always @(posedge e) r <= y; endmodule
 module m(c, d, q); input c, d; output reg q; always @(posedge c) q <= ~d; endmodule
 names in c[1] c[0] d pos r@0 pos u.q@1 pos w.q@0 pos x1.q@? out y
@@ -55,7 +58,8 @@ values: 1000010:00110 1000101:11101 1010100:00001 1011001:11011 1011110:00000 10
 values: 1110111:11000 1111011:11010 1111101:11001 1111110:00000 1111111:11000
 
 design COPIES: Copies of copies, through instances and gates of one input.
-module t(a, y); input [1:0] a; output [1:0] y; wire [1:0] v, w, x; assign v = {a[0], a[1]}; buf(w[0], v[1]); or(w[1], v[0]);
+module t(a, y); input [1:0] a; output [1:0] y; wire [1:0] v, w, x; assign v = {a[0], a[1]}; buf(w[0], v[1]);
+or(w[1], v[0]);
 k u(w, x); k v1(.q(y), .p(x)); endmodule
 module k(p, q); input [1:0] p; output [1:0] q; wire [0:1] m = ~~p; n u({m[0], m[1]}, q); endmodule
 module n(p, q); input [1:0] p; output [0:1] q; assign q = p; endmodule
@@ -63,14 +67,16 @@ names in a[1] a[0] out y[1] y[0]
 values: 00:00 01:01 10:10 11:11
 
 design SUPPLIES: Constants.
-module t(a, y, z); input a; output [2:0] y; output z; supply1 [1:0] h; supply0 l; assign y = {h[0], l, a} ^ h; k u(l, z);
+module t(a, y, z); input a; output [2:0] y; output z; supply1 [1:0] h; supply0 l; assign y = {h[0], l, a} ^ h;
+k u(l, z);
 endmodule
 module k(p, q); input p; output q; supply1 h; xor(q, p, h); endmodule
 names in a out y[2] y[1] y[0] z
 values: 0:1111 1:1101
 
 design GATES: Gates with several outputs, and each gate with one, two and three inputs.
-module t(a, b, c, y, z, w); input a, b, c; output [1:3] y; output [17:0] z; output w; buf(y[2], y[1], a); not(y[3], w, b);
+module t(a, b, c, y, z, w); input a, b, c; output [1:3] y; output [17:0] z; output w; buf(y[2], y[1], a);
+not(y[3], w, b);
 and g1(z[0], a), g2(z[1], a, b), (z[2], a, b, c); nand(z[3], a), (z[4], a, b), (z[5], a, b, c);
 or(z[6], a), (z[7], a, b), (z[8], a, b, c);
 nor(z[9], a), (z[10], a, b), (z[11], a, b, c); xor(z[12], a), (z[13], a, b), (z[14], a, b, c);
@@ -92,7 +98,8 @@ design WIDTHS: What is wider or less wide than what it is given to.
 module t(a, b, y, z, w, v); input a; input [1:0] b; output [3:0] y; output [1:0] z; output [2:0] w, v;
 assign y = ~a, z = {a, b} ^ 3'b101, w = b | 5; wire c = ~b; assign v = {c, a} ~^ b | 4'b10_00; endmodule
 names in a b[1] b[0] out y[3] y[2] y[1] y[0] z[1] z[0] w[2] w[1] w[0] v[2] v[1] v[0]
-values: 000:111101101101 001:111100101110 010:111111111111 011:111110111100 100:111001101100 101:111000101111 110:111011111110
+values: 000:111101101101 001:111100101110 010:111111111111 011:111110111100 100:111001101100 101:111000101111
+values: 110:111011111110
 values: 111:111010111101
 
 design BOXES: A box in the top and one in an instance, one behind the other.
@@ -130,7 +137,8 @@ values 0 -: 0:0 1:0
 values 1 -: 0:1 1:1
 
 design STATES: A box between registers.
-module t(c, a, y); input c, a; output y; reg [1:0] q; bx u(q[1], w); always @(posedge c) q <= {w, a & q[1]}; not(y, q[0]);
+module t(c, a, y); input c, a; output y; reg [1:0] q; bx u(q[1], w); always @(posedge c) q <= {w, a & q[1]};
+not(y, q[0]);
 endmodule
 module bx(i, o); input i; output o; endmodule
 names in c a pos q[1]@0 pos q[0]@0 out y box u: i -> o
@@ -171,11 +179,15 @@ endmodule
 (* blackbox *)
 module hole(i, o); input [1:0] i; output o; endmodule
 names in clk d[1] d[0] pos u1.q[1]@0 pos u1.q[0]@0 out y box h: i[1] i[0] -> o
-values 0010: 00000:000 00001:001 00010:110 00011:011 00100:001 00101:000 00110:111 00111:010 01000:010 01001:011 01010:100
-values 0010: 01011:001 01100:011 01101:010 01110:101 01111:000 10000:000 10001:001 10010:110 10011:011 10100:001 10101:000
+values 0010: 00000:000 00001:001 00010:110 00011:011 00100:001 00101:000 00110:111 00111:010 01000:010 01001:011
+values 0010: 01010:100
+values 0010: 01011:001 01100:011 01101:010 01110:101 01111:000 10000:000 10001:001 10010:110 10011:011 10100:001
+values 0010: 10101:000
 values 0010: 10110:111 10111:010 11000:010 11001:011 11010:100 11011:001 11100:011 11101:010 11110:101 11111:000
-values 1101: 00000:100 00001:101 00010:010 00011:111 00100:101 00101:100 00110:011 00111:110 01000:110 01001:111 01010:000
-values 1101: 01011:101 01100:111 01101:110 01110:001 01111:100 10000:100 10001:101 10010:010 10011:111 10100:101 10101:100
+values 1101: 00000:100 00001:101 00010:010 00011:111 00100:101 00101:100 00110:011 00111:110 01000:110 01001:111
+values 1101: 01010:000
+values 1101: 01011:101 01100:111 01101:110 01110:001 01111:100 10000:100 10001:101 10010:010 10011:111 10100:101
+values 1101: 10101:100
 values 1101: 10110:011 10111:110 11000:110 11001:111 11010:000 11011:101 11100:111 11101:110 11110:001 11111:100"#;
 
 /// What is reported of a design: its text, its names, and its lines of values.

@@ -46,61 +46,63 @@ fn printed<R: Abort>(rt: &R, alloc: Global, flat: &Flat, tables: &[Table]) -> Re
 
 // Each design with the rows of its tables, and its filled text or fault.
 const FILLED: &str =
-    r"module t(a, y); input a; output y; bx u(a, y); endmodule module bx(i, o); input i; output o; endmodule
+    "module t(a, y); input a; output y; bx u(a, y); endmodule module bx(i, o); input i; output o; endmodule
 10
-module filled(\a ,\y );
-input \a ;
-output \y ;
-assign _t0 = \a  ? 1'b0 : 1'b1;
+module filled(\\a ,\\y );
+input \\a ;
+output \\y ;
+assign _t0 = \\a  ? 1'b0 : 1'b1;
 buf(_3,_t0);
-buf(\y ,_3);
+buf(\\y ,_3);
 endmodule
 
 ---
 module t(c, d, q); input c, d; output reg q; always @(posedge c) q <= d; endmodule
 
-module filled(\c ,\d ,\q );
-input \c ;
-input \d ;
-output \q ;
-reg \q ;
-always @(posedge \c ) \q  <= \d ;
+module filled(\\c ,\\d ,\\q );
+input \\c ;
+input \\d ;
+output \\q ;
+reg \\q ;
+always @(posedge \\c ) \\q  <= \\d ;
 endmodule
 
 ---
-module t(_a, b, y); input _a, b; output y; wire w; b2 u(_a, b, y, w); endmodule module b2(i, j, o, p); input i, j; output o, p; endmodule
+module t(_a, b, y); input _a, b; output y; wire w; b2 u(_a, b, y, w); endmodule module b2(i, j, o, p); input i, j; \
+    output o, p; endmodule
 00010110
-module filled(\_a ,\b ,\y );
-input \_a ;
-input \b ;
-output \y ;
-assign __t0 = \b  ? 1'b0 : 1'b0;
-assign __t1 = \b  ? 1'b1 : 1'b0;
-assign __t2 = \_a  ? __t1 : __t0;
+module filled(\\_a ,\\b ,\\y );
+input \\_a ;
+input \\b ;
+output \\y ;
+assign __t0 = \\b  ? 1'b0 : 1'b0;
+assign __t1 = \\b  ? 1'b1 : 1'b0;
+assign __t2 = \\_a  ? __t1 : __t0;
 buf(__4,__t2);
-assign __t3 = \b  ? 1'b1 : 1'b0;
-assign __t4 = \b  ? 1'b0 : 1'b1;
-assign __t5 = \_a  ? __t4 : __t3;
+assign __t3 = \\b  ? 1'b1 : 1'b0;
+assign __t4 = \\b  ? 1'b0 : 1'b1;
+assign __t5 = \\_a  ? __t4 : __t3;
 buf(__5,__t5);
-buf(\y ,__4);
+buf(\\y ,__4);
 endmodule
 
 ---
-module t(c, a, b, y, z); input c, a, b; output y, z; reg r; wire s = a ? b : 1'b0; always @(negedge c) r <= s; xor(y, a, r); or(z, b, 1'b1); endmodule
+module t(c, a, b, y, z); input c, a, b; output y, z; reg r; wire s = a ? b : 1'b0; always @(negedge c) r <= s; xor(y, \
+    a, r); or(z, b, 1'b1); endmodule
 
-module filled(\c ,\a ,\b ,\y ,\z );
-input \c ;
-input \a ;
-input \b ;
-output \y ;
-output \z ;
-reg \r ;
-assign _6 = \a  ? \b  : 1'b0;
-xor(_7,\a ,\r );
-or(_8,\b ,1'b1);
-buf(\y ,_7);
-buf(\z ,_8);
-always @(negedge \c ) \r  <= _6;
+module filled(\\c ,\\a ,\\b ,\\y ,\\z );
+input \\c ;
+input \\a ;
+input \\b ;
+output \\y ;
+output \\z ;
+reg \\r ;
+assign _6 = \\a  ? \\b  : 1'b0;
+xor(_7,\\a ,\\r );
+or(_8,\\b ,1'b1);
+buf(\\y ,_7);
+buf(\\z ,_8);
+always @(negedge \\c ) \\r  <= _6;
 endmodule
 
 ---
@@ -110,22 +112,24 @@ module filled();
 endmodule
 
 ---
-module t(c, d, \u.q ); input c, d; output \u.q ; m u(c, d, \u.q ); endmodule module m(c, d, q); input c, d; output reg q; always @(posedge c) q <= d; endmodule
+module t(c, d, \\u.q ); input c, d; output \\u.q ; m u(c, d, \\u.q ); endmodule module m(c, d, q); input c, d; output \
+    reg q; always @(posedge c) q <= d; endmodule
 
-module filled(\c ,\d ,\u.q );
-input \c ;
-input \d ;
-output \u.q ;
-reg \u.q ;
-always @(posedge \c ) \u.q  <= \d ;
+module filled(\\c ,\\d ,\\u.q );
+input \\c ;
+input \\d ;
+output \\u.q ;
+reg \\u.q ;
+always @(posedge \\c ) \\u.q  <= \\d ;
 endmodule
 
 ---
-module t(c, d, \u.q ); input c, d; output \u.q ; wire w; m u(c, d, w); not(\u.q , w); endmodule module m(c, d, q); input c, d; output reg q; always @(posedge c) q <= d; endmodule
+module t(c, d, \\u.q ); input c, d; output \\u.q ; wire w; m u(c, d, w); not(\\u.q , w); endmodule module m(c, d, q); \
+    input c, d; output reg q; always @(posedge c) q <= d; endmodule
 
 clash u.q
 ---
-module t(a, \a[0] ); input [0:0] a; output \a[0] ; buf(\a[0] , a[0]); endmodule
+module t(a, \\a[0] ); input [0:0] a; output \\a[0] ; buf(\\a[0] , a[0]); endmodule
 
 clash a[0]";
 
@@ -142,7 +146,8 @@ fn texts_of_filled_designs(rt: HostRuntime) -> Result<(), Fail> {
 }
 
 const TREE: &[u8] =
-    b"module t(a, y); input a; output y; bx u({20{a}}, y); endmodule module bx(i, o); input [19:0] i; output o; endmodule";
+    b"module t(a, y); input a; output y; bx u({20{a}}, y); endmodule module bx(i, o); input [19:0] i; output o; \
+        endmodule";
 
 // Each bound alone: a tree with too many nets, and six hundred gates that read an input with a name of 65,536 bytes,
 // for the bound on bytes.
@@ -157,7 +162,8 @@ fn texts_that_are_too_large(rt: HostRuntime) -> Result<(), Fail> {
         name.push('n')?;
     }
     let text = format!(in rt.alloc();
-        "module t({name}, b, y); input {name}, b; output [599:0] y; assign y = {{600{{{name}}}}} & {{600{{b}}}}; endmodule"
+        "module t({name}, b, y); input {name}, b; output [599:0] y; assign y = {{600{{{name}}}}} & {{600{{b}}}}; \
+            endmodule"
     )?;
     let flat = flat_of(&rt, rt.alloc(), text.as_bytes(), Some(b"t"))?;
     let found = printed(&rt, rt.alloc(), &flat, &[])?;

@@ -1,7 +1,7 @@
 //! Tables that fit the boxes of a netlist: tests of a premise that the calls have.
 
 ghost use Rattle.std.specs.Prelude.{◌≡◌, true, length};
-ghost use Rattle.bb_net.specs.Kinds.{spread};
+ghost use Rattle.bb_net.specs.Kinds.{per_box};
 ghost use Rattle.bb_net.specs.Values.{FitBoxes};
 
 use bb_bits::{Table, tables_have_all_bits};
@@ -39,7 +39,7 @@ fn has_pins(table: &Table, pins: &BoxPins) -> bool
 
 /// Each box has a sharing class whose table has its numbers of pins.
 pub(crate) fn fit_kinds(tables: &[Table], kinds: &[u32], boxes: &[BoxPins]) -> bool
-    ensures { result ≡ true → FitBoxes (spread kinds.now tables.now) boxes.now }
+    ensures { result ≡ true → FitBoxes (per_box kinds.now tables.now) boxes.now }
 {
     tables_have_all_bits(tables);
     if kinds.len() != boxes.len() {

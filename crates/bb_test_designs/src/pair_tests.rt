@@ -46,24 +46,33 @@ const PAIRS: &str = "\
 : RISING / RISING => in c d q out y next q
 : WRITTEN / SYNTHESIZED => in clk d[1] d[0] u1.q[1] u1.q[0] out y next u1.q[1] next u1.q[0] box h 0
 // The order is that of the specification.
-: module s(a, y, b, z); input a, b; output y, z; reg p, q; always @(posedge a) p <= b; always @(posedge a) q <= a; and(y, p, q); or(z, a, b); endmodule / module t(z, b, a, y); output z, y; input b, a; reg q; reg p; always @(posedge a) p <= b; always @(posedge a) q <= a; and(y, p, q); or(z, a, b); endmodule => in a b p q out y z next p next q
+: module s(a, y, b, z); input a, b; output y, z; reg p, q; always @(posedge a) p <= b; always @(posedge a) q <= a; \
+    and(y, p, q); or(z, a, b); endmodule / module t(z, b, a, y); output z, y; input b, a; reg q; reg p; always \
+    @(posedge a) p <= b; always @(posedge a) q <= a; and(y, p, q); or(z, a, b); endmodule => in a b p q out y z next p \
+    next q
 // A bus and its bits under escaped names.
-: module s(a, y); input [1:0] a; output y; and(y, a[1], a[0]); endmodule / module t(\\a[0] , \\a[1] , y); input \\a[0] , \\a[1] ; output y; and(y, \\a[0] , \\a[1] ); endmodule => in a[1] a[0] out y
+: module s(a, y); input [1:0] a; output y; and(y, a[1], a[0]); endmodule / module t(\\a[0] , \\a[1] , y); input \\a[0] \
+    , \\a[1] ; output y; and(y, \\a[0] , \\a[1] ); endmodule => in a[1] a[0] out y
 // A clock over copies is the same clock.
-: RISING / module t(d,c,y); input c,d; output y; reg q; buf(e,c); assign f = ~~e; always @(posedge f) q <= d; buf(y,q); endmodule => in c d q out y next q
-shared: RISING / module t(d,c,y); input c,d; output y; reg q; buf(e,c); assign f = ~~e; always @(posedge f) q <= d; buf(y,q); endmodule => in c d q out y next q
+: RISING / module t(d,c,y); input c,d; output y; reg q; buf(e,c); assign f = ~~e; always @(posedge f) q <= d; \
+    buf(y,q); endmodule => in c d q out y next q
+shared: RISING / module t(d,c,y); input c,d; output y; reg q; buf(e,c); assign f = ~~e; always @(posedge f) q <= d; \
+    buf(y,q); endmodule => in c d q out y next q
 // Boxes of one module may be of one kind.
 shared: COPY / BOX => in a out y box u 0
 shared: COPY / CHAINED => in a out y box u2 0 box u1 0
 // Two modules, one of which comes again after the other.
-shared: module s(a, x, y, z); input a; output x, y, z; buf(x, a); buf(y, a); buf(z, a); endmodule / module t(a, x, y, z); input a; output x, y, z; bx u(a, x); by v(a, y); bx w(a, z); endmodule module bx(i, o); input i; output o; endmodule module by(i, o); input i; output o; endmodule => in a out x y z box u 0 box v 1 box w 0
+shared: module s(a, x, y, z); input a; output x, y, z; buf(x, a); buf(y, a); buf(z, a); endmodule / module t(a, x, y, \
+    z); input a; output x, y, z; bx u(a, x); by v(a, y); bx w(a, z); endmodule module bx(i, o); input i; output o; \
+    endmodule module by(i, o); input i; output o; endmodule => in a out x y z box u 0 box v 1 box w 0
 // A care output is left out.
 care k: module s(a, k, y); input a; output k, y; buf(y, a); not(k, a); endmodule / COPY => in a out y
 care k: module s(a, y, k); input a; output y, k; buf(y, a); not(k, a); endmodule / BOX => in a out y box u 0
 // It is the only output.
 care k: module s(a, k); input a; output k; buf(k, a); endmodule / module t(a); input a; endmodule => in a out
 // A register of its name stays one.
-care k: module s(c, k); input c; output k; reg k; always @(posedge c) k <= c; endmodule / module t(c); input c; reg k; always @(posedge c) k <= c; endmodule => in c k out next k";
+care k: module s(c, k); input c; output k; reg k; always @(posedge c) k <= c; endmodule / module t(c); input c; reg k; \
+    always @(posedge c) k <= c; endmodule => in c k out next k";
 
 #[test]
 fn names_of_pairs(rt: HostRuntime) -> Result<(), Fail> {

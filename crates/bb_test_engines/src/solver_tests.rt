@@ -56,7 +56,8 @@ const FORMULAS: &str = "\
 // three pigeons have no place in two holes: pigeon i sits in hole j where variable 2i + j - 2 is true
 6: 1 2 0 3 4 0 5 6 0 -1 -3 0 -1 -5 0 -3 -5 0 -2 -4 0 -2 -6 0 -4 -6 0 => refuted";
 
-// Two chains of clauses i or i + 1, over the variables 1 to 100 and 103 to 202, and between them all four clauses over two more.
+// Two chains of clauses i or i + 1, over the variables 1 to 100 and 103 to 202, and between them all four clauses over
+// two more.
 fn chains(alloc: Global) -> Result<Vec<SmallVec<Lit, 4>>, Fail> {
     let mut all = clauses(alloc, "101 102 0 -101 102 0 101 -102 0 -101 -102 0")?;
     for i in 1..202 {

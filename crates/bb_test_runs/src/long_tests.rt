@@ -33,7 +33,8 @@ fn long_texts_are_refused(rt: HostRuntime) -> Result<(), Fail> {
 fn a_wide_box_is_too_large(rt: HostRuntime) -> Result<(), Fail> {
     let spec = b"module s(a,y); input a; output y; buf(y,a); endmodule";
     let imp =
-        b"module t(a,y); input a; output y; bw u(.p({20{a}}),.o(y)); endmodule module bw(p,o); input [19:0] p; output o; endmodule";
+        b"module t(a,y); input a; output y; bw u(.p({20{a}}),.o(y)); endmodule module bw(p,o); input [19:0] p; output \
+            o; endmodule";
     let line = "bbeq s.v i.v --from input --to input --fill";
     let found = run_over(rt.alloc(), line, (spec, imp))?;
     assert_eq!(rt; found.status, 0);
@@ -50,7 +51,8 @@ fn a_wide_box_is_too_large(rt: HostRuntime) -> Result<(), Fail> {
 fn proofs_are_shown(rt: HostRuntime) -> Result<(), Fail> {
     let spec = b"module s(a,b,y1,y2); input a,b; output y1,y2; buf(y1,a); buf(y2,a); endmodule";
     let imp =
-        b"module t(a,b,y1,y2); input a,b; output y1,y2; bx u1(a,y1); bx u2(b,y2); endmodule module bx(i,o); input i; output o; endmodule";
+        b"module t(a,b,y1,y2); input a,b; output y1,y2; bx u1(a,y1); bx u2(b,y2); endmodule module bx(i,o); input i; \
+            output o; endmodule";
     let line = "bbeq s.v i.v --from expand --proof";
     let found = run_over(rt.alloc(), line, (spec, imp))?;
     assert_eq!(rt; found.status, 1);

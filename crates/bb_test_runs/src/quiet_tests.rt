@@ -11,13 +11,15 @@ const ADDER: &str =
     "module s(a,b,c,s,co); input a,b,c; output s,co; xor(s,a,b,c); assign co = a & b | a & c | b & c; endmodule";
 
 const HOLE: &str =
-    "module t(a,b,c,s,co); input a,b,c; output s,co; fa u(a,b,c,s,co); endmodule module fa(a,b,c,s,o); input a,b,c; output s,o; endmodule";
+    "module t(a,b,c,s,co); input a,b,c; output s,co; fa u(a,b,c,s,co); endmodule module fa(a,b,c,s,o); input a,b,c; \
+        output s,o; endmodule";
 
 const COPIES: &str =
     "module s(a,b,y1,y2); input a,b; output y1,y2; buf(y1,a); buf(y2,a); endmodule";
 
 const TWO_BOXES: &str =
-    "module t(a,b,y1,y2); input a,b; output y1,y2; bx u1(a,y1); bx u2(b,y2); endmodule module bx(i,o); input i; output o; endmodule";
+    "module t(a,b,y1,y2); input a,b; output y1,y2; bx u1(a,y1); bx u2(b,y2); endmodule module bx(i,o); input i; output \
+        o; endmodule";
 
 const CLAUSES: &str = "p cnf 2 4\n1 2 0\n-1 2 0\n1 -2 0\n-1 -2 0\n";
 
@@ -28,21 +30,24 @@ const VERDICTS: [(&str, &str, &str, u8, &str); 7] = [
         ADDER,
         HOLE,
         0,
-        "rung ternary none\nrung symbolic none\nrung local none\nrung output none\nrung input repair\ntable u s 01101001\ntable u o 00010111\nverdict repairable\n",
+        "rung ternary none\nrung symbolic none\nrung local none\nrung output none\nrung input repair\ntable u s \
+            01101001\ntable u o 00010111\nverdict repairable\n",
     ),
     (
         "bbeq s.v i.v",
         COPIES,
         TWO_BOXES,
         1,
-        "rung ternary none\nrung symbolic none\nrung local none\nrung output none\nrung input none\nrung expand error\nverdict error\n",
+        "rung ternary none\nrung symbolic none\nrung local none\nrung output none\nrung input none\nrung expand \
+            error\nverdict error\n",
     ),
     (
         "bbeq s.v i.v --clauses 1",
         COPIES,
         TWO_BOXES,
         3,
-        "rung ternary none\nrung symbolic none\nrung local none\nrung output none\nrung input none\nrung expand clauses\nverdict open\n",
+        "rung ternary none\nrung symbolic none\nrung local none\nrung output none\nrung input none\nrung expand \
+            clauses\nverdict open\n",
     ),
     (
         "bbeq other.v i.v",

@@ -15,16 +15,19 @@ const ADDER: &[u8] =
     b"module s(a,b,c,s,co); input a,b,c; output s,co; xor(s,a,b,c); assign co = a & b | a & c | b & c; endmodule";
 
 const HOLE: &[u8] =
-    b"module t(a,b,c,s,co); input a,b,c; output s,co; fa u(a,b,c,s,co); endmodule module fa(a,b,c,s,o); input a,b,c; output s,o; endmodule";
+    b"module t(a,b,c,s,co); input a,b,c; output s,co; fa u(a,b,c,s,co); endmodule module fa(a,b,c,s,o); input a,b,c; \
+        output s,o; endmodule";
 
 const REPAIRED: &str =
-    "rung ternary none\nrung symbolic none\nrung local none\nrung output none\nrung input repair\ntable u s 01101001\ntable u o 00010111\nverdict repairable\n";
+    "rung ternary none\nrung symbolic none\nrung local none\nrung output none\nrung input repair\ntable u s \
+        01101001\ntable u o 00010111\nverdict repairable\n";
 
 // The input of the second gate comes from a box.
 const NOR: &[u8] = b"module s(a,b,y); input a,b; output y; nor g(y,a,b); endmodule";
 
 const AND: &[u8] =
-    b"module t(a,b,y); input a,b; output y; wire z; bx u(b,z); and g(y,z,a); endmodule module bx(i,o); input i; output o; endmodule";
+    b"module t(a,b,y); input a,b; output y; wire z; bx u(b,z); and g(y,z,a); endmodule module bx(i,o); input i; output \
+        o; endmodule";
 
 const TWO: &str = "bbeq s.v i.v";
 

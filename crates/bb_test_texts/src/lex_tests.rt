@@ -156,7 +156,8 @@ const NUMBERS_HAVE_THEIR_MEANING: &[(&[u8], &str)] = &[
     ),
     (
         b"128'b1;",
-        "00000000000000000000000000000000000000000000000000000000000000000000000000000000000000000000000000000000000000000000000000000001 0-6 line 1; Semicolon 6-7 line 1; ",
+        "00000000000000000000000000000000000000000000000000000000000000000000000000000000000000000000000000000000000000\
+            000000000000000001 0-6 line 1; Semicolon 6-7 line 1; ",
     ),
     (b"1_000_", "1000 0-6 line 1; "),
     (b"2147483647", "2147483647 0-10 line 1; "),
@@ -227,7 +228,8 @@ const THE_LONGEST_MARK_IS_READ: &[(&[u8], &str)] = &[
 const MARKS_OF_ONE_BYTE_ARE_READ: &[(&[u8], &str)] = &[
     (
         b"()[]{}",
-        "LeftRound 0-1 line 1; RightRound 1-2 line 1; LeftSquare 2-3 line 1; RightSquare 3-4 line 1; LeftBrace 4-5 line 1; RightBrace 5-6 line 1; ",
+        "LeftRound 0-1 line 1; RightRound 1-2 line 1; LeftSquare 2-3 line 1; RightSquare 3-4 line 1; LeftBrace 4-5 \
+            line 1; RightBrace 5-6 line 1; ",
     ),
     (
         b",;:.@",

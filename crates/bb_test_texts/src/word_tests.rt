@@ -155,7 +155,8 @@ bbeq a b --to=symbolic => a b none none ternary symbolic false 32 1 1000000 2000
 bbeq a b --patterns 0 => a b none none ternary expand false 0 1 1000000 2000000 65536 false
 bbeq a b --patterns=4096 => a b none none ternary expand false 4096 1 1000000 2000000 65536 false
 bbeq a b --seed 2 => a b none none ternary expand false 32 2 1000000 2000000 65536 false
-bbeq a b --seed=18446744073709551615 => a b none none ternary expand false 32 18446744073709551615 1000000 2000000 65536 false
+bbeq a b --seed=18446744073709551615 => a b none none ternary expand false 32 18446744073709551615 1000000 2000000 \
+    65536 false
 bbeq a b --nodes 0 => a b none none ternary expand false 32 1 0 2000000 65536 false
 bbeq a b --nodes=50000000 => a b none none ternary expand false 32 1 50000000 2000000 65536 false
 bbeq a b --clauses 0 => a b none none ternary expand false 32 1 1000000 0 65536 false
@@ -167,7 +168,8 @@ bbeq a b --from expand => a b none none expand expand false 32 1 1000000 2000000
 // in any order
 bbeq --from symbolic a --to local b => a b none none symbolic local false 32 1 1000000 2000000 65536 false
 bbeq --to local --from local a b => a b none none local local false 32 1 1000000 2000000 65536 false
-bbeq --cache=7 --proof b --clauses 6 --nodes=5 --seed 4 --top-impl n --patterns=3 a --top-spec m --all => b a m n ternary expand true 3 4 5 6 7 true
+bbeq --cache=7 --proof b --clauses 6 --nodes=5 --seed 4 --top-impl n --patterns=3 a --top-spec m --all => b a m n \
+    ternary expand true 3 4 5 6 7 true
 // after two minus signs every word is a file
 bbeq -- a b => a b none none ternary expand false 32 1 1000000 2000000 65536 false
 bbeq a b -- => a b none none ternary expand false 32 1 1000000 2000000 65536 false

@@ -3,7 +3,8 @@
 //! price is that this room is taken however small a design is. Nothing is proved of the hash but that it is a
 //! function, so it may be exchanged. Nothing is removed, so there are no tombstones.
 
-ghost use Rattle.std.specs.Prelude.{◌≡◌, ◌≢◌, ◌<◌, ◌≤◌, ◌+◌, ◌*◌, ◌/◌, ◌%◌, ◌^◌, ℕ, ◌∷◌, ◌++◌, [], true, length, replicate, slice_get, Some, IfSome, IfNone, IfOk, max, vec_capacity};
+ghost use Rattle.std.specs.Prelude.{◌≡◌, ◌≢◌, ◌<◌, ◌≤◌, ◌+◌, ◌*◌, ◌/◌, ◌%◌, ◌^◌, ℕ, ◌∷◌, ◌++◌, [], true, length};
+ghost use Rattle.std.specs.Prelude.{replicate, slice_get, Some, IfSome, IfNone, IfOk, max, vec_capacity};
 ghost use Rattle.std.specs.Int.{IsPowerOfTwo};
 ghost use Rattle.bb_uniq.specs.declared.store.Node.{Node as Triple};
 ghost use Rattle.bb_uniq.specs.Inside.Places.{IsAbsent};

@@ -89,8 +89,9 @@ impl Model for Store {
 
     ghost view = { λ s. record { vars = s.vars; limit = s.limit; nodes = s.nodes.items } };
 
-    ghost invariant = { λ s. IsStore (record { vars = s.vars; limit = s.limit; nodes = s.nodes.items }) × (s.vars ≤ 2048) × (s.limit ≤ 50000000)
-        × (s.limit ≤ vec_capacity s.nodes) × ArePlaces s.places.items s.nodes.items × HasRoom s.limit (vec_capacity s.places) (length s.places.items) };
+    ghost invariant = { λ s. IsStore (record { vars = s.vars; limit = s.limit; nodes = s.nodes.items })
+        × (s.vars ≤ 2048) × (s.limit ≤ 50000000) × (s.limit ≤ vec_capacity s.nodes)
+        × ArePlaces s.places.items s.nodes.items × HasRoom s.limit (vec_capacity s.places) (length s.places.items) };
 }
 
 impl Store {
@@ -137,7 +138,8 @@ impl Store {
     /// the same Ref.
     pub fn is_canonical(&self)
         ensures store { IsStore self.now }
-        ensures refs { (r q : ℕ) → IsRef self.now r → IsRef self.now q → truth_of self.now r ≡ truth_of self.now q → r ≡ q }
+        ensures refs { (r q : ℕ) → IsRef self.now r → IsRef self.now q → truth_of self.now r ≡ truth_of self.now q
+            → r ≡ q }
     {
         let _ = &self.nodes;
     }
@@ -180,7 +182,8 @@ impl Store {
         ensures adds { IfOk result (λ r. Adds self.old self.new (branch self.old var lo.0 hi.0) r.0) }
         ensures store { IsStore self.new }
 
-        ensures full { IsErrOf result StoreFault.Full → IsNew self.old var lo.0 hi.0 × (length self.old.nodes ≡ self.old.limit) }
+        ensures full { IsErrOf result StoreFault.Full
+            → IsNew self.old var lo.0 hi.0 × (length self.old.nodes ≡ self.old.limit) }
         ensures too_many { IsErrOf result StoreFault.Full → IsTooMany self.old (branch self.old var lo.0 hi.0) }
         ensures err { OnErr result (self.new ≡ self.old) }
     {

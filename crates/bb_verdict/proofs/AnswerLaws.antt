@@ -10,14 +10,14 @@ use Rattle.bb_implements.specs.BoxOrders.{IsBoxOrder}
 use Rattle.bb_implements.specs.Implements.{box_texts}
 use Rattle.bb_design.specs.Hierarchy.{Design, Scope}
 use Rattle.bb_design.specs.Inside.Allowed.{IsAllowed}
-use Rattle.bb_net.specs.Kinds.{AreKinds, AreSharedCompletion, shown}
+use Rattle.bb_net.specs.Kinds.{AreKinds, AreSharedCompletion, representatives}
 use Rattle.bb_net.specs.Pairs.{NetPair, IsPair, box_key}
 use Rattle.bb_checks.specs.Laws.IsomorphicPairs.{IsomorphicPairsAreLeftOpen, IsomorphicPairsStayOpen, IsomorphicPairsAreDecided}
 use Rattle.bb_checks.specs.declared.line.Line.{Line}
 use Rattle.bb_checks.specs.declared.verdict.Verdict.{Verdict}
 use Rattle.bb_checks.specs.declared.verdict.Verdict.TheVariants as verdicts
 use Rattle.bb_checks.specs.Laws.{ErrorsExcludeTables, ClimbsLeaveOpen, StayingOpenIsReported, DecidersDecide}
-use Rattle.bb_checks.specs.LeftOpen.{LeavesOpen, StaysOpen}
+use Rattle.bb_checks.specs.LeftOpen.{MayLeaveOpen, MustLeaveOpen}
 use Rattle.bb_checks.specs.Reports.{EndsWithTables, report_text, status_of, verdict_of}
 use Rattle.bb_options.specs.Rungs.{requested_rungs}
 use Rattle.bb_checks.specs.Rungs.{is_error, is_repair}
@@ -53,7 +53,7 @@ module _ (allowed : DesignsAreAllowed) (none_after : NoTablesFollow) (spell : Ta
     (comparable : FittingDesignsAreComparable) (have_orders : PairsHaveBoxOrders) (of_boxes : FittingTablesAreOfBoxes) where
   module _ (requested : TextComparison) (spec imp text : List ℕ) (p : NetPair) (lines : List Line) (s i : Design) (are : AreDesignsOf requested spec imp s i) (for : IsPairFor requested.care requested.options.shared s i p)
       (rest : List ℕ) (follows : MayFollowVerdict requested.fill for.imp_net p.kinds lines rest) (whole : text ≡ report_text p requested.options lines ++ rest)
-      (tables : List TableBits) (complete : AreSharedCompletion p.spec p.imp p.kinds tables) (ends : EndsWithTables requested.options.shared (shown p.kinds p.boxes) (report_text p requested.options lines) tables) where
+      (tables : List TableBits) (complete : AreSharedCompletion p.spec p.imp p.kinds tables) (ends : EndsWithTables requested.options.shared (representatives p.kinds p.boxes) (report_text p requested.options lines) tables) where
     abbrev shared : Bool
     shared = requested.options.shared
 
@@ -79,11 +79,11 @@ module _ (allowed : DesignsAreAllowed) (none_after : NoTablesFollow) (spell : Ta
           kinds = p.kinds;
           keyed = subst (λ l. AreKinds (map (box_key shared) l) p.kinds) order.2 order.3;
           tables = tables;
-          shapes = subst (λ l. AllZip IsTableOf (shown p.kinds l) tables) order.2 (of_boxes p tables for.kept complete.fit);
+          shapes = subst (λ l. AllZip IsTableOf (representatives p.kinds l) tables) order.2 (of_boxes p tables for.kept complete.fit);
           report = report_text p requested.options lines;
           rest = rest;
           whole = whole;
-          lines = subst (λ l. EndsWithTables shared (shown p.kinds l) (report_text p requested.options lines) tables) order.2 ends;
+          lines = subst (λ l. EndsWithTables shared (representatives p.kinds l) (report_text p requested.options lines) tables) order.2 ends;
           no_more = none_after requested.fill for.imp_net p.kinds lines rest for.imp_flat follows;
           alone = nothing_unasked follows;
           contents = (spelled.0, spelled.1, subst (λ l. AreSpelled l p.kinds tables spelled.0) order.2 spelled.2);
@@ -122,7 +122,7 @@ open_answers_leave_open alike stays leave requested spec imp status text (Judged
     let left = leave p requested.options lines climb (is_open (verdict_of lines) (sym same ∙ three)) in
     record {
       pair = (p, occurs);
-      left = λ q also. All-weaker (LeavesOpen p requested.options) (LeavesOpen q requested.options) (λ r. stays p q requested.options r (is_pair requested spec imp p occurs) (is_pair requested spec imp q also) (alike requested spec imp p q occurs also)) (requested_rungs requested.options) left;
+      left = λ q also. All-weaker (MayLeaveOpen p requested.options) (MayLeaveOpen q requested.options) (λ r. stays p q requested.options r (is_pair requested spec imp p occurs) (is_pair requested spec imp q also) (alike requested spec imp p q occurs also)) (requested_rungs requested.options) left;
     }
 
 -- the verdict of a status that is not open
@@ -142,7 +142,7 @@ pub staying_open_are_answered : NotPairAndRefusal → TextPairsAreIsomorphic →
 staying_open_are_answered apart alike stay reported requested spec imp status text (Refused r is s t) (q, also, stays) = absurd (apart requested spec imp q r also is)
 staying_open_are_answered apart alike stay reported requested spec imp status text (Judged p lines s i are for climb same rest follows t) (q, also, stays) =
     let occurs : ImplementsTexts requested spec imp p = (s, i, are, for) in
-    let so = All-weaker (StaysOpen q requested.options) (StaysOpen p requested.options) (λ r. stay q p requested.options r (is_pair requested spec imp q also) (is_pair requested spec imp p occurs) (alike requested spec imp q p also occurs)) (requested_rungs requested.options) stays in
+    let so = All-weaker (MustLeaveOpen q requested.options) (MustLeaveOpen p requested.options) (λ r. stay q p requested.options r (is_pair requested spec imp q also) (is_pair requested spec imp p occurs) (alike requested spec imp q p also occurs)) (requested_rungs requested.options) stays in
     same ∙ ap status_of (reported p requested.options lines climb so)
 
 no_second : (v : Verdict) → status_of v ≡ 2 → ⊥

@@ -16,7 +16,7 @@ use Rattle.bb_fill.specs.Clashes.{IsClash}
 use Rattle.bb_fill.specs.Filled.{filled_text}
 use Rattle.bb_fill.specs.Laws.{AnswersExist}
 use Rattle.bb_net.specs.Flats.{FlatNet}
-use Rattle.bb_net.specs.Kinds.{spread}
+use Rattle.bb_net.specs.Kinds.{per_box}
 use Rattle.bb_net.specs.Pairs.{NetPair}
 use Rattle.bb_checks.specs.declared.line.Line.{Line}
 use Rattle.bb_checks.specs.declared.verdict.Verdict.TheVariants as verdicts
@@ -35,8 +35,8 @@ use Rattle.bb_verdict.proofs.FollowLaws.{something_follows}
 -- what follows the verdict where the filled implementation is asked for and its text has a property
 module _ (fill : Bool) (i : Design) (Claims : List ℕ → Type 0) (p : NetPair) (f : FlatNet) (lines : List Line) (rest : List ℕ) (repairable : verdict_of lines ≡ verdicts.Repairable)
     (tables : List TableBits) (only : (others : List TableBits) → GivesTables lines others → others ≡ tables)
-    (holds : (filled : List ℕ) → IsFillAnswer f (spread p.kinds tables) (Text filled) → Claims filled) (twice : (name : List ℕ) → IsFillAnswer f (spread p.kinds tables) (Clash name) → IsTwice i name) where
-  answer_follows : (answer : Answer) → IsFillAnswer f (spread p.kinds tables) answer → rest ≡ answer_text answer → FollowsVerdict i Claims rest
+    (holds : (filled : List ℕ) → IsFillAnswer f (per_box p.kinds tables) (Text filled) → Claims filled) (twice : (name : List ℕ) → IsFillAnswer f (per_box p.kinds tables) (Clash name) → IsTwice i name) where
+  answer_follows : (answer : Answer) → IsFillAnswer f (per_box p.kinds tables) answer → rest ≡ answer_text answer → FollowsVerdict i Claims rest
   answer_follows (Clash name) may e = Clashes name e (twice name may)
   answer_follows TooLarge may e = IsLarge e
   answer_follows (Text filled) may e = Finished filled e (holds filled may)
@@ -44,7 +44,7 @@ module _ (fill : Bool) (i : Design) (Claims : List ℕ → Type 0) (p : NetPair)
   rest_follows : fill ≡ true → MayFollowVerdict fill f p.kinds lines rest → FollowsVerdict i Claims rest
   rest_follows on (NotRequested off none) = absurd (true≢false (sym on ∙ off))
   rest_follows on (NotFinished other none) = absurd (other repairable)
-  rest_follows on (Follows also verdict others gives answer may e) = answer_follows answer (subst (λ (z : List TableBits). IsFillAnswer f (spread p.kinds z) answer) (only others gives) may) e
+  rest_follows on (Follows also verdict others gives answer may e) = answer_follows answer (subst (λ (z : List TableBits). IsFillAnswer f (per_box p.kinds z) answer) (only others gives) may) e
 
 -- a name is reported where it clashes
 reported_clash : (f : FlatNet) (tables : List TableBits) (name : List ℕ) → IsFillAnswer f tables (Clash name) → IsClash f name
@@ -65,10 +65,10 @@ module _ (allowed : DesignsAreAllowed) (none_after : NoTablesFollow) (spell : Ta
       let boxes = order allowed none_after spell agree exactly comparable have_orders of_boxes requested spec imp text p lines s i are for rest follows t tables complete ends in
       let done = finished allowed none_after spell agree exactly comparable have_orders of_boxes requested spec imp text p lines s i are for rest follows t tables complete ends in
       let only = λ (others : List TableBits) (gives : GivesTables lines others). once p requested.options lines others tables climb gives given in
-      let twice = λ (name : List ℕ) (may : IsFillAnswer for.imp_net (spread p.kinds tables) (Clash name)). clash_is_twice i for.imp_net for.imp_implements name (reported_clash for.imp_net (spread p.kinds tables) name may) in
-      let finishes = λ (filled : List ℕ) (may : IsFillAnswer for.imp_net (spread p.kinds tables) (Text filled)).
+      let twice = λ (name : List ℕ) (may : IsFillAnswer for.imp_net (per_box p.kinds tables) (Clash name)). clash_is_twice i for.imp_net for.imp_implements name (reported_clash for.imp_net (per_box p.kinds tables) name may) in
+      let finishes = λ (filled : List ℕ) (may : IsFillAnswer for.imp_net (per_box p.kinds tables) (Text filled)).
       finish requested spec imp s i are p for tables complete filled may in
-      let is_filled : (filled : List ℕ) → IsFillAnswer for.imp_net (spread p.kinds tables) (Text filled) → IsFilledText done filled = λ filled may. record {
+      let is_filled : (filled : List ℕ) → IsFillAnswer for.imp_net (per_box p.kinds tables) (Text filled) → IsFilledText done filled = λ filled may. record {
         finishes = subst (λ l. IsFinishedText requested.care s i (λ contents. FitDesign i contents × AreSpelled l p.kinds tables contents) filled) boxes.2 (finishes filled may).0;
         passes = (finishes filled may).1;
         runs = (finishes filled may).2;

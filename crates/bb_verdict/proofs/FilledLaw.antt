@@ -18,7 +18,7 @@ use Rattle.bb_fill.specs.Laws.{IsReady}
 use Rattle.bb_fill.specs.Sizes.{IsSmallText}
 use Rattle.bb_match.specs.Refusals.{Box}
 use Rattle.bb_net.specs.Flats.{FlatNet, HaveClocks}
-use Rattle.bb_net.specs.Kinds.{spread}
+use Rattle.bb_net.specs.Kinds.{per_box}
 use Rattle.bb_parse.specs.Sources.{ReadsAs}
 use Rattle.bb_readback.specs.Laws.Designs.{filled_design}
 use Rattle.bb_readback.specs.Laws.{FilledDesignsAreNamedTheSame, FilledDesignsAreSound, FilledDesignsHaveBits, FilledModulesAreSound, FilledModulesAreTops}
@@ -72,7 +72,7 @@ module _ (laws : FillingLaws) (f : FlatNet) (tables : List TableBits) (ready : I
 pub filled_texts_finish : FillingLaws → FilledTextsFinish
 filled_texts_finish laws requested spec imp s i are p pair tables completion text may =
     let f = pair.imp_net in
-    let all = spread p.kinds tables in
+    let all = per_box p.kinds tables in
     let d = filled_design f all in
     let s_allowed = laws.allowed requested.spec_top spec s are.spec_design in
     let i_allowed = laws.allowed requested.imp_top imp i are.imp_design in

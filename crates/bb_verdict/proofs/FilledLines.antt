@@ -12,7 +12,7 @@ use Rattle.bb_bits.specs.Earlier.{has_name}
 use Rattle.bb_bits.specs.Names.{IsPrintable}
 use Rattle.bb_bits.specs.Tables.{TableBits}
 use Rattle.bb_lemmas.proofs.Members.{all_from, contains_here}
-use Rattle.bb_net.specs.CutPoints.{clock_text, register_texts}
+use Rattle.bb_net.specs.CutPoints.{clock_text, state_texts}
 use Rattle.bb_net.specs.Flats.{FlatNet, IsFlat}
 use Rattle.bb_net.specs.Netlists.{box_at, cell_at}
 use Rattle.bb_net.specs.declared.cell.Cell.{Cell}
@@ -70,7 +70,7 @@ module _ (f : FlatNet) (flat : IsFlat f) where
   register_names : All (λ (r : Register). Quiet r.text) f.regs
   register_names = All-weaker (λ (r : Register). IsPrintable r.text) (λ (r : Register). Quiet r.text) (λ (r : Register). quiet_printable r.text) f.regs flat.printable.regs
 
-  registers_quiet : All Quiet (register_texts f)
+  registers_quiet : All Quiet (state_texts f)
   registers_quiet = All-map Quiet (λ (r : Register). r.text) f.regs register_names
 
   clock_quiet : (clock : Option ℕ) → Quiet (unwrap_or (option_and_then (slice_get f.ins) clock) [])
@@ -104,7 +104,7 @@ module _ (f : FlatNet) (flat : IsFlat f) where
 
   word_quiet : (number : ℕ) (cell : Cell) → IsQuietWord (cell_word f number cell)
   word_quiet number (cells.Const b) = bit_quiet b
-  word_quiet number (cells.Input i) = printed_quiet _ (text_quiet (f.ins ++ register_texts f) (All-append Quiet f.ins (register_texts f) inputs_quiet registers_quiet) i)
+  word_quiet number (cells.Input i) = printed_quiet _ (text_quiet (f.ins ++ state_texts f) (All-append Quiet f.ins (state_texts f) inputs_quiet registers_quiet) i)
   word_quiet number (cells.Not a) = cell_quiet number
   word_quiet number (cells.And a b) = cell_quiet number
   word_quiet number (cells.Or a b) = cell_quiet number
@@ -211,7 +211,7 @@ module _ (f : FlatNet) (flat : IsFlat f) where
       (registers_whole (r + 1) registers (λ k d lt. all (suc k) d (omega (arith, lt))))
 
   output_whole : (o : ℕ) → All IsWhole (output_lines f o)
-  output_whole o = by (has_name (output_text f o) (register_texts f))
+  output_whole o = by (has_name (output_text f o) (state_texts f))
     where
       by : (b : Bool) → All IsWhole (if b then [] else Gate Buf (Named (output_text f o)) (word_at f (slice_index f.net.outs o) ∷ []) ∷ [])
       by true = All-nil IsWhole
@@ -228,7 +228,7 @@ module _ (f : FlatNet) (flat : IsFlat f) where
       let inputs = All-map IsWhole Input f.ins (All-weaker Quiet _ (λ name. declared_whole name (starts (codes "input ") (λ rest is. is))) f.ins inputs_quiet) in
       let begin : AreWhole (Module (f.ins ++ f.outs) ∷ map Input f.ins) = record { each = All-cons IsWhole (Module (f.ins ++ f.outs)) (map Input f.ins) (module_whole (f.ins ++ f.outs) (All-append Quiet f.ins f.outs inputs_quiet outputs_quiet)) inputs } in
       let outputs = with_lines (map Output f.outs) begin (All-map IsWhole Output f.outs (All-weaker Quiet _ (λ name. declared_whole name (starts (codes "output ") (λ rest is. is))) f.outs outputs_quiet)) in
-      let registers = with_lines (map Reg (register_texts f)) outputs (All-map IsWhole Reg (register_texts f) (All-weaker Quiet _ (λ name. declared_whole name (starts (codes "reg ") (λ rest is. is))) (register_texts f) registers_quiet)) in
+      let registers = with_lines (map Reg (state_texts f)) outputs (All-map IsWhole Reg (state_texts f) (All-weaker Quiet _ (λ name. declared_whole name (starts (codes "reg ") (λ rest is. is))) (state_texts f) registers_quiet)) in
       let gates = with_lines (lines_of_cells f tables) registers (all_flat_lines IsWhole _ (λ k. cell_whole tables k (cell_at f.net.cells k)) (range_with_len 0 (length f.net.cells))) in
       let copies = with_lines (flat_map (output_lines f) (range_with_len 0 (length f.outs))) gates (all_flat_lines IsWhole (output_lines f) output_whole (range_with_len 0 (length f.outs))) in
       let taken = with_lines (register_lines f 0 f.regs) copies (registers_whole 0 f.regs register_names) in

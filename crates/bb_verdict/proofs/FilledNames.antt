@@ -11,7 +11,7 @@ use Rattle.bb_lemmas.proofs.Firsts.{first_there}
 use Rattle.bb_lemmas.proofs.Ranges.{from_range}
 use Rattle.bb_lemmas.proofs.Places.{got-map, some_same, there_at}
 use Rattle.bb_lemmas.proofs.Zips.{zip_other}
-use Rattle.bb_net.specs.CutPoints.{TopInput, State, CutOutput, TopOutput, NextState, clock_text, cut_inputs, cut_outputs, register_texts}
+use Rattle.bb_net.specs.CutPoints.{TopInput, State, CutOutput, TopOutput, NextState, clock_text, cut_inputs, cut_outputs, state_texts}
 use Rattle.bb_net.specs.Flats.{FlatNet}
 use Rattle.bb_net.specs.declared.flat.Reg.{Reg}
 use Rattle.bb_design.specs.Hierarchy.{Design}
@@ -34,7 +34,7 @@ texts_beside d (x ∷ xs) [] all = absurd all
 texts_beside d (x ∷ xs) (y ∷ ys) all = ap₂ ◌∷◌ all.0.text (texts_beside d xs ys all.1)
 
 module _ (d : Design) (f : FlatNet) (occurs : Implements d f) where
-  pub registers_are : register_texts f ≡ map (λ (r : RegisterBit). bit_text d r.bit) (registers d)
+  pub registers_are : state_texts f ≡ map (λ (r : RegisterBit). bit_text d r.bit) (registers d)
   registers_are = texts_beside d (registers d) f.regs occurs.regs
 
   -- the register bit for which a register is
@@ -57,9 +57,9 @@ module _ (d : Design) (f : FlatNet) (occurs : Implements d f) where
           )
 
   pub vector_bits_are : (x : Vector) → vector_bits d x ≡ map x (cut_inputs f)
-  vector_bits_are x = sym (map-append x (map TopInput f.ins) (map State (register_texts f))
+  vector_bits_are x = sym (map-append x (map TopInput f.ins) (map State (state_texts f))
       ∙ ap₂ ◌++◌ (map-map x TopInput f.ins ∙ ap (map (λ t. x (TopInput t))) occurs.ins ∙ map-map (λ t. x (TopInput t)) (bit_text d) (top_inputs d))
-      (map-map x State (register_texts f) ∙ ap (map (λ t. x (State t))) registers_are ∙ map-map (λ t. x (State t)) (λ (r : RegisterBit). bit_text d r.bit) (registers d)))
+      (map-map x State (state_texts f) ∙ ap (map (λ t. x (State t))) registers_are ∙ map-map (λ t. x (State t)) (λ (r : RegisterBit). bit_text d r.bit) (registers d)))
 
   pub outputs_named : (w : World) → map (λ (o : CutOutput × Bool). o.0) (outputs_in d w) ≡ cut_outputs f
   outputs_named w = map-append (λ (o : CutOutput × Bool). o.0) (map (λ b. (TopOutput (bit_text d b), bit_in w b)) (top_outputs d)) (map (λ r. (NextState (bit_text d r.bit), next_bit w r)) (registers d))
@@ -74,7 +74,7 @@ module _ (d : Design) (f : FlatNet) (occurs : Implements d f) where
   output_named : (name : List ℕ) → Contains f.outs name → Contains (output_texts d) name
   output_named name has = subst (λ l. Contains l name) occurs.outs has
 
-  register_named : (name : List ℕ) → Contains (register_texts f) name → Contains (texts_of_registers d) name
+  register_named : (name : List ℕ) → Contains (state_texts f) name → Contains (texts_of_registers d) name
   register_named name has = subst (λ l. Contains l name) (registers_are d f occurs) has
 
   at_place : (texts : List (List ℕ)) (k : ℕ) → k < length texts → Contains texts (get_or texts k [])
@@ -90,8 +90,8 @@ module _ (d : Design) (f : FlatNet) (occurs : Implements d f) where
       let (r, within, same, other) = first.holds in
       let there = from_range 0 (length f.outs) o (first_there (IsOutputClash f) (output_numbers f) o first) in
       let output = at_place f.outs o (omega (arith, there.1)) in
-      let register = at_place (register_texts f) r (omega (arith, within, length-map f.regs (λ (q : Reg). q.text))) in
+      let register = at_place (state_texts f) r (omega (arith, within, length-map f.regs (λ (q : Reg). q.text))) in
       inr (
         output_named name (subst (Contains f.outs) (sym is) output),
-        register_named name (subst (Contains (register_texts f)) (sym (is ∙ same)) register),
+        register_named name (subst (Contains (state_texts f)) (sym (is ∙ same)) register),
       )

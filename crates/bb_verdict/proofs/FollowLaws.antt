@@ -11,7 +11,7 @@ use Rattle.bb_fill.specs.Clashes.{IsClash}
 use Rattle.bb_fill.specs.Filled.{filled_text}
 use Rattle.bb_fill.specs.Laws.{AnswersExist}
 use Rattle.bb_net.specs.Flats.{FlatNet, IsFlat}
-use Rattle.bb_net.specs.Kinds.{spread}
+use Rattle.bb_net.specs.Kinds.{per_box}
 use denote.Enum.Bare.{sameb}
 use Rattle.bb_checks.specs.contracts.verdict.Verdict.{the_type}
 use Rattle.bb_checks.specs.declared.line.Line.{Line}
@@ -78,7 +78,7 @@ something_follows exist true f kinds lines = by (verdict_of lines) refl
     by verdicts.Open e = ([], NotFinished (λ repairable. not_open (sym e ∙ repairable)) refl)
     by verdicts.Repairable e =
         let tables = gives_some lines (some_repair lines e) in
-        let answer = exist f (spread kinds tables.0) in
+        let answer = exist f (per_box kinds tables.0) in
         (answer_text answer.0, Follows refl e tables.0 tables.1 answer.0 answer.1 refl)
 
 -- what the code puts after a report
@@ -89,7 +89,7 @@ same_verdict verdicts.Repairable e = refl
 same_verdict verdicts.Open e = absurd (true≢false (sym e))
 
 pub put_follows : {T E : Type 0} (r : Result T E) (f : FlatNet) (kinds : List ℕ) (lines : List Line) (tables : List TableBits) (old new : List ℕ) → verdict_of lines ≡ verdicts.Repairable → GivesTables lines tables
-    → OnOk r ((answer : Answer) × IsFillAnswer f (spread kinds tables) answer × (new ≡ old ++ answer_text answer)) → OnOk r ((rest : List ℕ) × MayFollowVerdict true f kinds lines rest × (new ≡ old ++ rest))
+    → OnOk r ((answer : Answer) × IsFillAnswer f (per_box kinds tables) answer × (new ≡ old ++ answer_text answer)) → OnOk r ((rest : List ℕ) × MayFollowVerdict true f kinds lines rest × (new ≡ old ++ rest))
 put_follows (Ok a) f kinds lines tables old new repairable gives put = (answer_text put.0, Follows refl repairable tables gives put.0 put.1 refl, put.2)
 put_follows (Err e) f kinds lines tables old new repairable gives put = put
 
@@ -126,4 +126,4 @@ pub no_tables_follow : NoTablesFollow
 no_tables_follow fill f kinds lines rest flat (NotRequested off none) = subst (HasNoLine (codes "table")) (sym none) (no_table_line [] refl)
 no_tables_follow fill f kinds lines rest flat (NotFinished other none) = subst (HasNoLine (codes "table")) (sym none) (no_table_line [] refl)
 no_tables_follow fill f kinds lines rest flat (Follows on repairable tables gives answer may e) =
-    subst (HasNoLine (codes "table")) (sym e) (no_table_line (answer_text answer) (whole_text true true (answer_text answer) (answer_goes f flat (spread kinds tables) answer may)))
+    subst (HasNoLine (codes "table")) (sym e) (no_table_line (answer_text answer) (whole_text true true (answer_text answer) (answer_goes f flat (per_box kinds tables) answer may)))

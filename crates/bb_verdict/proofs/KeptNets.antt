@@ -10,7 +10,7 @@ use Rattle.bb_design.specs.Hierarchy.{Design}
 use Rattle.bb_match.specs.Pairing.{IsPairOf}
 use Rattle.bb_match.specs.Refusals.{ImpClock}
 use Rattle.bb_net.specs.Flats.{FlatNet, HaveClocks}
-use Rattle.bb_net.specs.Kinds.{FitKinds, shown, spread}
+use Rattle.bb_net.specs.Kinds.{FitKinds, representatives, per_box}
 use Rattle.bb_net.specs.Netlists.{Pins, box_at}
 use Rattle.bb_net.specs.Orders.{moved_pins}
 use Rattle.bb_net.specs.Pairs.{NetPair}
@@ -19,7 +19,7 @@ use Rattle.bb_net.specs.Values.{FitBoxes}
 use Rattle.bb_verdict.specs.Inside.Made.{CanBeFilled}
 
 abbrev pub TablesAreSpread : Type 0
-TablesAreSpread = (kinds : List ℕ) (boxes : List Pins) (tables : List TableBits) → FitKinds kinds boxes → FitBoxes tables (shown kinds boxes) → FitBoxes (spread kinds tables) boxes
+TablesAreSpread = (kinds : List ℕ) (boxes : List Pins) (tables : List TableBits) → FitKinds kinds boxes → FitBoxes tables (representatives kinds boxes) → FitBoxes (per_box kinds tables) boxes
 
 -- the boxes of a pair are those of the netlist, with their pins moved
 pub record HasBoxesOf (f : FlatNet) (p : NetPair) : Type 0 where
@@ -58,10 +58,10 @@ module _ (to : ℕ → ℕ) (boxes : List Pins) where
   }
 
 pub kept_nets : TablesAreSpread → {care : Option (List ℕ)} {shared : Bool} (s i : Design) (p : NetPair) (pair : IsPairFor care shared s i p) → CanBeFilled p pair.imp_net
-kept_nets spread {care} {shared} s i p pair =
+kept_nets per_box {care} {shared} s i p pair =
     let has = has_boxes care shared pair.spec_net pair.imp_net p pair.paired in
     record {
       clocks = have_clocks care shared pair.spec_net pair.imp_net p pair.paired;
       tables = λ tables fit.
-          moved_back has.to pair.imp_net.net.boxes _ (subst (FitBoxes _) has.pins (spread p.kinds p.imp.boxes tables pair.kept.beside.kinds fit));
+          moved_back has.to pair.imp_net.net.boxes _ (subst (FitBoxes _) has.pins (per_box p.kinds p.imp.boxes tables pair.kept.beside.kinds fit));
     }

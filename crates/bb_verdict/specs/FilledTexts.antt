@@ -12,7 +12,7 @@ use Rattle.bb_design.specs.Refusals.{input_texts, output_texts, register_texts}
 use Rattle.bb_fill.specs.Answers.{Answer, Clash, TooLarge, Text, IsFillAnswer}
 use Rattle.bb_names.specs.Faults.{IsSound}
 use Rattle.bb_net.specs.Flats.{FlatNet, IsFlat}
-use Rattle.bb_net.specs.Kinds.{spread}
+use Rattle.bb_net.specs.Kinds.{per_box}
 use Rattle.bb_checks.specs.declared.line.Line.{Line}
 use Rattle.bb_checks.specs.declared.verdict.Verdict.TheVariants as verdicts
 use Rattle.bb_checks.specs.Reports.{GivesTables, verdict_of}
@@ -31,7 +31,7 @@ pub data MayFollowVerdict (fill : Bool) (f : FlatNet) (kinds : List ℕ) (lines 
   NotRequested : fill ≡ false → rest ≡ [] → MayFollowVerdict fill f kinds lines rest
   NotFinished : (verdict_of lines ≡ verdicts.Repairable → ⊥) → rest ≡ [] → MayFollowVerdict fill f kinds lines rest
   Follows : fill ≡ true → verdict_of lines ≡ verdicts.Repairable → (tables : List TableBits) → GivesTables lines tables
-      → (answer : Answer) → IsFillAnswer f (spread kinds tables) answer → rest ≡ answer_text answer
+      → (answer : Answer) → IsFillAnswer f (per_box kinds tables) answer → rest ≡ answer_text answer
       → MayFollowVerdict fill f kinds lines rest
 
 -- a line begins after this text: the first one, or another after the end of a line

@@ -18,9 +18,9 @@ use Rattle.bb_equiv.specs.Mistakes.{AllHaveCounterexamples}
 use Rattle.bb_equiv.specs.Runs.{EventShows, RunTheSame}
 use Rattle.bb_fill.specs.Answers.{Text, IsFillAnswer as MayPrint}
 use Rattle.bb_names.specs.Faults.{IsSound}
-use Rattle.bb_net.specs.Kinds.{AreKinds, AreSharedCompletion, shown, spread}
+use Rattle.bb_net.specs.Kinds.{AreKinds, AreSharedCompletion, representatives, per_box}
 use Rattle.bb_net.specs.Pairs.{NetPair, box_key}
-use Rattle.bb_checks.specs.LeftOpen.{AllLeaveOpen, AllStayOpen, SomeDecides}
+use Rattle.bb_checks.specs.LeftOpen.{AllMayLeaveOpen, AllMustLeaveOpen, SomeDecides}
 use Rattle.bb_checks.specs.Reports.{EndsWithTables}
 use Rattle.bb_verdict.specs.FilledTexts.{FollowsVerdict, HasNoLine, IsFinishedText}
 use Rattle.bb_verdict.specs.OwnTexts.{HasOwnTexts}
@@ -81,7 +81,7 @@ pub record AreRefuted (requested : TextComparison) (spec imp : List ℕ) : Type 
 -- there is a pair of the two, and for each such pair each requested check leaves the question open
 pub record AreLeftOpen (requested : TextComparison) (spec imp : List ℕ) : Type 0 where
   pub pair : (p : NetPair) × ImplementsTexts requested spec imp p
-  pub left : (p : NetPair) → ImplementsTexts requested spec imp p → AllLeaveOpen p requested.options
+  pub left : (p : NetPair) → ImplementsTexts requested spec imp p → AllMayLeaveOpen p requested.options
 
 -- they read as designs that can be compared, and the text has lines of tables, the last before its verdict, that spell
 -- contents of the boxes. Each box has the table of its sharing class: its own or, where boxes of one module share their
@@ -98,11 +98,11 @@ pub record AreFinished (requested : TextComparison) (spec imp text : List ℕ) :
   pub kinds : List ℕ
   pub keyed : AreKinds (map (box_key requested.options.shared) (map (box_texts i) order)) kinds
   pub tables : List TableBits
-  pub shapes : AllZip IsTableOf (shown kinds (map (box_texts i) order)) tables
+  pub shapes : AllZip IsTableOf (representatives kinds (map (box_texts i) order)) tables
   pub report : List ℕ
   pub rest : List ℕ
   pub whole : text ≡ report ++ rest
-  pub lines : EndsWithTables requested.options.shared (shown kinds (map (box_texts i) order)) report tables
+  pub lines : EndsWithTables requested.options.shared (representatives kinds (map (box_texts i) order)) report tables
   pub no_more : HasNoLine (codes "table") rest
   pub alone : requested.fill ≡ false → rest ≡ []
   pub contents : (contents : Contents) × MayFill requested.options.shared i contents
@@ -149,7 +149,7 @@ AreDecided requested spec imp = (p : NetPair) × ImplementsTexts requested spec 
 
 -- there is a pair of the two for which the question stays open with each requested check
 abbrev pub AreStayingOpen : TextComparison → List ℕ → List ℕ → Type 0
-AreStayingOpen requested spec imp = (p : NetPair) × ImplementsTexts requested spec imp p × AllStayOpen p requested.options
+AreStayingOpen requested spec imp = (p : NetPair) × ImplementsTexts requested spec imp p × AllMustLeaveOpen p requested.options
 
 -- laws that a reader expects
 
@@ -204,7 +204,7 @@ abbrev pub FilledTextsFinish : Type 0
 FilledTextsFinish = (requested : TextComparison) (spec imp : List ℕ) (s i : Design) → AreDesignsOf requested spec imp s i
     → (p : NetPair) (pair : IsPairFor requested.care requested.options.shared s i p) (tables : List TableBits)
     → AreSharedCompletion p.spec p.imp p.kinds tables → (text : List ℕ)
-    → MayPrint pair.imp_net (spread p.kinds tables) (Text text)
+    → MayPrint pair.imp_net (per_box p.kinds tables) (Text text)
     → IsFinishedText requested.care s i (λ contents. FitDesign i contents × AreSpelled p.boxes p.kinds tables contents) text
     × Passes requested spec text × RunsAsText requested.care s text
 

@@ -8,7 +8,7 @@ ghost use Rattle.std.specs.Prelude.{◌≡◌, ◌++◌, ℕ, true, List, OnOk};
 ghost use Rattle.bb_bits.specs.Tables.{TableBits};
 ghost use Rattle.bb_fill.specs.Answers.{Answer, IsFillAnswer};
 ghost use Rattle.bb_net.specs.Flats.{HaveClocks};
-ghost use Rattle.bb_net.specs.Kinds.{spread};
+ghost use Rattle.bb_net.specs.Kinds.{per_box};
 ghost use Rattle.bb_net.specs.Values.{FitBoxes};
 ghost use Rattle.bb_checks.specs.Reports.{GivesTables};
 ghost use Rattle.bb_verdict.specs.FilledTexts.{MayFollowVerdict, answer_text};
@@ -27,8 +27,8 @@ fn put_filled(
     tables: &[Table],
 ) -> Result<(), NoMemory>
     requires clocks { HaveClocks imp.now }
-    requires tables { FitBoxes (spread kinds.now tables.now) imp.now.net.boxes }
-    ensures put { OnOk result ((answer : Answer) × IsFillAnswer imp.now (spread kinds.now tables.now) answer
+    requires tables { FitBoxes (per_box kinds.now tables.now) imp.now.net.boxes }
+    ensures put { OnOk result ((answer : Answer) × IsFillAnswer imp.now (per_box kinds.now tables.now) answer
         × (text.new.items ≡ text.old.items ++ answer_text answer)) }
 {
     match fill(alloc, imp, tables, kinds) {
@@ -57,7 +57,7 @@ pub(crate) fn put_rest(
 ) -> Result<(), NoMemory>
     requires clocks { HaveClocks imp.now }
     requires tables { (tables : List TableBits) → GivesTables lines.now tables
-        → FitBoxes (spread kinds.now tables) imp.now.net.boxes }
+        → FitBoxes (per_box kinds.now tables) imp.now.net.boxes }
     ensures put { OnOk result ((rest : List ℕ) × MayFollowVerdict true imp.now kinds.now lines.now rest
         × (text.new.items ≡ text.old.items ++ rest)) }
 {

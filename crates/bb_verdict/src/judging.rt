@@ -108,7 +108,8 @@ pub fn judge_pair(
         → IsOpenReport requested.now spec.now imp.now answer.report.items) }
     ensures refused { IfOk result (λ answer. answer.status ≡ 2
         → IsPairRefusal requested.now spec.now imp.now answer.report.items) }
-    ensures stays_refused { IfOk result (λ answer. (refusal : Refusal) → IsRefusal requested.now spec.now imp.now refusal
+    ensures stays_refused { IfOk result (λ answer. (refusal : Refusal)
+        → IsRefusal requested.now spec.now imp.now refusal
         → (answer.status ≡ 2) × (answer.report.items ≡ refusal_line refusal)) }
     ensures decided { IfOk result (λ answer. AreDecided requested.now spec.now imp.now
         → (answer.status ≡ 0) ⊎ (answer.status ≡ 1)) }

@@ -25,7 +25,8 @@ pub(crate) fn add_folded(
     requires some { 1 ≤ length bits.now }
     requires room { length net.old.cells + length bits.now < 2 ^ 32 }
     requires there { All (λ bit. bit < length net.old.cells) bits.now }
-    ensures made { IfOk result (λ place. Adds net.old net.new (place ∷ []) (λ part. folded (joint_gate formulas joint) (joint_none formulas joint) (map part bits.now)) nothing) }
+    ensures made { IfOk result (λ place. Adds net.old net.new (place ∷ [])
+        (λ part. folded (joint_gate formulas joint) (joint_none formulas joint) (map part bits.now)) nothing) }
     ensures grown { OnOk result (length net.new.cells ≡ length net.old.cells + (length bits.now - 1)) }
 {
     let mut highest_first = Vec::from_slice(alloc, bits)?;
@@ -37,7 +38,10 @@ fn add_inverted(alloc: Global, net: &mut Net, joint: Joint, bits: &[u32]) -> Res
     requires some { 1 ≤ length bits.now }
     requires room { length net.old.cells + length bits.now < 2 ^ 32 }
     requires there { All (λ bit. bit < length net.old.cells) bits.now }
-    ensures made { IfOk result (λ place. Adds net.old net.new (place ∷ []) (λ part. inverted formulas (folded (joint_gate formulas joint) (joint_none formulas joint) (map part bits.now))) nothing) }
+    ensures made { IfOk result (λ place. Adds net.old net.new (place ∷ [])
+        (λ part.
+        inverted formulas (folded (joint_gate formulas joint) (joint_none formulas joint) (map part bits.now)))
+        nothing) }
     ensures grown { OnOk result (length net.new.cells ≡ length net.old.cells + length bits.now) }
 {
     let place = add_folded(alloc, net, joint, bits)?;
@@ -54,7 +58,8 @@ pub(crate) fn add_fold(
     requires some { 1 ≤ length bits.now }
     requires room { length net.old.cells + length bits.now < 2 ^ 32 }
     requires there { All (λ bit. bit < length net.old.cells) bits.now }
-    ensures made { IfOk result (λ place. Adds net.old net.new (place ∷ []) (λ part. fold_circuit formulas op (map part bits.now)) nothing) }
+    ensures made { IfOk result (λ place.
+        Adds net.old net.new (place ∷ []) (λ part. fold_circuit formulas op (map part bits.now)) nothing) }
     ensures grown { OnOk result (length net.new.cells ≡ length net.old.cells + fold_cells op (length bits.now)) }
 {
     match op {

@@ -36,7 +36,8 @@ pub(crate) fn reduce(net: &mut Net, joint: Joint, bits: &[u32]) -> Result<u32, N
     requires some { 1 ≤ length bits.now }
     requires room { length net.old.cells + length bits.now < 2 ^ 32 }
     requires there { All (λ bit. bit < length net.old.cells) bits.now }
-    ensures made { IfOk result (λ place. Adds net.old net.new (place ∷ []) (λ part. joined_all (joint_gate formulas joint) (joint_none formulas joint) (map part bits.now)) nothing) }
+    ensures made { IfOk result (λ place. Adds net.old net.new (place ∷ [])
+        (λ part. joined_all (joint_gate formulas joint) (joint_none formulas joint) (map part bits.now)) nothing) }
     ensures grown { OnOk result (length net.new.cells ≡ length net.old.cells + (length bits.now - 1)) }
 {
     let mut so_far = bits[0];

@@ -2,7 +2,8 @@
 //! while circuits start at the least significant one; words are turned round here, once for the operands and once for
 //! the result.
 
-ghost use Rattle.std.specs.Prelude.{◌≡◌, ◌+◌, ◌<◌, ◌≤◌, ◌^◌, ◌++◌, ◌∷◌, [], Bool, List, All, length, map, reverse, IfOk, OnOk};
+ghost use Rattle.std.specs.Prelude.{◌≡◌, ◌+◌, ◌<◌, ◌≤◌, ◌^◌, ◌++◌, ◌∷◌, [], Bool, List, All, length, map, reverse};
+ghost use Rattle.std.specs.Prelude.{IfOk, OnOk};
 ghost use Rattle.std.specs.List.{range_with_len};
 ghost use Rattle.bb_bits.specs.Numbers.{number_of};
 ghost use Rattle.bb_net.specs.Values.{bit_of, flat};
@@ -54,8 +55,10 @@ pub fn word(alloc: Global, op: WordOp, left: u32, right: u32) -> Result<Net, NoM
     requires few_left { left ≤ 65536 }
     requires few_right { right ≤ 65536 }
     requires few_cells { word_cells op left right ≤ 2000000 }
-    ensures circuit { IfOk result (λ net. IsCircuit net (left + right) (word_circuit formulas op (reverse (inputs_from 0 left)) (reverse (inputs_from left right)))) }
-    ensures value { IfOk result (λ net. (a b : List Bool) → length a ≡ left → length b ≡ right → number_of (map (bit_of (flat net (a ++ b) [])) net.outs) ≡ word_number op a b) }
+    ensures circuit { IfOk result (λ net. IsCircuit net (left + right) (word_circuit formulas op
+        (reverse (inputs_from 0 left)) (reverse (inputs_from left right)))) }
+    ensures value { IfOk result (λ net. (a b : List Bool) → length a ≡ left → length b ≡ right
+        → number_of (map (bit_of (flat net (a ++ b) [])) net.outs) ≡ word_number op a b) }
     ensures width { IfOk result (λ net. length net.outs ≡ word_width op left) }
     ensures count { IfOk result (λ net. length net.cells ≡ left + right + 2 + word_cells op left right) }
 {
@@ -77,8 +80,10 @@ pub fn word(alloc: Global, op: WordOp, left: u32, right: u32) -> Result<Net, NoM
 pub fn fold(alloc: Global, op: FoldOp, width: u32) -> Result<Net, NoMemory>
     requires some { 1 ≤ width }
     requires few { width ≤ 65536 }
-    ensures circuit { IfOk result (λ net. IsCircuit net width (fold_circuit formulas op (reverse (inputs_from 0 width)))) }
-    ensures value { IfOk result (λ net. (a : List Bool) → length a ≡ width → map (bit_of (flat net a [])) net.outs ≡ fold_bit op a ∷ []) }
+    ensures circuit { IfOk result (λ net.
+        IsCircuit net width (fold_circuit formulas op (reverse (inputs_from 0 width)))) }
+    ensures value { IfOk result (λ net.
+        (a : List Bool) → length a ≡ width → map (bit_of (flat net a [])) net.outs ≡ fold_bit op a ∷ []) }
     ensures count { IfOk result (λ net. length net.cells ≡ width + 2 + fold_cells op width) }
 {
     value_is_unique();

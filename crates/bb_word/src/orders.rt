@@ -33,7 +33,8 @@ fn add_equality(
     requires room { length net.old.cells + 2 * length left.now < 2 ^ 32 }
     requires left { All (λ bit. bit < length net.old.cells) left.now }
     requires right { All (λ bit. bit < length net.old.cells) right.now }
-    ensures made { IfOk result (λ places. Adds net.old net.new places.items (λ part. equal_bits formulas (map part left.now) (map part right.now)) nothing) }
+    ensures made { IfOk result (λ places. Adds net.old net.new places.items
+        (λ part. equal_bits formulas (map part left.now) (map part right.now)) nothing) }
     ensures grown { OnOk result (length net.new.cells ≡ length net.old.cells + 2 * length left.now) }
     ensures count { IfOk result (λ places. length places.items ≡ length left.now) }
 {
@@ -56,8 +57,10 @@ pub(crate) fn add_equal(
     requires room { length net.old.cells + 3 * length left.now < 2 ^ 32 }
     requires left { All (λ bit. bit < length net.old.cells) left.now }
     requires right { All (λ bit. bit < length net.old.cells) right.now }
-    ensures made { IfOk result (λ place. Adds net.old net.new (place ∷ []) (λ part. equal formulas (map part left.now) (map part right.now)) nothing) }
-    ensures grown { OnOk result (length net.new.cells ≡ length net.old.cells + 2 * length left.now + (length left.now - 1)) }
+    ensures made { IfOk result (λ place.
+        Adds net.old net.new (place ∷ []) (λ part. equal formulas (map part left.now) (map part right.now)) nothing) }
+    ensures grown { OnOk result (length net.new.cells
+        ≡ length net.old.cells + 2 * length left.now + (length left.now - 1)) }
 {
     let mut equal_bits = add_equality(alloc, net, left, right)?;
     equal_bits.reverse();
@@ -84,7 +87,8 @@ pub(crate) fn add_less(net: &mut Net, left: &[u32], right: &[u32]) -> Result<u32
     requires constants { HasConstants net.old.cells }
     requires left { All (λ bit. bit < length net.old.cells) left.now }
     requires right { All (λ bit. bit < length net.old.cells) right.now }
-    ensures made { IfOk result (λ place. Adds net.old net.new (place ∷ []) (λ part. less formulas formulas.zero (map part left.now) (map part right.now)) nothing) }
+    ensures made { IfOk result (λ place. Adds net.old net.new (place ∷ [])
+        (λ part. less formulas formulas.zero (map part left.now) (map part right.now)) nothing) }
     ensures grown { OnOk result (length net.new.cells ≡ length net.old.cells + 2 * length left.now) }
 {
     let mut so_far = 0;

@@ -92,7 +92,8 @@ fn add_choices(
     requires choice { choice < length net.old.cells }
     requires chosen { All (λ bit. bit < length net.old.cells) chosen.now }
     requires others { All (λ bit. bit < length net.old.cells) others.now }
-    ensures made { IfOk result (λ places. Adds net.old net.new places.items (λ part. both_choices (part choice) (map part chosen.now) (map part others.now)) nothing) }
+    ensures made { IfOk result (λ places. Adds net.old net.new places.items
+        (λ part. both_choices (part choice) (map part chosen.now) (map part others.now)) nothing) }
     ensures grown { OnOk result (length net.new.cells ≡ length net.old.cells + length chosen.now) }
     ensures count { IfOk result (λ places. length places.items ≡ length chosen.now) }
 {
@@ -118,7 +119,9 @@ fn add_stage(
     requires choice { choice < length net.old.cells }
     requires there { All (λ bit. bit < length net.old.cells) bits.now }
     ensures made { IfOk result (λ places. Adds net.old net.new places.items
-        (λ part. both_choices (part choice) (move direction formulas.zero distance (map part bits.now)) (map part bits.now)) nothing) }
+        (λ part. both_choices (part choice) (move direction formulas.zero distance (map part bits.now))
+        (map part bits.now))
+        nothing) }
     ensures grown { OnOk result (length net.new.cells ≡ length net.old.cells + length bits.now) }
     ensures count { IfOk result (λ places. length places.items ≡ length bits.now) }
 {

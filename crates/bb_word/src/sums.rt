@@ -34,7 +34,11 @@ pub(crate) fn add_complements(
     requires room { length net.old.cells + length bits.now < 2 ^ 32 }
     requires there { All (λ bit. bit < length net.old.cells) bits.now }
     ensures made { IfOk result (λ places. Adds net.old net.new places.items
-        (λ part. record { bits = complements formulas (map part bits.now); cells = complements formulas (map part bits.now) }) nothing) }
+        (λ part. record {
+          bits = complements formulas (map part bits.now);
+          cells = complements formulas (map part bits.now);
+        })
+        nothing) }
     ensures grown { OnOk result (length net.new.cells ≡ length net.old.cells + length bits.now) }
     ensures count { IfOk result (λ places. length places.items ≡ length bits.now) }
 {
@@ -76,7 +80,8 @@ pub(crate) fn add_sum(
     requires carry { carry < length net.old.cells }
     requires left { All (λ bit. bit < length net.old.cells) left.now }
     requires right { All (λ bit. bit < length net.old.cells) right.now }
-    ensures made { IfOk result (λ places. Adds net.old net.new places.items (λ part. sum formulas (part carry) (map part left.now) (map part right.now)) nothing) }
+    ensures made { IfOk result (λ places. Adds net.old net.new places.items
+        (λ part. sum formulas (part carry) (map part left.now) (map part right.now)) nothing) }
     ensures grown { OnOk result (length net.new.cells ≡ length net.old.cells + 5 * length left.now) }
 {
     let mut places = Vec::with_capacity(alloc, left.len())?;
@@ -101,7 +106,8 @@ pub(crate) fn add_difference(
     requires constants { HasConstants net.old.cells }
     requires left { All (λ bit. bit < length net.old.cells) left.now }
     requires right { All (λ bit. bit < length net.old.cells) right.now }
-    ensures made { IfOk result (λ places. Adds net.old net.new places.items (λ part. difference formulas (map part left.now) (map part right.now)) nothing) }
+    ensures made { IfOk result (λ places. Adds net.old net.new places.items
+        (λ part. difference formulas (map part left.now) (map part right.now)) nothing) }
     ensures grown { OnOk result (length net.new.cells ≡ length net.old.cells + 6 * length left.now) }
 {
     let complements = add_complements(alloc, net, right)?;

@@ -30,8 +30,10 @@ fn add_truths(
     requires room { length net.old.cells + length left.now + length right.now + 1 < 2 ^ 32 }
     requires left { All (λ bit. bit < length net.old.cells) left.now }
     requires right { All (λ bit. bit < length net.old.cells) right.now }
-    ensures made { IfOk result (λ place. Adds net.old net.new (place ∷ []) (λ part. truths formulas (joint_gate formulas joint) (map part left.now) (map part right.now)) nothing) }
-    ensures grown { OnOk result (length net.new.cells ≡ length net.old.cells + ((length left.now - 1) + (length right.now - 1) + 1)) }
+    ensures made { IfOk result (λ place. Adds net.old net.new (place ∷ [])
+        (λ part. truths formulas (joint_gate formulas joint) (map part left.now) (map part right.now)) nothing) }
+    ensures grown { OnOk result (length net.new.cells
+        ≡ length net.old.cells + ((length left.now - 1) + (length right.now - 1) + 1)) }
 {
     let first = add_folded(alloc, net, Joint::Either, left)?;
     let second = add_folded(alloc, net, Joint::Either, right)?;
@@ -44,7 +46,8 @@ fn add_not_less(net: &mut Net, left: &[u32], right: &[u32]) -> Result<u32, NoMem
     requires constants { HasConstants net.old.cells }
     requires left { All (λ bit. bit < length net.old.cells) left.now }
     requires right { All (λ bit. bit < length net.old.cells) right.now }
-    ensures made { IfOk result (λ place. Adds net.old net.new (place ∷ []) (λ part. inverted formulas (less formulas formulas.zero (map part left.now) (map part right.now))) nothing) }
+    ensures made { IfOk result (λ place. Adds net.old net.new (place ∷ [])
+        (λ part. inverted formulas (less formulas formulas.zero (map part left.now) (map part right.now))) nothing) }
     ensures grown { OnOk result (length net.new.cells ≡ length net.old.cells + (2 * length left.now + 1)) }
 {
     let less = add_less(net, left, right)?;
@@ -58,8 +61,10 @@ fn add_unequal(alloc: Global, net: &mut Net, left: &[u32], right: &[u32]) -> Res
     requires room { length net.old.cells + 3 * length left.now + 1 < 2 ^ 32 }
     requires left { All (λ bit. bit < length net.old.cells) left.now }
     requires right { All (λ bit. bit < length net.old.cells) right.now }
-    ensures made { IfOk result (λ place. Adds net.old net.new (place ∷ []) (λ part. inverted formulas (equal formulas (map part left.now) (map part right.now))) nothing) }
-    ensures grown { OnOk result (length net.new.cells ≡ length net.old.cells + (2 * length left.now + (length left.now - 1) + 1)) }
+    ensures made { IfOk result (λ place. Adds net.old net.new (place ∷ [])
+        (λ part. inverted formulas (equal formulas (map part left.now) (map part right.now))) nothing) }
+    ensures grown { OnOk result (length net.new.cells
+        ≡ length net.old.cells + (2 * length left.now + (length left.now - 1) + 1)) }
 {
     let equal = add_equal(alloc, net, left, right)?;
     let place = add_complement(net, equal)?;
@@ -85,7 +90,8 @@ fn add_plain_sum(
     requires constants { HasConstants net.old.cells }
     requires left { All (λ bit. bit < length net.old.cells) left.now }
     requires right { All (λ bit. bit < length net.old.cells) right.now }
-    ensures made { IfOk result (λ places. Adds net.old net.new places.items (λ part. sum formulas formulas.zero (map part left.now) (map part right.now)) nothing) }
+    ensures made { IfOk result (λ places. Adds net.old net.new places.items
+        (λ part. sum formulas formulas.zero (map part left.now) (map part right.now)) nothing) }
     ensures grown { OnOk result (length net.new.cells ≡ length net.old.cells + 5 * length left.now) }
 {
     add_sum(alloc, net, 0, left, right)
@@ -107,8 +113,10 @@ pub(crate) fn add_word(
     requires constants { HasConstants net.old.cells }
     requires left { All (λ bit. bit < length net.old.cells) left.now }
     requires right { All (λ bit. bit < length net.old.cells) right.now }
-    ensures made { IfOk result (λ places. Adds net.old net.new places.items (λ part. word_circuit formulas op (map part left.now) (map part right.now)) nothing) }
-    ensures grown { OnOk result (length net.new.cells ≡ length net.old.cells + word_cells op (length left.now) (length right.now)) }
+    ensures made { IfOk result (λ places. Adds net.old net.new places.items
+        (λ part. word_circuit formulas op (map part left.now) (map part right.now)) nothing) }
+    ensures grown { OnOk result (length net.new.cells
+        ≡ length net.old.cells + word_cells op (length left.now) (length right.now)) }
 {
     match op {
         WordOp::Plus => add_plain_sum(alloc, net, left, right),

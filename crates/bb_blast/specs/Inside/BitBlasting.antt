@@ -12,6 +12,7 @@ use Rattle.bb_names.specs.Ranges.{range_width}
 use Rattle.bb_names.specs.Sites.{module_named}
 use Rattle.bb_expr.specs.Inside.Fit.{AreFit}
 use Rattle.bb_expr.specs.Inside.Occurrences.{OccursAt}
+use Rattle.bb_blast.specs.declared.module_context.ModuleContext.{ModuleContext}
 use Rattle.bb_blast.specs.declared.template.Part.{Part}
 use Rattle.bb_blast.specs.declared.placed.Placed.{Placed}
 use Rattle.bb_design.specs.Constructs.{Construct, Assignment, GateInstance, Register, SupplyNet, InputConnection, OutputConnection, BoxContents, body_constructs}
@@ -73,6 +74,13 @@ pub record IsMakeable (checked : List ModuleFacts) (k : ℕ) (c : Construct) : T
 -- a part implements a construct of the module at a place
 abbrev pub IsPartAt : List ModuleFacts → ℕ → Part → Construct → Type 0
 IsPartAt checked k = IsPartOf (map syntax checked) (module_in checked k)
+
+-- for the module of a context: a part can be made for the construct, and parts implement constructs
+abbrev pub IsMakeableIn : ModuleContext → Construct → Type 0
+IsMakeableIn context = IsMakeable context.checked.now context.«module»
+
+abbrev pub ArePartsIn : ModuleContext → List Part → List Construct → Type 0
+ArePartsIn context = AllZip (IsPartAt context.checked.now context.«module»)
 
 -- the module has few bits, and its constructs make few cells
 pub record IsModest (text : List PlainModule) (m : PlainModule) : Type 0 where

@@ -35,3 +35,8 @@ pub record IsBackjump (entries : List Entry) (c : Literals) (place back : ℕ) :
 pub record IsResolved (clauses : List (List Lit)) (first : Literals) (pairs : List (ℕ × ℕ)) (resolvent : PartialResolvent) : Type 0 where
   pub made : chain (map literals_of clauses) first pairs ≡ Some (held resolvent)
   pub listed : AreListed resolvent
+
+-- whatever these steps resolve to, the new steps resolve to the new resolvent
+abbrev pub StaysResolved : List (List Lit) → List (ℕ × ℕ) → PartialResolvent → List (ℕ × ℕ) → PartialResolvent → Type 0
+StaysResolved clauses pairs resolvent more next = (first : Literals) → IsResolved clauses first pairs resolvent
+    → IsResolved clauses first more next

@@ -106,29 +106,33 @@ impl Levels {
     }
 
     // The highest level on which the clause has two literals that are not false, or implies one no later than it could.
-    fn requested_by(&self, clause: &[Lit], values: &[Option<bool>]) -> u32 {
+    fn backjump_level_of(&self, clause: &[Lit], values: &[Option<bool>]) -> u32 {
         let (first, second) = self.last_two(clause, values);
         let high = self.falls(first, values);
-        let root = if second == first {
+        let low = if second == first {
             0
         } else {
             self.falls(second, values)
         };
-        if self.holds_since(first, root, values) {
+        if self.holds_since(first, low, values) {
             u32::MAX
-        } else if high > root {
-            root
+        } else if high > low {
+            low
         } else {
-            root.saturating_sub(1)
+            low.saturating_sub(1)
         }
     }
 
     /// The lowest of the levels that these clauses need; `u32::MAX` where the trail may stay.
-    pub(crate) fn requested(&self, clauses: &[SmallVec<Lit, 4>], values: &[Option<bool>]) -> u32 {
-        let mut requested = u32::MAX;
+    pub(crate) fn backjump_level(
+        &self,
+        clauses: &[SmallVec<Lit, 4>],
+        values: &[Option<bool>],
+    ) -> u32 {
+        let mut level = u32::MAX;
         for clause in clauses {
-            requested = requested.min(self.requested_by(clause.as_slice(), values));
+            level = level.min(self.backjump_level_of(clause.as_slice(), values));
         }
-        requested
+        level
     }
 }

@@ -48,8 +48,8 @@ impl Scores {
     }
 
     fn is_before(&self, a: u32, b: u32) -> bool {
-        let (high, root) = (self.score(a), self.score(b));
-        high > root || (high == root && a < b)
+        let (high, low) = (self.score(a), self.score(b));
+        high > low || (high == low && a < b)
     }
 
     fn put(&mut self, place: u32, var: u32) {

@@ -13,18 +13,18 @@ use Rattle.bb_options.specs.declared.options.Options.{Options}
 use Rattle.bb_options.specs.declared.rung.Rung.{Rung}
 use Rattle.bb_options.specs.declared.rung.Rung.TheVariants.{Expand}
 use Rattle.bb_checks.specs.declared.verdict.Verdict.TheVariants as verdicts
-use Rattle.bb_checks.specs.LeftOpen.{LeavesOpen, StaysOpen, Decides}
+use Rattle.bb_checks.specs.LeftOpen.{MayLeaveOpen, MustLeaveOpen, Decides}
 use Rattle.bb_checks.specs.Laws.Searches.{MayDependOnSearch}
 use Rattle.bb_checks.specs.Reports.{rung_line, check_line_text, verdict_of}
 use Rattle.bb_checks.specs.Rungs.{IsClimb, MayReport}
 
 -- where a check leaves the question open for one pair, it does for an isomorphic one
 abbrev pub IsomorphicPairsAreLeftOpen : Type 0
-IsomorphicPairsAreLeftOpen = (p q : NetPair) (o : Options) (r : Rung) → IsPair p → IsPair q → AreIsomorphicPairs p q → LeavesOpen p o r → LeavesOpen q o r
+IsomorphicPairsAreLeftOpen = (p q : NetPair) (o : Options) (r : Rung) → IsPair p → IsPair q → AreIsomorphicPairs p q → MayLeaveOpen p o r → MayLeaveOpen q o r
 
 -- where it stays open with the one, it does with the other
 abbrev pub IsomorphicPairsStayOpen : Type 0
-IsomorphicPairsStayOpen = (p q : NetPair) (o : Options) (r : Rung) → IsPair p → IsPair q → AreIsomorphicPairs p q → StaysOpen p o r → StaysOpen q o r
+IsomorphicPairsStayOpen = (p q : NetPair) (o : Options) (r : Rung) → IsPair p → IsPair q → AreIsomorphicPairs p q → MustLeaveOpen p o r → MustLeaveOpen q o r
 
 -- where the answer to one may depend on the search, that to the other may
 abbrev pub IsomorphicPairsDependTheSame : Type 0

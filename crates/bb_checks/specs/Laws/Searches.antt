@@ -3,7 +3,7 @@
 use Rattle.std.specs.Prelude.{Contains}
 use Rattle.bb_expand.specs.GivenUp.{NeedsMoreClauses}
 use Rattle.bb_net.specs.Completions.{HaveSmallTables}
-use Rattle.bb_net.specs.Kinds.{shown}
+use Rattle.bb_net.specs.Kinds.{representatives}
 use Rattle.bb_net.specs.Pairs.{NetPair}
 use Rattle.bb_options.specs.declared.options.Options.{Options}
 use Rattle.bb_options.specs.declared.rung.Rung.TheVariants.{Expand}
@@ -13,5 +13,5 @@ use Rattle.bb_options.specs.Rungs.{requested_rungs}
 -- than its bound: others may decide
 pub record MayDependOnSearch (p : NetPair) (o : Options) : Type 0 where
   pub requested : Contains (requested_rungs o) Expand
-  pub small : HaveSmallTables (shown p.kinds p.imp.boxes)
+  pub small : HaveSmallTables (representatives p.kinds p.imp.boxes)
   pub needs : NeedsMoreClauses p.spec p.imp p.kinds o.clauses

@@ -1,7 +1,7 @@
 -- Laws of the vectors that a report shows: at each the pair is wrong, and its line determines the vector.
 use Rattle.std.specs.Prelude.{◌≡◌, ℕ, Bool, List, map, vec_items, length, All, Option, None, Some}
 use Rattle.bb_net.specs.Equivalence.{IsVector, IsOutput}
-use Rattle.bb_net.specs.Conditions.{IsAlwaysWrong, HasAlwaysWrong}
+use Rattle.bb_net.specs.Conditions.{IsAlwaysWrong, AlwaysSomeWrongAt}
 use Rattle.bb_net.specs.Pairs.{NetPair}
 use Rattle.bb_options.specs.declared.options.Options.{Options}
 use Rattle.bb_sym.specs.declared.found.Found.{Found}
@@ -18,7 +18,7 @@ use Rattle.bb_checks.specs.Rungs.{IsClimb}
 -- output is
 abbrev pub IsWrongAt : NetPair → List Bool → Option ℕ → Type 0
 IsWrongAt p x (Some j) = IsOutput p.imp j × IsAlwaysWrong p.spec p.imp x j
-IsWrongAt p x None = HasAlwaysWrong p.spec p.imp x
+IsWrongAt p x None = AlwaysSomeWrongAt p.spec p.imp x
 
 -- what is found is an error of the pair
 pub record IsMistake (p : NetPair) (found : Found) : Type 0 where

@@ -2,7 +2,7 @@
 use Rattle.std.specs.Prelude.{◌≡◌, ◌↔◌, ℕ, ◌<◌, ◌^◌, Bool, List, length, map, All, Contains, slice_index}
 use Rattle.bb_bits.specs.Numbers.{number_of, bits_of}
 use Rattle.bb_bits.specs.Tables.{TableBits}
-use Rattle.bb_net.specs.Kinds.{AreNumberedInOrder, FitKinds, first_places, shown, spread}
+use Rattle.bb_net.specs.Kinds.{AreNumberedInOrder, FitKinds, first_places, representatives, per_box}
 use Rattle.bb_net.specs.Netlists.{Netlist, Pins, IsOrdered, box_at}
 use Rattle.bb_net.specs.Values.{FitBoxes, IsValue, table_at, value_of}
 
@@ -22,10 +22,10 @@ ValueIsUnique = (net : Netlist) (x : List Bool) (box : ℕ → ℕ → List Bool
 
 -- boxes of one sharing class are shown by the first of them, and have one table
 pub record Sharing : Type 0 where
-  pub count : (kinds : List ℕ) (boxes : List Pins) (k : ℕ) → AreNumberedInOrder kinds → length boxes ≡ length kinds → (k < length (shown kinds boxes)) ↔ Contains kinds k
-  pub inputs : (kinds : List ℕ) (boxes : List Pins) (b : ℕ) → FitKinds kinds boxes → b < length boxes → length (box_at (shown kinds boxes) (slice_index kinds b)).ins ≡ length (box_at boxes b).ins
-  pub outputs : (kinds : List ℕ) (boxes : List Pins) (b : ℕ) → FitKinds kinds boxes → b < length boxes → length (box_at (shown kinds boxes) (slice_index kinds b)).outs ≡ length (box_at boxes b).outs
-  pub firsts : (kinds : List ℕ) (boxes : List Pins) → AreNumberedInOrder kinds → length boxes ≡ length kinds → shown kinds boxes ≡ map (box_at boxes) (first_places kinds)
+  pub count : (kinds : List ℕ) (boxes : List Pins) (k : ℕ) → AreNumberedInOrder kinds → length boxes ≡ length kinds → (k < length (representatives kinds boxes)) ↔ Contains kinds k
+  pub inputs : (kinds : List ℕ) (boxes : List Pins) (b : ℕ) → FitKinds kinds boxes → b < length boxes → length (box_at (representatives kinds boxes) (slice_index kinds b)).ins ≡ length (box_at boxes b).ins
+  pub outputs : (kinds : List ℕ) (boxes : List Pins) (b : ℕ) → FitKinds kinds boxes → b < length boxes → length (box_at (representatives kinds boxes) (slice_index kinds b)).outs ≡ length (box_at boxes b).outs
+  pub firsts : (kinds : List ℕ) (boxes : List Pins) → AreNumberedInOrder kinds → length boxes ≡ length kinds → representatives kinds boxes ≡ map (box_at boxes) (first_places kinds)
   pub there : (kinds : List ℕ) → AreNumberedInOrder kinds → All (λ b. b < length kinds) (first_places kinds)
-  pub fit : (kinds : List ℕ) (boxes : List Pins) (tables : List TableBits) → FitKinds kinds boxes → FitBoxes tables (shown kinds boxes) → FitBoxes (spread kinds tables) boxes
-  pub at : (kinds : List ℕ) (tables : List TableBits) (b : ℕ) → b < length kinds → table_at (spread kinds tables) b ≡ table_at tables (slice_index kinds b)
+  pub fit : (kinds : List ℕ) (boxes : List Pins) (tables : List TableBits) → FitKinds kinds boxes → FitBoxes tables (representatives kinds boxes) → FitBoxes (per_box kinds tables) boxes
+  pub at : (kinds : List ℕ) (tables : List TableBits) (b : ℕ) → b < length kinds → table_at (per_box kinds tables) b ≡ table_at tables (slice_index kinds b)

@@ -15,7 +15,7 @@ use Rattle.bb_expr.specs.Lists.{extended, bitwise}
 use Rattle.bb_expr.specs.Terms.{Term, Const, And, Or, Xor, terms}
 use Rattle.bb_word.specs.Words.{word_circuit}
 use Rattle.bb_word.specs.Folds.{fold_circuit}
-use Rattle.bb_expr.specs.Cells.{MadeTerms, made, inverted, any_bit, operated, chained, arm_made}
+use Rattle.bb_expr.specs.Cells.{MadeTerms, made, complement_terms, any_bit, operated, chained, arm_made}
 use Rattle.bb_expr.specs.Lowered.{ReadsEarlier, operators, term_at}
 
 abbrev pub step_at : List BitStep → ℕ → BitStep
@@ -73,7 +73,7 @@ widened w m = record { bits = extended (Const false) w m.bits; cells = m.cells }
 
 -- with a complement of each bit
 abbrev pub complemented : MadeTerms → MadeTerms
-complemented m = record { bits = inverted m.bits; cells = m.cells ++ inverted m.bits }
+complemented m = record { bits = complement_terms m.bits; cells = m.cells ++ complement_terms m.bits }
 
 -- one expression's bits with another's, by an operator
 abbrev pub gated : Op → MadeTerms → MadeTerms → MadeTerms

@@ -7,7 +7,7 @@ use Rattle.bb_net.specs.Values.{bit_of, value_of}
 use Rattle.bb_net.specs.Flats.{FlatNet, ArePrintable, IsFlat}
 use Rattle.bb_design.specs.Hierarchy.{Design}
 use Rattle.bb_design.specs.NetBits.{net_order, top_inputs}
-use Rattle.bb_implements.specs.Places.{NetBit, Numbering, Lowering, IsLowering, places, IsListOf}
+use Rattle.bb_implements.specs.Places.{NetBit, Numbering, Lowering, IsLowering, placed_cells, IsListOf}
 use Rattle.bb_design.specs.Registers.{registers}
 use Rattle.bb_design.specs.Sizes.{cells_in}
 use Rattle.bb_implements.specs.Implements.{box_number, Implements}
@@ -67,7 +67,7 @@ NetsAreNoLarger = (d : Design) (f : FlatNet) → IsBounded d → Implements d f 
 -- the list of cells of a design has no more places than the design has cells and bits of nets, however it is numbered
 abbrev pub PlacesAreFew : Type 0
 PlacesAreFew = (d : Design) (lowering : Lowering) (number : Numbering) → IsBounded d → IsLowering d lowering
-    → length (places d lowering number) ≤ cells_in d + length (net_order d)
+    → length (placed_cells d lowering number) ≤ cells_in d + length (net_order d)
 
 -- one that implements a sound design is a flat netlist, where its texts are printable
 abbrev pub ImplementingNetsAreFlat : Type 0

@@ -5,7 +5,7 @@ use Rattle.std.specs.Prelude.{◌≡◌, ◌≤◌, ◌<◌, ℕ, Bool, List, []
 use Rattle.bb_bits.specs.Numbers.{number_of}
 use Rattle.bb_bits.specs.Tables.{TableBits, row_of}
 use Rattle.bb_net.specs.Completions.{HaveSmallTables, AreCompletion}
-use Rattle.bb_net.specs.Conditions.{Suit, SomeChoicesSuit, NoChoicesSuit}
+use Rattle.bb_net.specs.Conditions.{ChoicesSuit, SomeChoicesSuit, NoChoicesSuit}
 use Rattle.bb_net.specs.Netlists.{Netlist, box_at}
 use Rattle.bb_net.specs.Values.{output_pins, table_at}
 use Rattle.bb_input.specs.declared.InputAnswer.{InputAnswer}
@@ -19,8 +19,8 @@ pub record IsFinishable (imp : Netlist) : Type 0 where
 -- for the bits ins at the input pins of the only box, outs suit every vector that leads to them, and no lesser bits do
 pub record AreLeastOutputs (spec imp : Netlist) (ins outs : List Bool) : Type 0 where
   pub whole : length outs ≡ output_pins imp.boxes
-  pub suit : Suit spec imp (record { ins = ins; outs = outs } ∷ [])
-  pub least : (others : List Bool) → length others ≡ output_pins imp.boxes → Suit spec imp (record { ins = ins; outs = others } ∷ []) → number_of outs ≤ number_of others
+  pub suit : ChoicesSuit spec imp (record { ins = ins; outs = outs } ∷ [])
+  pub least : (others : List Bool) → length others ≡ output_pins imp.boxes → ChoicesSuit spec imp (record { ins = ins; outs = others } ∷ []) → number_of outs ≤ number_of others
 
 -- tables of the boxes, of which there is at most one, each row the least
 pub record AreLeastTables (spec imp : Netlist) (tables : List TableBits) : Type 0 where

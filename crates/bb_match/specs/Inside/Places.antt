@@ -4,7 +4,7 @@ use Rattle.std.specs.Option.{unwrap_or}
 use Rattle.std.specs.Map.{lookup}
 use Rattle.bb_bits.specs.Names.{same_name}
 use Rattle.bb_net.specs.Flats.{FlatNet}
-use Rattle.bb_net.specs.CutPoints.{register_texts}
+use Rattle.bb_net.specs.CutPoints.{state_texts}
 
 -- each place is one at which the text is, and each text of the list has one
 pub record ArePlaces (texts : List (List ℕ)) (entries : List (List ℕ × ℕ)) : Type 0 where
@@ -17,7 +17,7 @@ text_place entries text = unwrap_or (lookup (same_name text) entries) 0
 
 -- the texts of the registers of a flat netlist, and the places of its texts
 pub record IsIndexOf (f : FlatNet) (reg_texts : List (List ℕ)) (in_places reg_places out_places : List (List ℕ × ℕ)) : Type 0 where
-  pub texts : reg_texts ≡ register_texts f
+  pub texts : reg_texts ≡ state_texts f
   pub ins : ArePlaces f.ins in_places
-  pub regs : ArePlaces (register_texts f) reg_places
+  pub regs : ArePlaces (state_texts f) reg_places
   pub outs : ArePlaces f.outs out_places

@@ -1,5 +1,5 @@
 -- The leftmost fault of each kind among sites that are visited from left to right.
-use Rattle.std.specs.Prelude.{◌≡◌, ◌⊎◌, ℕ, ◌-◌, ◌^◌, ◌==◌, Bool, not, if◌then◌else◌, List, [], ◌∷◌, ◌++◌, Option, Some, None, option_map, fold, min, Result, MatchResult}
+use Rattle.std.specs.Prelude.{◌≡◌, ◌⊎◌, ℕ, ◌-◌, ◌^◌, ◌==◌, Bool, not, if◌then◌else◌, List, [], ◌∷◌, ◌++◌, Option, Some, None, option_map, fold, min, Result, MatchResult, OnOk}
 use Rattle.std.specs.List.{flat_map}
 use Rattle.std.specs.Option.{option_or}
 use Rattle.bb_ast.specs.declared.module.Gate.{Gate}
@@ -34,6 +34,10 @@ noted text m f sites = record {
   width = option_or f.width (first_reported wrong_width text m sites);
   role = option_or f.role (first_reported wrong_role text m sites);
 }
+
+-- after a call that ends well, what is found is noted of these sites besides, whatever modules the text has
+abbrev pub Notes : {A E : Type 0} → Result A E → PlainModule → Found → Found → List Site → Type 0
+Notes result m old new sites = (text : List PlainModule) → OnOk result (new ≡ noted text m old sites)
 
 abbrev pub nothing : Found
 nothing = record { twice = None; unknown = None; select = None; width = None; role = None }

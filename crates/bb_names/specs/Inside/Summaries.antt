@@ -1,6 +1,6 @@
 -- What the declarations of one name say together: the range of the first and whether it is an instance's, the first direction,
 -- the first kind, whether one is an instance's, and whether those that are no supplies have one range.
-use Rattle.std.specs.Prelude.{◌≡◌, ℕ, Bool, true, false, not, ◌&&◌, ◌||◌, List, map, Option, is_some}
+use Rattle.std.specs.Prelude.{◌≡◌, ℕ, Bool, true, false, not, ◌&&◌, ◌||◌, List, ◌++◌, map, Option, is_some, Result, OnOk}
 use Rattle.std.specs.List.{find, filter, list_any}
 use Rattle.std.specs.Map.{lookup}
 use Rattle.std.specs.Option.{option_and_then, option_map_or}
@@ -48,3 +48,7 @@ pub record IsSummary (n : List ℕ) (all : List Declaration) (s : Option Summary
 -- the entries hold for each name what its declarations say
 abbrev pub Describes : List (List ℕ × Summary) → List Declaration → Type 0
 Describes entries all = (n : List ℕ) → IsSummary n all (lookup (same_name n) entries)
+
+-- after a call that ends well, the entries describe these declarations besides
+abbrev pub Declares : {A E : Type 0} → Result A E → List (List ℕ × Summary) → List (List ℕ × Summary) → List Declaration → Type 0
+Declares result old new more = (before : List Declaration) → Describes old before → OnOk result (Describes new (before ++ more))

@@ -7,7 +7,8 @@ ghost use Rattle.bb_ast.specs.Syntax.{PlainModule};
 ghost use Rattle.bb_ast.specs.Inside.Views.{expression, operand_view, arm_view, module_view};
 ghost use Rattle.bb_names.specs.Declarations.{direction_of, range_of};
 ghost use Rattle.bb_names.specs.Faults.{is_input_port, width_in};
-ghost use Rattle.bb_names.specs.Inside.Firsts.{noted, noted_width, use_of, inner_sites, sites_of_part, saturated, words_width};
+ghost use Rattle.bb_names.specs.Inside.Firsts.{noted, noted_width, use_of, inner_sites, sites_of_part, saturated};
+ghost use Rattle.bb_names.specs.Inside.Firsts.{words_width, Notes};
 ghost use Rattle.bb_names.specs.Ranges.{distance, range_width};
 ghost use Rattle.bb_names.specs.Sites.{Used, is_plain, sites_in};
 ghost use Rattle.bb_names.specs.Widths.{greatest};
@@ -38,7 +39,7 @@ pub(crate) fn look_at_name(
     bits: Option<(u32, u32)>,
     found: &mut Found,
 ) -> Result<NetFacts, NoMemory>
-    ensures noted { (text : List PlainModule) → OnOk result (found.new ≡ noted text (module_view of.now) found.old (Used (use_of role) name.now bits ∷ [])) }
+    ensures noted { Notes result (module_view of.now) found.old found.new (Used (use_of role) name.now bits ∷ []) }
     ensures range { IfOk result (λ facts. facts.range ≡ range_of (module_view of.now) name.now) }
 {
     let facts = of.facts(name);
@@ -55,8 +56,7 @@ fn look_at_net(
     name: &Name,
     found: &mut Found,
 ) -> Result<u64, NoMemory>
-    ensures noted { (text : List PlainModule)
-        → OnOk result (found.new ≡ noted text (module_view of.now) found.old (Used (use_of role) name.now None ∷ [])) }
+    ensures noted { Notes result (module_view of.now) found.old found.new (Used (use_of role) name.now None ∷ []) }
     ensures width { IfOk result (λ w. w ≡ saturated (range_width (range_of (module_view of.now) name.now))) }
 {
     let facts = look_at_name(of, role, name, None, found)?;
@@ -71,8 +71,8 @@ fn look_at_bits(
     j: u32,
     found: &mut Found,
 ) -> Result<u64, NoMemory>
-    ensures noted { (text : List PlainModule)
-        → OnOk result (found.new ≡ noted text (module_view of.now) found.old (Used (use_of role) name.now (Some (i, j)) ∷ [])) }
+    ensures noted { Notes result (module_view of.now) found.old found.new (Used (use_of role) name.now (Some (i, j))
+        ∷ []) }
     ensures width { IfOk result (λ w. w ≡ saturated (distance i j + 1)) }
 {
     look_at_name(of, role, name, Some((i, j)), found)?;
@@ -88,7 +88,8 @@ pub(crate) fn look(
     expr: &Expr,
     found: &mut Found,
 ) -> Result<u64, NoMemory>
-    ensures noted { (text : List PlainModule) → OnOk result (found.new ≡ noted text (module_view of.now) found.old (sites_in (use_of role) (expression expr.now))) }
+    ensures noted { Notes result (module_view of.now) found.old found.new (sites_in (use_of role)
+        (expression expr.now)) }
     ensures width { IfOk result (λ w. w ≡ saturated (width_in (module_view of.now) (expression expr.now))) }
 {
     let free = found.width.is_none();
@@ -109,7 +110,8 @@ fn look_inside(
     expr: &Expr,
     found: &mut Found,
 ) -> Result<u64, NoMemory>
-    ensures noted { (text : List PlainModule) → OnOk result (found.new ≡ noted text (module_view of.now) found.old (inner_sites (use_of role) (expression expr.now))) }
+    ensures noted { Notes result (module_view of.now) found.old found.new (inner_sites (use_of role)
+        (expression expr.now)) }
     ensures width { IfOk result (λ w. w ≡ saturated (width_in (module_view of.now) (expression expr.now))) }
 {
     match expr {
@@ -148,8 +150,10 @@ fn look_at_operands(
     rest: &[(Op, Expr)],
     found: &mut Found,
 ) -> Result<u64, NoMemory>
-    ensures noted { (text : List PlainModule) → OnOk result (found.new ≡ noted text (module_view of.now) found.old (flat_map (λ x. sites_in (use_of role) x.1) (map operand_view rest.now))) }
-    ensures width { IfOk result (λ w. w ≡ saturated (greatest (map (λ x. width_in (module_view of.now) x.1) (map operand_view rest.now)))) }
+    ensures noted { Notes result (module_view of.now) found.old found.new (flat_map
+        (λ x. sites_in (use_of role) x.1) (map operand_view rest.now)) }
+    ensures width { IfOk result (λ w.
+        w ≡ saturated (greatest (map (λ x. width_in (module_view of.now) x.1) (map operand_view rest.now)))) }
 {
     let mut width = 0;
     for (_, operand) in rest {
@@ -168,8 +172,12 @@ fn look_at_words(
     rest: &[(WordOp, Expr)],
     found: &mut Found,
 ) -> Result<u64, NoMemory>
-    ensures noted { (text : List PlainModule) → OnOk result (found.new ≡ noted text (module_view of.now) found.old (flat_map (λ x. sites_in (use_of role) x.1) (map operand_view rest.now))) }
-    ensures width { (left : ℕ) → first ≡ saturated left → IfOk result (λ w. w ≡ saturated (words_width left (map (λ x. (x.0, width_in (module_view of.now) x.1)) (map operand_view rest.now)))) }
+    ensures noted { Notes result (module_view of.now) found.old found.new (flat_map
+        (λ x. sites_in (use_of role) x.1) (map operand_view rest.now)) }
+    ensures width { (left : ℕ) → first ≡ saturated left
+        → IfOk result (λ w. w
+        ≡ saturated (words_width left (map (λ x. (x.0, width_in (module_view of.now) x.1))
+        (map operand_view rest.now)))) }
 {
     let mut width = first;
     for (op, operand) in rest {
@@ -187,8 +195,10 @@ fn look_at_arms(
     arms: &[(Expr, Expr)],
     found: &mut Found,
 ) -> Result<u64, NoMemory>
-    ensures noted { (text : List PlainModule) → OnOk result (found.new ≡ noted text (module_view of.now) found.old (flat_map (λ x. sites_in (use_of role) x.0 ++ sites_in (use_of role) x.1) (map arm_view arms.now))) }
-    ensures width { IfOk result (λ w. w ≡ saturated (greatest (map (λ x. width_in (module_view of.now) x.1) (map arm_view arms.now)))) }
+    ensures noted { Notes result (module_view of.now) found.old found.new (flat_map
+        (λ x. sites_in (use_of role) x.0 ++ sites_in (use_of role) x.1) (map arm_view arms.now)) }
+    ensures width { IfOk result (λ w.
+        w ≡ saturated (greatest (map (λ x. width_in (module_view of.now) x.1) (map arm_view arms.now)))) }
 {
     let mut width = 0;
     for (condition, value) in arms {
@@ -213,7 +223,8 @@ fn look_at_part(
     part: &Expr,
     found: &mut Found,
 ) -> Result<u64, NoMemory>
-    ensures noted { (text : List PlainModule) → OnOk result (found.new ≡ noted text (module_view of.now) found.old (sites_of_part (use_of role) (expression part.now))) }
+    ensures noted { Notes result (module_view of.now) found.old found.new (sites_of_part (use_of role)
+        (expression part.now)) }
     ensures width { IfOk result (λ w. w ≡ saturated (width_in (module_view of.now) (expression part.now))) }
 {
     note_word(alloc, &mut found.width, is_number(part), b"decimal")?;
@@ -228,9 +239,10 @@ fn look_at_parts(
     parts: &[Expr],
     found: &mut Found,
 ) -> Result<u64, NoMemory>
-    ensures noted { (text : List PlainModule) → OnOk result (found.new ≡ noted text (module_view of.now) found.old
-        (flat_map (sites_of_part (use_of role)) (map expression parts.now))) }
-    ensures width { IfOk result (λ w. w ≡ saturated (sum (map (width_in (module_view of.now)) (map expression parts.now)))) }
+    ensures noted { Notes result (module_view of.now) found.old found.new (flat_map (sites_of_part (use_of role))
+        (map expression parts.now)) }
+    ensures width { IfOk result (λ w.
+        w ≡ saturated (sum (map (width_in (module_view of.now)) (map expression parts.now)))) }
 {
     let mut width: u64 = 0;
     for part in parts {
@@ -249,8 +261,8 @@ fn look_at_copies(
     parts: &[Expr],
     found: &mut Found,
 ) -> Result<u64, NoMemory>
-    ensures noted { (text : List PlainModule) → OnOk result (found.new ≡ noted text (module_view of.now) found.old
-        (flat_map (sites_of_part (use_of role)) (map expression parts.now))) }
+    ensures noted { Notes result (module_view of.now) found.old found.new (flat_map (sites_of_part (use_of role))
+        (map expression parts.now)) }
     ensures width { IfOk result (λ w. w ≡
         saturated (count * sum (map (width_in (module_view of.now)) (map expression parts.now)))) }
 {
@@ -270,7 +282,10 @@ pub(crate) fn look_at_width(
     found: &mut Found,
 ) -> Result<(), NoMemory>
     requires small { wanted ≤ 2 ^ 32 }
-    ensures noted { (text : List PlainModule) → OnOk result (found.new ≡ noted_width text (module_view of.now) found.old (width_in (module_view of.now) (expression expr.now)) wanted word.now (sites_in (use_of role) (expression expr.now))) }
+    ensures noted { (text : List PlainModule)
+        → OnOk result (found.new
+        ≡ noted_width text (module_view of.now) found.old (width_in (module_view of.now) (expression expr.now))
+        wanted word.now (sites_in (use_of role) (expression expr.now))) }
 {
     let free = found.width.is_none();
     let width = look(alloc, of, role, expr, found)?;

@@ -1,10 +1,9 @@
 //! Faults of gates (IEEE 1364-2005, 7.2 and 7.3): a terminal that is not one bit, and an output that cannot be driven.
-ghost use Rattle.std.specs.Prelude.{◌≡◌, List, map, min, OnOk};
+ghost use Rattle.std.specs.Prelude.{◌≡◌, map, min};
 ghost use Rattle.std.specs.List.{flat_map};
-ghost use Rattle.bb_ast.specs.Syntax.{PlainModule};
 ghost use Rattle.bb_ast.specs.Gates.{output_count};
 ghost use Rattle.bb_ast.specs.Inside.Views.{expression, gate_view, module_view};
-ghost use Rattle.bb_names.specs.Inside.Firsts.{noted, terminal_sites};
+ghost use Rattle.bb_names.specs.Inside.Firsts.{noted, terminal_sites, Notes};
 ghost use Rattle.bb_names.specs.Sites.{Read, Driven, gate_sites};
 
 use crate::faults::expressions::look_at_width;
@@ -37,7 +36,8 @@ fn look_at_terminal(
     terminal: &Expr,
     found: &mut Found,
 ) -> Result<(), NoMemory>
-    ensures noted { (text : List PlainModule) → OnOk result (found.new ≡ noted text (module_view of.now) found.old (terminal_sites gate output (expression terminal.now))) }
+    ensures noted { Notes result (module_view of.now) found.old found.new (terminal_sites gate output
+        (expression terminal.now)) }
 {
     let word = gate_word(gate);
     if output {
@@ -57,7 +57,8 @@ fn look_at_terminals(
     terminals: &[Expr],
     found: &mut Found,
 ) -> Result<(), NoMemory>
-    ensures noted { (text : List PlainModule) → OnOk result (found.new ≡ noted text (module_view of.now) found.old (flat_map (terminal_sites gate output) (map expression terminals.now))) }
+    ensures noted { Notes result (module_view of.now) found.old found.new (flat_map (terminal_sites gate output)
+        (map expression terminals.now)) }
 {
     for terminal in terminals {
         look_at_terminal(alloc, of, gate, output, terminal, found)?;
@@ -72,7 +73,8 @@ fn look_at_gate(
     terminals: &[Expr],
     found: &mut Found,
 ) -> Result<(), NoMemory>
-    ensures noted { (text : List PlainModule) → OnOk result (found.new ≡ noted text (module_view of.now) found.old (gate_sites gate (map expression terminals.now))) }
+    ensures noted { Notes result (module_view of.now) found.old found.new (gate_sites gate
+        (map expression terminals.now)) }
 {
     let (outputs, inputs) = terminals.split_at(outputs_of(gate, terminals.len()));
     look_at_terminals(alloc, of, gate, true, outputs, found)?;
@@ -86,7 +88,8 @@ pub(crate) fn look_at_gates(
     calls: &[GateCall],
     found: &mut Found,
 ) -> Result<(), NoMemory>
-    ensures noted { (text : List PlainModule) → OnOk result (found.new ≡ noted text (module_view of.now) found.old (flat_map (λ x. gate_sites gate x.1) (map gate_view calls.now))) }
+    ensures noted { Notes result (module_view of.now) found.old found.new (flat_map (λ x. gate_sites gate x.1)
+        (map gate_view calls.now)) }
 {
     for call in calls {
         look_at_gate(alloc, of, gate, call.terms.as_slice(), found)?;

@@ -1,17 +1,18 @@
 //! Faults of instances (IEEE 1364-2005, 12.3.5, 12.3.6 and 12.3.9). A connection that names no port is unknown, and not
 //! also a second one. Where the instance's module is not in the text, that is the only fault of its list of ports:
 //! without a header nothing can be said of names and widths, but the connected expressions are still checked.
-ghost use Rattle.std.specs.Prelude.{◌≡◌, ◌≤◌, ◌^◌, ◌++◌, ◌∷◌, [], ℕ, List, Some, Option, false, map, length, nat_lt, ◌&&◌, not, option_map, OnOk, IfSome};
+ghost use Rattle.std.specs.Prelude.{◌≡◌, ◌≤◌, ◌^◌, ◌++◌, ◌∷◌, [], ℕ, List, Some, Option, false, map, length, nat_lt};
+ghost use Rattle.std.specs.Prelude.{◌&&◌, not, option_map, OnOk, IfSome};
 ghost use Rattle.std.specs.Option.{option_map_or};
 ghost use Rattle.bb_ast.specs.Syntax.{PlainModule, Order, Named, Calls};
 ghost use Rattle.bb_ast.specs.Assignable.{is_assignable};
 ghost use Rattle.bb_ast.specs.Inside.Views.{expression, optional_view, named_view, conns_view, call_view, module_view};
 ghost use Rattle.bb_names.specs.Declarations.{Declaration, declared_by, instance_declaration};
 ghost use Rattle.bb_names.specs.Faults.{is_input};
-ghost use Rattle.bb_names.specs.Inside.Firsts.{noted, use_of, call_sites, AreSame};
+ghost use Rattle.bb_names.specs.Inside.Firsts.{noted, use_of, call_sites, AreSame, Notes};
 ghost use Rattle.bb_bits.specs.Earlier.{has_name};
 ghost use Rattle.bb_names.specs.Sites.{PortName, use_at, joined_sites, conns_sites, place_count, item_sites};
-ghost use Rattle.bb_names.specs.Inside.Summaries.{Describes};
+ghost use Rattle.bb_names.specs.Inside.Summaries.{Describes, Declares};
 
 use crate::faults::expressions::{look, look_at_width};
 use crate::faults::found::{Found, note};
@@ -53,7 +54,9 @@ fn look_at_joined(
     found: &mut Found,
 ) -> Result<(), NoMemory>
     requires small { IfSome pin (λ p. p.width ≤ 2 ^ 32) }
-    ensures noted { (text : List PlainModule) → OnOk result (found.new ≡ noted text (module_view of.now) found.old (joined_sites (option_map (λ p. record { name = p.name.now; dir = p.dir; width = p.width }) pin.entry) (Some (expression expr.now)))) }
+    ensures noted { Notes result (module_view of.now) found.old found.new (joined_sites
+        (option_map (λ p. record { name = p.name.now; dir = p.dir; width = p.width }) pin.entry)
+        (Some (expression expr.now))) }
 {
     let Some(pin) = pin else {
         look(alloc, of, Role::Read, expr, found)?;
@@ -79,7 +82,9 @@ fn look_at_place(
     found: &mut Found,
 ) -> Result<(), NoMemory>
     requires small { IfSome pin (λ p. p.width ≤ 2 ^ 32) }
-    ensures noted { (text : List PlainModule) → OnOk result (found.new ≡ noted text (module_view of.now) found.old (joined_sites (option_map (λ p. record { name = p.name.now; dir = p.dir; width = p.width }) pin.entry) (optional_view place.now))) }
+    ensures noted { Notes result (module_view of.now) found.old found.new (joined_sites
+        (option_map (λ p. record { name = p.name.now; dir = p.dir; width = p.width }) pin.entry)
+        (optional_view place.now)) }
 {
     match place {
         Some(expr) => look_at_joined(alloc, of, pin, expr, found),
@@ -94,7 +99,8 @@ fn look_at_places(
     places: &[Option<Expr>],
     found: &mut Found,
 ) -> Result<(), NoMemory>
-    ensures noted { (text : List PlainModule) → OnOk result (found.new ≡ noted text (module_view of.now) found.old (conns_sites (option_map (λ t. module_view t.now) target.entry) (Order (map optional_view places.now)))) }
+    ensures noted { Notes result (module_view of.now) found.old found.new (conns_sites
+        (option_map (λ t. module_view t.now) target.entry) (Order (map optional_view places.now))) }
 {
     for (k, place) in places.iter().enumerate() {
         look_at_place(alloc, of, pin_by_place(target, k), place, found)?;
@@ -109,7 +115,10 @@ fn look_at_port_of(
     name: &Name,
     found: &mut Found,
 ) -> Result<(), NoMemory>
-    ensures { (text : List PlainModule) (m : PlainModule) (before : List (List ℕ)) → again ≡ has_name name.now before → OnOk result (found.new ≡ noted text m found.old (PortName (Some (module_view target.now)) before name.now ∷ [])) }
+    ensures { (text : List PlainModule) (m : PlainModule) (before : List (List ℕ))
+        → again ≡ has_name name.now before
+        → OnOk result (found.new
+        ≡ noted text m found.old (PortName (Some (module_view target.now)) before name.now ∷ [])) }
 {
     note(&mut found.twice, target.is_port(name) && again, name)?;
     let nowhere = target.port_direction(name).is_none();
@@ -122,8 +131,13 @@ fn look_at_port(
     name: &Name,
     found: &mut Found,
 ) -> Result<(), NoMemory>
-    ensures noted { (text : List PlainModule) (m : PlainModule) (before : List (List ℕ)) → AreSame earlier.old.keys before → OnOk result (found.new ≡ noted text m found.old (PortName (option_map (λ t. module_view t.now) target.entry) before name.now ∷ [])) }
-    ensures names { (before : List (List ℕ)) → AreSame earlier.old.keys before → OnOk result (AreSame earlier.new.keys (before ++ name.now ∷ [])) }
+    ensures noted { (text : List PlainModule) (m : PlainModule) (before : List (List ℕ))
+        → AreSame earlier.old.keys before
+        → OnOk result (found.new
+        ≡ noted text m found.old (PortName (option_map (λ t. module_view t.now) target.entry) before name.now
+        ∷ [])) }
+    ensures names { (before : List (List ℕ)) → AreSame earlier.old.keys before
+        → OnOk result (AreSame earlier.new.keys (before ++ name.now ∷ [])) }
 {
     let again = earlier.contains(name);
     earlier.insert(name.clone()?)?;
@@ -142,8 +156,8 @@ fn look_at_connections(
     found: &mut Found,
 ) -> Result<(), NoMemory>
     requires none { earlier.old.keys ≡ [] }
-    ensures noted { (text : List PlainModule) → OnOk result (found.new ≡ noted text (module_view of.now) found.old
-        (conns_sites (option_map (λ t. module_view t.now) target.entry) (Named (map named_view all.now)))) }
+    ensures noted { Notes result (module_view of.now) found.old found.new (conns_sites
+        (option_map (λ t. module_view t.now) target.entry) (Named (map named_view all.now))) }
 {
     for (name, place) in all {
         look_at_port(target, earlier, name, found)?;
@@ -159,8 +173,8 @@ fn look_at_named(
     all: &[(Name, Option<Expr>)],
     found: &mut Found,
 ) -> Result<(), NoMemory>
-    ensures noted { (text : List PlainModule) → OnOk result (found.new ≡ noted text (module_view of.now) found.old
-        (conns_sites (option_map (λ t. module_view t.now) target.entry) (Named (map named_view all.now)))) }
+    ensures noted { Notes result (module_view of.now) found.old found.new (conns_sites
+        (option_map (λ t. module_view t.now) target.entry) (Named (map named_view all.now))) }
 {
     let mut earlier = IndexSet::new(alloc);
     look_at_connections(alloc, of, target, &mut earlier, all, found)
@@ -168,7 +182,9 @@ fn look_at_named(
 
 /// Reported at the instance's name, since a connection too many has no port to be named by.
 fn has_too_many(target: Option<&IndexedModule>, conns: &Conns) -> bool
-    ensures { result ≡ option_map_or (λ t. nat_lt (length t.heads) (place_count (conns_view conns.now))) (option_map (λ t. module_view t.now) target.entry) false }
+    ensures { result
+        ≡ option_map_or (λ t. nat_lt (length t.heads) (place_count (conns_view conns.now)))
+        (option_map (λ t. module_view t.now) target.entry) false }
 {
     match (target, conns) {
         (Some(target), Conns::Order(places)) => target.module().heads.len() < places.len(),
@@ -183,7 +199,8 @@ fn look_at_conns(
     conns: &Conns,
     found: &mut Found,
 ) -> Result<(), NoMemory>
-    ensures noted { (text : List PlainModule) → OnOk result (found.new ≡ noted text (module_view of.now) found.old (conns_sites (option_map (λ t. module_view t.now) target.entry) (conns_view conns.now))) }
+    ensures noted { Notes result (module_view of.now) found.old found.new (conns_sites
+        (option_map (λ t. module_view t.now) target.entry) (conns_view conns.now)) }
 {
     match conns {
         Conns::Order(places) => look_at_places(alloc, of, target, places, found),
@@ -199,8 +216,12 @@ fn look_at_call(
     call: &Call,
     found: &mut Found,
 ) -> Result<(), NoMemory>
-    ensures noted { (text : List PlainModule) (before : List Declaration) → Describes earlier.old.entries before → OnOk result (found.new ≡ noted text (module_view of.now) found.old (call_sites (option_map (λ t. module_view t.now) target.entry) before (call_view call.now))) }
-    ensures declared { (before : List Declaration) → Describes earlier.old.entries before → OnOk result (Describes earlier.new.entries (before ++ instance_declaration call.now.name ∷ [])) }
+    ensures noted { (text : List PlainModule) (before : List Declaration) → Describes earlier.old.entries before
+        → OnOk result (found.new
+        ≡ noted text (module_view of.now) found.old (call_sites
+        (option_map (λ t. module_view t.now) target.entry) before (call_view call.now))) }
+    ensures declared { Declares result earlier.old.entries earlier.new.entries (instance_declaration call.now.name
+        ∷ []) }
 {
     look_at_declared(of, earlier, &call.name, DeclaredAs::instance(), found)?;
     note(
@@ -220,8 +241,12 @@ pub(crate) fn look_at_calls(
     calls: &[Call],
     found: &mut Found,
 ) -> Result<(), NoMemory>
-    ensures noted { (before : List Declaration) → Describes earlier.old.entries before → OnOk result (found.new ≡ noted (map module_view source.now) (module_view of.now) found.old (item_sites (map module_view source.now) before (Calls target.now (map call_view calls.now)))) }
-    ensures declared { (before : List Declaration) → Describes earlier.old.entries before → OnOk result (Describes earlier.new.entries (before ++ declared_by (Calls target.now (map call_view calls.now)))) }
+    ensures noted { (before : List Declaration) → Describes earlier.old.entries before
+        → OnOk result (found.new
+        ≡ noted (map module_view source.now) (module_view of.now) found.old (item_sites
+        (map module_view source.now) before (Calls target.now (map call_view calls.now)))) }
+    ensures declared { Declares result earlier.old.entries earlier.new.entries (declared_by (Calls target.now
+        (map call_view calls.now))) }
 {
     let to = source.named(target);
     note(&mut found.unknown, to.is_none(), target)?;

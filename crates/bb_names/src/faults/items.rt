@@ -5,9 +5,9 @@ ghost use Rattle.std.specs.List.{flat_map};
 ghost use Rattle.bb_ast.specs.Syntax.{PlainModule, Nets};
 ghost use Rattle.bb_ast.specs.Inside.Views.{arm_view, optional_view, named_view, body_view, module_view};
 ghost use Rattle.bb_names.specs.Declarations.{Declaration, declared_by};
-ghost use Rattle.bb_names.specs.Inside.Firsts.{noted};
+ghost use Rattle.bb_names.specs.Inside.Firsts.{noted, Notes};
 ghost use Rattle.bb_names.specs.Sites.{Read, Driven, initial_sites, sites_in, item_sites};
-ghost use Rattle.bb_names.specs.Inside.Summaries.{Describes};
+ghost use Rattle.bb_names.specs.Inside.Summaries.{Describes, Declares};
 
 use crate::faults::expressions::{look, look_at_name};
 use crate::faults::found::Found;
@@ -32,7 +32,11 @@ fn look_at_initial(
     value: &Option<Expr>,
     found: &mut Found,
 ) -> Result<(), NoMemory>
-    ensures noted { (text : List PlainModule) → OnOk result (found.new ≡ noted text (module_view of.now) found.old (initial_sites (name.now, optional_view value.now))) }
+    ensures noted { Notes result (module_view of.now) found.old found.new (initial_sites (
+      name.now,
+      optional_view
+          value.now,
+    )) }
 {
     let Some(value) = value else {
         return Ok(());
@@ -50,8 +54,12 @@ fn look_at_nets(
     nets: &[(Name, Option<Expr>)],
     found: &mut Found,
 ) -> Result<(), NoMemory>
-    ensures noted { (text : List PlainModule) (before : List Declaration) → Describes earlier.old.entries before → OnOk result (found.new ≡ noted text (module_view of.now) found.old (item_sites text before (Nets range (map named_view nets.now)))) }
-    ensures declared { (before : List Declaration) → Describes earlier.old.entries before → OnOk result (Describes earlier.new.entries (before ++ declared_by (Nets range (map named_view nets.now)))) }
+    ensures noted { (text : List PlainModule) (before : List Declaration) → Describes earlier.old.entries before
+        → OnOk result (found.new
+        ≡ noted text (module_view of.now) found.old (item_sites text before (Nets range
+        (map named_view nets.now)))) }
+    ensures declared { Declares result earlier.old.entries earlier.new.entries (declared_by (Nets range
+        (map named_view nets.now))) }
 {
     for (name, value) in nets {
         look_at_declared(
@@ -72,7 +80,8 @@ fn look_at_assigned(
     all: &[(Expr, Expr)],
     found: &mut Found,
 ) -> Result<(), NoMemory>
-    ensures noted { (text : List PlainModule) → OnOk result (found.new ≡ noted text (module_view of.now) found.old (flat_map (λ x. sites_in Driven x.0 ++ sites_in Read x.1) (map arm_view all.now))) }
+    ensures noted { Notes result (module_view of.now) found.old found.new (flat_map
+        (λ x. sites_in Driven x.0 ++ sites_in Read x.1) (map arm_view all.now)) }
 {
     for (left, right) in all {
         look(alloc, of, Role::Driven, left, found)?;
@@ -89,8 +98,11 @@ pub(crate) fn look_at_item(
     body: &Body,
     found: &mut Found,
 ) -> Result<(), NoMemory>
-    ensures noted { (before : List Declaration) → Describes earlier.old.entries before → OnOk result (found.new ≡ noted (map module_view source.now) (module_view of.now) found.old (item_sites (map module_view source.now) before (body_view body.now))) }
-    ensures declared { (before : List Declaration) → Describes earlier.old.entries before → OnOk result (Describes earlier.new.entries (before ++ declared_by (body_view body.now))) }
+    ensures noted { (before : List Declaration) → Describes earlier.old.entries before
+        → OnOk result (found.new
+        ≡ noted (map module_view source.now) (module_view of.now) found.old (item_sites
+        (map module_view source.now) before (body_view body.now))) }
+    ensures declared { Declares result earlier.old.entries earlier.new.entries (declared_by (body_view body.now)) }
 {
     match body {
         Body::Ports(port, names) => {

@@ -1,13 +1,13 @@
 //! Faults of declared names and of the names of a header. A name of a header needs a direction, in the header or in any
 //! item.
-ghost use Rattle.std.specs.Prelude.{◌≡◌, ◌++◌, ◌∷◌, [], List, map, take, OnOk};
+ghost use Rattle.std.specs.Prelude.{◌≡◌, ◌∷◌, [], List, map, take, OnOk};
 ghost use Rattle.std.specs.List.{flat_map};
 ghost use Rattle.bb_ast.specs.Syntax.{PlainHead, PlainModule};
 ghost use Rattle.bb_ast.specs.Inside.Views.{module_view, head_view};
 ghost use Rattle.bb_names.specs.Declarations.{Declaration, declared_by_head};
-ghost use Rattle.bb_names.specs.Inside.Firsts.{noted, head_sites};
+ghost use Rattle.bb_names.specs.Inside.Firsts.{noted, head_sites, Notes};
 ghost use Rattle.bb_names.specs.Sites.{HeadName, Declared as DeclaredSite, declared_sites};
-ghost use Rattle.bb_names.specs.Inside.Summaries.{named, Describes};
+ghost use Rattle.bb_names.specs.Inside.Summaries.{named, Describes, Declares};
 ghost use Rattle.bb_bits.specs.Earlier.{each_after};
 
 use crate::faults::found::{Found, note};
@@ -26,8 +26,10 @@ pub(crate) fn look_at_declared(
     d: DeclaredAs,
     found: &mut Found,
 ) -> Result<(), NoMemory>
-    ensures noted { (text : List PlainModule) (before : List Declaration) → Describes earlier.old.entries before → OnOk result (found.new ≡ noted text (module_view of.now) found.old (DeclaredSite before (named name.now d) ∷ [])) }
-    ensures declared { (before : List Declaration) → Describes earlier.old.entries before → OnOk result (Describes earlier.new.entries (before ++ named name.now d ∷ [])) }
+    ensures noted { (text : List PlainModule) (before : List Declaration) → Describes earlier.old.entries before
+        → OnOk result (found.new
+        ≡ noted text (module_view of.now) found.old (DeclaredSite before (named name.now d) ∷ [])) }
+    ensures declared { Declares result earlier.old.entries earlier.new.entries (named name.now d ∷ []) }
 {
     let before = declare_next(earlier, name, d)?;
     let port = of.is_port(name);
@@ -46,8 +48,10 @@ pub(crate) fn look_at_names(
     d: DeclaredAs,
     found: &mut Found,
 ) -> Result<(), NoMemory>
-    ensures noted { (text : List PlainModule) (before : List Declaration) → Describes earlier.old.entries before → OnOk result (found.new ≡ noted text (module_view of.now) found.old (declared_sites before (map (λ n. named n d) names.now))) }
-    ensures declared { (before : List Declaration) → Describes earlier.old.entries before → OnOk result (Describes earlier.new.entries (before ++ map (λ n. named n d) names.now)) }
+    ensures noted { (text : List PlainModule) (before : List Declaration) → Describes earlier.old.entries before
+        → OnOk result (found.new
+        ≡ noted text (module_view of.now) found.old (declared_sites before (map (λ n. named n d) names.now))) }
+    ensures declared { Declares result earlier.old.entries earlier.new.entries (map (λ n. named n d) names.now) }
 {
     for name in names {
         look_at_declared(of, earlier, name, d, found)?;
@@ -61,7 +65,9 @@ fn look_at_head_name(
     name: &Name,
     found: &mut Found,
 ) -> Result<(), NoMemory>
-    ensures { (text : List PlainModule) → OnOk result (found.new ≡ noted text (module_view of.now) found.old (HeadName (take place (module_view of.now).heads) name.now ∷ [])) }
+    ensures { Notes result (module_view of.now) found.old found.new (HeadName
+        (take place (module_view of.now).heads) name.now
+        ∷ []) }
 {
     note(
         &mut found.twice,
@@ -78,8 +84,11 @@ fn look_at_head_port(
     head: &Head,
     found: &mut Found,
 ) -> Result<(), NoMemory>
-    ensures noted { (text : List PlainModule) (before : List Declaration) → Describes earlier.old.entries before → OnOk result (found.new ≡ noted text (module_view of.now) found.old (declared_sites before (declared_by_head (head_view head.now)))) }
-    ensures declared { (before : List Declaration) → Describes earlier.old.entries before → OnOk result (Describes earlier.new.entries (before ++ declared_by_head (head_view head.now))) }
+    ensures noted { (text : List PlainModule) (before : List Declaration) → Describes earlier.old.entries before
+        → OnOk result (found.new
+        ≡ noted text (module_view of.now) found.old (declared_sites before (declared_by_head
+        (head_view head.now)))) }
+    ensures declared { Declares result earlier.old.entries earlier.new.entries (declared_by_head (head_view head.now)) }
 {
     match head.decl {
         Some(port) => look_at_declared(of, earlier, &head.name, DeclaredAs::port(port), found),
@@ -94,8 +103,12 @@ fn look_at_head(
     head: &Head,
     found: &mut Found,
 ) -> Result<(), NoMemory>
-    ensures noted { (text : List PlainModule) (prefix : List PlainHead) → take place (module_view of.now).heads ≡ prefix → Describes earlier.old.entries (flat_map declared_by_head prefix) → OnOk result (found.new ≡ noted text (module_view of.now) found.old (head_sites prefix (head_view head.now))) }
-    ensures declared { (before : List Declaration) → Describes earlier.old.entries before → OnOk result (Describes earlier.new.entries (before ++ declared_by_head (head_view head.now))) }
+    ensures noted { (text : List PlainModule) (prefix : List PlainHead)
+        → take place (module_view of.now).heads ≡ prefix
+        → Describes earlier.old.entries (flat_map declared_by_head prefix)
+        → OnOk result (found.new
+        ≡ noted text (module_view of.now) found.old (head_sites prefix (head_view head.now))) }
+    ensures declared { Declares result earlier.old.entries earlier.new.entries (declared_by_head (head_view head.now)) }
 {
     look_at_head_name(of, place, &head.name, found)?;
     look_at_head_port(of, earlier, head, found)
@@ -106,8 +119,11 @@ pub(crate) fn look_at_heads(
     earlier: &mut Declared,
     found: &mut Found,
 ) -> Result<(), NoMemory>
-    ensures noted { (text : List PlainModule) → Describes earlier.old.entries [] → OnOk result (found.new ≡ noted text (module_view of.now) found.old (each_after head_sites (module_view of.now).heads)) }
-    ensures declared { Describes earlier.old.entries [] → OnOk result (Describes earlier.new.entries (flat_map declared_by_head (module_view of.now).heads)) }
+    ensures noted { (text : List PlainModule) → Describes earlier.old.entries []
+        → OnOk result (found.new
+        ≡ noted text (module_view of.now) found.old (each_after head_sites (module_view of.now).heads)) }
+    ensures declared { Describes earlier.old.entries []
+        → OnOk result (Describes earlier.new.entries (flat_map declared_by_head (module_view of.now).heads)) }
 {
     for (place, head) in of.module().heads.iter().enumerate() {
         look_at_head(of, earlier, place, head, found)?;

@@ -19,7 +19,8 @@ pub(crate) struct Pin<'a> {
 }
 
 fn pin_of<'a>(target: &IndexedModule, name: &'a Name) -> Option<Pin<'a>>
-    ensures pin { option_map (λ p. record { name = p.name.now; dir = p.dir; width = p.width }) result ≡ pin_named (module_view target.now) name.now }
+    ensures pin { option_map (λ p. record { name = p.name.now; dir = p.dir; width = p.width }) result
+        ≡ pin_named (module_view target.now) name.now }
     ensures small { IfSome result (λ pin. pin.width ≤ 2 ^ 32) }
 {
     match target.port_direction(name) {
@@ -33,7 +34,8 @@ fn pin_of<'a>(target: &IndexedModule, name: &'a Name) -> Option<Pin<'a>>
 }
 
 pub(crate) fn pin_by_name<'a>(target: Option<&IndexedModule>, name: &'a Name) -> Option<Pin<'a>>
-    ensures pin { option_map (λ p. record { name = p.name.now; dir = p.dir; width = p.width }) result ≡ option_and_then (λ m. pin_named m name.now) (option_map (λ t. module_view t.now) target.entry) }
+    ensures pin { option_map (λ p. record { name = p.name.now; dir = p.dir; width = p.width }) result
+        ≡ option_and_then (λ m. pin_named m name.now) (option_map (λ t. module_view t.now) target.entry) }
     ensures small { IfSome result (λ pin. pin.width ≤ 2 ^ 32) }
 {
     match target {
@@ -43,7 +45,8 @@ pub(crate) fn pin_by_name<'a>(target: Option<&IndexedModule>, name: &'a Name) ->
 }
 
 fn pin_in<'a>(target: &'a IndexedModule, place: usize) -> Option<Pin<'a>>
-    ensures pin { option_map (λ p. record { name = p.name.now; dir = p.dir; width = p.width }) result ≡ pin_at (module_view target.now) place }
+    ensures pin { option_map (λ p. record { name = p.name.now; dir = p.dir; width = p.width }) result
+        ≡ pin_at (module_view target.now) place }
     ensures small { IfSome result (λ pin. pin.width ≤ 2 ^ 32) }
 {
     match target.module().heads.get(place) {
@@ -53,7 +56,8 @@ fn pin_in<'a>(target: &'a IndexedModule, place: usize) -> Option<Pin<'a>>
 }
 
 pub(crate) fn pin_by_place<'a>(target: Option<&'a IndexedModule>, place: usize) -> Option<Pin<'a>>
-    ensures pin { option_map (λ p. record { name = p.name.now; dir = p.dir; width = p.width }) result ≡ option_and_then (λ m. pin_at m place) (option_map (λ t. module_view t.now) target.entry) }
+    ensures pin { option_map (λ p. record { name = p.name.now; dir = p.dir; width = p.width }) result
+        ≡ option_and_then (λ m. pin_at m place) (option_map (λ t. module_view t.now) target.entry) }
     ensures small { IfSome result (λ pin. pin.width ≤ 2 ^ 32) }
 {
     match target {

@@ -1,11 +1,10 @@
 //! Faults of registers and their clocks. A clock that is not one bit is reported by its first name, as a clock; that it
 //! may also be too wide as an expression comes after it.
-ghost use Rattle.std.specs.Prelude.{◌≡◌, ◌++◌, ◌∷◌, List, Some, None, Option, map, option_map, OnOk};
+ghost use Rattle.std.specs.Prelude.{◌≡◌, ◌++◌, ◌∷◌, Some, None, Option, map, option_map};
 ghost use Rattle.std.specs.List.{flat_map};
-ghost use Rattle.bb_ast.specs.Syntax.{PlainModule};
 ghost use Rattle.bb_ast.specs.Names.{names_in};
 ghost use Rattle.bb_ast.specs.Inside.Views.{expression, operand_view, arm_view, always_view, module_view};
-ghost use Rattle.bb_names.specs.Inside.Firsts.{noted, first_of, register_sites};
+ghost use Rattle.bb_names.specs.Inside.Firsts.{noted, first_of, register_sites, Notes};
 ghost use Rattle.bb_names.specs.Sites.{Read, Clock, sites_in};
 
 use crate::faults::expressions::{look, look_at_width};
@@ -68,7 +67,8 @@ fn first_of_words(rest: &[(WordOp, Expr)]) -> Option<&Name>
 
 #[cycle(first)]
 fn first_of_arms(arms: &[(Expr, Expr)]) -> Option<&Name>
-    ensures { option_map (λ n. n.now) result ≡ first_of (flat_map (λ x. names_in x.0 ++ names_in x.1) (map arm_view arms.now)) }
+    ensures { option_map (λ n. n.now) result
+        ≡ first_of (flat_map (λ x. names_in x.0 ++ names_in x.1) (map arm_view arms.now)) }
 {
     for (condition, value) in arms {
         if let Some(name) = first_name(condition) {
@@ -99,7 +99,8 @@ fn look_at_clock(
     clock: &Expr,
     found: &mut Found,
 ) -> Result<(), NoMemory>
-    ensures noted { (text : List PlainModule) → OnOk result (found.new ≡ noted text (module_view of.now) found.old (Clock (expression clock.now) ∷ sites_in Read (expression clock.now))) }
+    ensures noted { Notes result (module_view of.now) found.old found.new (Clock (expression clock.now)
+        ∷ sites_in Read (expression clock.now)) }
 {
     let Some(name) = first_name(clock) else {
         look(alloc, of, Role::Read, clock, found)?;
@@ -114,7 +115,7 @@ pub(crate) fn look_at_register(
     register: &Always,
     found: &mut Found,
 ) -> Result<(), NoMemory>
-    ensures noted { (text : List PlainModule) → OnOk result (found.new ≡ noted text (module_view of.now) found.old (register_sites (always_view register.now))) }
+    ensures noted { Notes result (module_view of.now) found.old found.new (register_sites (always_view register.now)) }
 {
     look_at_clock(alloc, of, &register.clock, found)?;
     look(alloc, of, Role::Stored, &register.left, found)?;

@@ -6,7 +6,8 @@ ghost use Rattle.bb_ast.specs.Inside.Views.{expression};
 ghost use Rattle.bb_ast.specs.Assignable.{is_assignable};
 ghost use Rattle.bb_ast.specs.Syntax.{PlainModule};
 ghost use Rattle.bb_names.specs.Declarations.{Declaration, kind_of, is_instance, is_port};
-ghost use Rattle.bb_names.specs.Faults.{reported_if, declares_reg, declares_supply, is_supply, is_input_port, wrong_role};
+ghost use Rattle.bb_names.specs.Faults.{reported_if, declares_reg, declares_supply, is_supply, is_input_port};
+ghost use Rattle.bb_names.specs.Faults.{wrong_role};
 ghost use Rattle.bb_names.specs.Inside.Firsts.{use_of};
 ghost use Rattle.bb_names.specs.Sites.{Used, Declared};
 ghost use Rattle.bb_names.specs.Inside.Summaries.{named};
@@ -28,7 +29,9 @@ pub(crate) enum Role {
 
 /// `input` says whether it is an input port; it counts for `Driven` alone.
 pub(crate) fn is_wrong_use(role: Role, facts: NetFacts, input: bool) -> bool
-    ensures { (m : PlainModule) (n : List ℕ) (bits : Option (ℕ × ℕ)) (text : List PlainModule) → facts.kind ≡ kind_of m n → facts.instance ≡ is_instance m n → (role ≡ Role.Driven → input ≡ is_input_port m n)
+    ensures { (m : PlainModule) (n : List ℕ) (bits : Option (ℕ × ℕ)) (text : List PlainModule)
+        → facts.kind ≡ kind_of m n → facts.instance ≡ is_instance m n
+        → (role ≡ Role.Driven → input ≡ is_input_port m n)
         → wrong_role text m (Used (use_of role) n bits) ≡ reported_if result n }
 {
     if facts.instance {
@@ -63,7 +66,8 @@ fn is_wrong_direction(d: DeclaredAs, port: bool) -> bool
 }
 
 pub(crate) fn is_wrong_declaration(d: DeclaredAs, kind: NetKind, port: bool, input: bool) -> bool
-    ensures { (m : PlainModule) (n : List ℕ) (before : List Declaration) (text : List PlainModule) → kind ≡ kind_of m n → port ≡ is_port m n → input ≡ is_input_port m n
+    ensures { (m : PlainModule) (n : List ℕ) (before : List Declaration) (text : List PlainModule)
+        → kind ≡ kind_of m n → port ≡ is_port m n → input ≡ is_input_port m n
         → wrong_role text m (Declared before (named n d)) ≡ reported_if result n }
 {
     if is_wrong_register(d, kind, input) || is_wrong_supply(d, port) {

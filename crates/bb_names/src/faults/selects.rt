@@ -28,7 +28,8 @@ pub(crate) fn are_bits(range: Option<Range>, i: u32, j: u32) -> bool
 }
 
 pub(crate) fn is_wrong_select(range: Option<Range>, bits: Option<(u32, u32)>) -> bool
-    ensures { (text : List PlainModule) (m : PlainModule) (n : List ℕ) (how : Use) → range ≡ range_of m n → wrong_select text m (Used how n bits) ≡ reported_if result n }
+    ensures { (text : List PlainModule) (m : PlainModule) (n : List ℕ) (how : Use) → range ≡ range_of m n
+        → wrong_select text m (Used how n bits) ≡ reported_if result n }
 {
     match bits {
         Some((i, j)) => !are_bits(range, i, j),

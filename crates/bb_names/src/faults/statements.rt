@@ -1,13 +1,13 @@
 //! The first fault of a statement and of a module. Checking ends with the first statement that has one, so no fault has
 //! to be separated from the consequences of an earlier one.
-ghost use Rattle.std.specs.Prelude.{◌≡◌, ◌++◌, [], List, Some, None, map, take, slice_get, MatchResult, OnOk};
+ghost use Rattle.std.specs.Prelude.{◌≡◌, [], List, Some, None, map, take, slice_get, MatchResult, OnOk};
 ghost use Rattle.std.specs.List.{flat_map};
 ghost use Rattle.bb_ast.specs.Inside.Views.{body_view, module_view};
 ghost use Rattle.bb_names.specs.Declarations.{Declaration, declared_by, declared_by_head};
 ghost use Rattle.bb_names.specs.Faults.{statement_faults, module_faults};
 ghost use Rattle.bb_names.specs.Inside.Firsts.{noted, first_fault, Answers};
 ghost use Rattle.bb_names.specs.Sites.{header_sites, item_sites};
-ghost use Rattle.bb_names.specs.Inside.Summaries.{Describes};
+ghost use Rattle.bb_names.specs.Inside.Summaries.{Describes, Declares};
 
 use crate::fault::NameFault;
 use crate::faults::found::{Found, note};
@@ -41,7 +41,8 @@ fn look_at_header(
     requires none { Describes earlier.old.entries [] }
     ensures noted { OnOk result (found.new ≡ noted (map module_view source.now) (module_view of.now) found.old
         (header_sites (take place (map module_view source.now)) (module_view of.now))) }
-    ensures declared { OnOk result (Describes earlier.new.entries (flat_map declared_by_head (module_view of.now).heads)) }
+    ensures declared { OnOk result (Describes earlier.new.entries (flat_map declared_by_head
+        (module_view of.now).heads)) }
 {
     let name = &of.module().name;
     note(&mut found.twice, is_before(source.place(name), place), name)?;
@@ -56,8 +57,10 @@ fn check_header(
 ) -> Result<(), NameFault>
     requires place { slice_get (map module_view source.now) place ≡ Some (module_view of.now) }
     requires none { Describes earlier.old.entries [] }
-    ensures answers { Answers result (statement_faults (map module_view source.now) (module_view of.now) (module_view of.now).line (header_sites (take place (map module_view source.now)) (module_view of.now))) }
-    ensures declared { OnOk result (Describes earlier.new.entries (flat_map declared_by_head (module_view of.now).heads)) }
+    ensures answers { Answers result (statement_faults (map module_view source.now) (module_view of.now)
+        (module_view of.now).line (header_sites (take place (map module_view source.now)) (module_view of.now))) }
+    ensures declared { OnOk result (Describes earlier.new.entries (flat_map declared_by_head
+        (module_view of.now).heads)) }
 {
     let mut found = Found::none();
     look_at_header(source, of, place, earlier, &mut found)?;
@@ -71,8 +74,10 @@ fn check_item(
     earlier: &mut Declared,
     item: &Item,
 ) -> Result<(), NameFault>
-    ensures answers { (before : List Declaration) → Describes earlier.old.entries before → Answers result (statement_faults (map module_view source.now) (module_view of.now) item.now.line (item_sites (map module_view source.now) before (body_view item.now.body))) }
-    ensures declared { (before : List Declaration) → Describes earlier.old.entries before → OnOk result (Describes earlier.new.entries (before ++ declared_by (body_view item.now.body))) }
+    ensures answers { (before : List Declaration) → Describes earlier.old.entries before
+        → Answers result (statement_faults (map module_view source.now) (module_view of.now) item.now.line
+        (item_sites (map module_view source.now) before (body_view item.now.body))) }
+    ensures declared { Declares result earlier.old.entries earlier.new.entries (declared_by (body_view item.now.body)) }
 {
     let mut found = Found::none();
     look_at_item(alloc, source, of, earlier, &item.body, &mut found)?;

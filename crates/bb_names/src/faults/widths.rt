@@ -57,7 +57,9 @@ fn is_empty_repeat(expr: &Expr) -> bool
 
 /// `repeat` before `wide`.
 pub(crate) fn word_of(expr: &Expr, width: u64) -> Option<&'static [u8]>
-    ensures { (text : List PlainModule) (m : PlainModule) (full : ℕ) → width_in m (expression expr.now) ≡ full → width ≡ saturated full → option_map (λ word. word.now) result ≡ first_of (wrong_width text m (Whole (expression expr.now))) }
+    ensures { (text : List PlainModule) (m : PlainModule) (full : ℕ) → width_in m (expression expr.now) ≡ full
+        → width ≡ saturated full
+        → option_map (λ word. word.now) result ≡ first_of (wrong_width text m (Whole (expression expr.now))) }
 {
     if is_empty_repeat(expr) {
         Some(b"repeat")

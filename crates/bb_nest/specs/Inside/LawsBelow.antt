@@ -2,7 +2,7 @@
 use Rattle.std.specs.Prelude.{◌≡◌, ◌<◌, ◌⊎◌, ℕ, ◌^◌, Bool, List, length}
 use Rattle.bb_bits.specs.Numbers.{number_of, bits_of}
 use Rattle.bb_bits.specs.Laws.RowLaws.{RowsHaveTable, RowsAreChosen}
-use Rattle.bb_net.specs.Conditions.{PinBits, Suit}
+use Rattle.bb_net.specs.Conditions.{PinBits, ChoicesSuit}
 use Rattle.bb_net.specs.Netlists.{Netlist, IsOrdered}
 use Rattle.bb_net.specs.Values.{value_of, IsValue, ValueGoesByBoxes}
 
@@ -18,4 +18,4 @@ pub record LawsBelow : Type 0 where
   pub chosen : RowsAreChosen
   pub exists : ValueExists
   pub swap : ValueGoesByBoxes
-  pub suit : (spec imp : Netlist) (chosen : List PinBits) → Suit spec imp chosen ⊎ (Suit spec imp chosen → ⊥)
+  pub suit : (spec imp : Netlist) (chosen : List PinBits) → ChoicesSuit spec imp chosen ⊎ (ChoicesSuit spec imp chosen → ⊥)

@@ -14,7 +14,7 @@ use Rattle.bb_net.specs.declared.ordering.placing.Moved.TheVariants as what
 use Rattle.bb_net.specs.declared.ordering.placing.Placing.{Placing}
 use Rattle.bb_net.specs.Netlists.{Netlist, cell_at, box_at}
 use Rattle.bb_net.specs.Values.{bit_of}
-use Rattle.bb_net.specs.Loose.{LooseList, loose_at, operands, IsLoose}
+use Rattle.bb_net.specs.Loose.{LooseList, loose_at, operand_places, IsLoose}
 use Rattle.bb_net.specs.Orders.{IsNoCopy, IsCopySource, IsMoved, IsReadyBox}
 
 -- a cell of the list is at a place of the netlist
@@ -40,7 +40,7 @@ open_count to = count_by is_none to
 -- every walk of dependence from a place ends before this many steps
 abbrev pub EndsWithin : ℕ → LooseList → ℕ → Type 0
 EndsWithin zero l k = ⊥
-EndsWithin (suc n) l k = (a : ℕ) → Contains (operands l.boxes (loose_at l k)) a → EndsWithin n l a
+EndsWithin (suc n) l k = (a : ℕ) → Contains (operand_places l.boxes (loose_at l k)) a → EndsWithin n l a
 
 -- every walk of dependence from the input pins of a box ends
 abbrev pub InputsEnd : LooseList → ℕ → Type 0
@@ -53,7 +53,7 @@ pub record IsBegun (l : LooseList) (to : List (Option ℕ)) (numbers : List ℕ)
   -- the constants and the inputs stay where they are
   pub prefix : (k : ℕ) → k < l.inputs + 2 → IsAt to k k
   -- what a cell reads has its place, and a buffer is where the cell is that it buffers
-  pub reads : (k place a : ℕ) → IsAt to k place → Contains (operands l.boxes (loose_at l k)) a → IsPlaced to a
+  pub reads : (k place a : ℕ) → IsAt to k place → Contains (operand_places l.boxes (loose_at l k)) a → IsPlaced to a
   pub copies : (k p place : ℕ) → IsAt to k place → loose_at l k ≡ Copy p → IsAt to p place
   -- chains of buffers end, and so do all walks of dependence
   pub sources : (k place : ℕ) → IsAt to k place → (n source : ℕ) × IsCopySource n l k source
@@ -107,7 +107,7 @@ IsAwaited to fresh a = IsOpen to a ⊎ Contains fresh a
 
 -- a cell waits for one of its operands
 abbrev pub CellWaits : LooseList → List (Option ℕ) → List (List Waiter) → List ℕ → ℕ → Type 0
-CellWaits l to waiting fresh k = (a : ℕ) × Contains (operands l.boxes (loose_at l k)) a × IsAwaited to fresh a × Contains (waiters_at waiting a) (waiter.Cell k)
+CellWaits l to waiting fresh k = (a : ℕ) × Contains (operand_places l.boxes (loose_at l k)) a × IsAwaited to fresh a × Contains (waiters_at waiting a) (waiter.Cell k)
 
 -- a box waits for one of its input pins
 abbrev pub BoxWaits : LooseList → List (Option ℕ) → List (List Waiter) → List ℕ → ℕ → Type 0
@@ -157,7 +157,7 @@ pub record IsLookedAt (l : LooseList) (old new : Placing) (w : Waiter) : Type 0 
 
 -- the outcome for a cell: it is moved, it is where the cell is that it buffers, or it comes with its box
 abbrev pub IsResolved : List (Option ℕ) → LooseCell → Moved → Type 0
-IsResolved to c (what.New d) = IsNoCopy c × (IsOutput c → ⊥) × ((a : ℕ) → Contains (operands [] c) a → IsPlaced to a) × ((numbers : List ℕ) → IsMoved (given_place to) numbers c d)
+IsResolved to c (what.New d) = IsNoCopy c × (IsOutput c → ⊥) × ((a : ℕ) → Contains (operand_places [] c) a → IsPlaced to a) × ((numbers : List ℕ) → IsMoved (given_place to) numbers c d)
 IsResolved to c (what.Same place) = (p : ℕ) × (c ≡ Copy p) × IsAt to p place
 IsResolved to c what.WithBox = IsOutput c
 

@@ -3,7 +3,7 @@ use Rattle.std.specs.Prelude.{◌≡◌, ℕ, ◌+◌, ◌<◌, ◌≤◌, ◌�
 use Rattle.std.specs.List.{count_by}
 use Rattle.bb_net.specs.Netlists.{box_at}
 use Rattle.bb_net.specs.Values.{bit_of}
-use Rattle.bb_net.specs.Loose.{LooseList, loose_at, operands, Reaches}
+use Rattle.bb_net.specs.Loose.{LooseList, loose_at, operand_places, Reaches}
 
 -- how many places were not seen
 abbrev pub unseen : List Bool → ℕ
@@ -26,8 +26,8 @@ pub record IsSearched (l : LooseList) (start : ℕ) (seen : List Bool) (stack : 
   pub there : (k : ℕ) → Contains stack k → k < length l.cells
   pub on_stack : (k : ℕ) → Contains stack k → bit_of seen k ≡ true
   pub reached : (k : ℕ) → bit_of seen k ≡ true → (n : ℕ) × Reaches (suc n) l start k
-  pub begun : (a : ℕ) → Contains (operands l.boxes (loose_at l start)) a → bit_of seen a ≡ true
-  pub closed : (k : ℕ) → bit_of seen k ≡ true → Contains stack k ⊎ ((a : ℕ) → Contains (operands l.boxes (loose_at l k)) a → bit_of seen a ≡ true)
+  pub begun : (a : ℕ) → Contains (operand_places l.boxes (loose_at l start)) a → bit_of seen a ≡ true
+  pub closed : (k : ℕ) → bit_of seen k ≡ true → Contains stack k ⊎ ((a : ℕ) → Contains (operand_places l.boxes (loose_at l k)) a → bit_of seen a ≡ true)
 
 -- the cells at the input pins of the boxes that are done were seen
 pub record AreDone (l : LooseList) (seen done : List Bool) : Type 0 where
@@ -40,4 +40,4 @@ BoxesRise l cells boxes = (b a : ℕ) → b < length l.boxes → Contains (box_a
 
 -- no operand of a cell has a greater rank than the cell
 abbrev pub CellsRise : LooseList → List ℕ → Type 0
-CellsRise l ranks = (k a : ℕ) → k < length l.cells → Contains (operands l.boxes (loose_at l k)) a → slice_index ranks a ≤ slice_index ranks k
+CellsRise l ranks = (k a : ℕ) → k < length l.cells → Contains (operand_places l.boxes (loose_at l k)) a → slice_index ranks a ≤ slice_index ranks k

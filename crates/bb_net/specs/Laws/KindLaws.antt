@@ -3,7 +3,7 @@
 use Rattle.std.specs.Prelude.{◌≡◌, ◌≢◌, ℕ, ◌<◌, List, [], ◌∷◌, ◌++◌, length, map, AllPairs, Contains, slice_index}
 use Rattle.std.specs.List.{AllZip, range_with_len, slice_index_or}
 use Rattle.bb_net.specs.Flats.{PinsGoByModules}
-use Rattle.bb_net.specs.Kinds.{AreKinds, FitKinds, shown}
+use Rattle.bb_net.specs.Kinds.{AreKinds, FitKinds, representatives}
 use Rattle.bb_net.specs.Netlists.{Pins}
 use Rattle.bb_net.specs.Pairs.{BoxTexts, NamesPins}
 
@@ -25,17 +25,17 @@ ModulesFit = (texts : List BoxTexts) (boxes : List Pins) (kinds : List ℕ) → 
 
 -- a key that is among the keys already has their class, at whose number it is shown
 abbrev pub KindsGrowAgain : Type 0
-KindsGrowAgain = (keys : List (List ℕ)) (kinds : List ℕ) (key : List ℕ) (kind : ℕ) → AreKinds keys kinds → kind < length (shown kinds keys) → slice_index_or (shown kinds keys) kind [] ≡ key
+KindsGrowAgain = (keys : List (List ℕ)) (kinds : List ℕ) (key : List ℕ) (kind : ℕ) → AreKinds keys kinds → kind < length (representatives kinds keys) → slice_index_or (representatives kinds keys) kind [] ≡ key
     → AreKinds (keys ++ key ∷ []) (kinds ++ kind ∷ [])
 
 -- and a new key has the next number
 abbrev pub KindsGrowNew : Type 0
-KindsGrowNew = (keys : List (List ℕ)) (kinds : List ℕ) (key : List ℕ) → AreKinds keys kinds → (Contains (shown kinds keys) key → ⊥) → AreKinds (keys ++ key ∷ []) (kinds ++ length (shown kinds keys) ∷ [])
+KindsGrowNew = (keys : List (List ℕ)) (kinds : List ℕ) (key : List ℕ) → AreKinds keys kinds → (Contains (representatives kinds keys) key → ⊥) → AreKinds (keys ++ key ∷ []) (kinds ++ length (representatives kinds keys) ∷ [])
 
 -- at the number of a class is the key of its boxes
 abbrev pub KindsShowKeys : Type 0
-KindsShowKeys = (keys : List (List ℕ)) (kinds : List ℕ) (b : ℕ) → AreKinds keys kinds → b < length keys → slice_index_or (shown kinds keys) (slice_index kinds b) [] ≡ slice_index_or keys b []
+KindsShowKeys = (keys : List (List ℕ)) (kinds : List ℕ) (b : ℕ) → AreKinds keys kinds → b < length keys → slice_index_or (representatives kinds keys) (slice_index kinds b) [] ≡ slice_index_or keys b []
 
 -- and no two classes have one key
 abbrev pub ShownKeysDiffer : Type 0
-ShownKeysDiffer = (keys : List (List ℕ)) (kinds : List ℕ) → AreKinds keys kinds → AllPairs ◌≢◌ (shown kinds keys)
+ShownKeysDiffer = (keys : List (List ℕ)) (kinds : List ℕ) → AreKinds keys kinds → AllPairs ◌≢◌ (representatives kinds keys)

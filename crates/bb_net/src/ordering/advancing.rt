@@ -4,7 +4,8 @@
 //! Each waits for one operand without a place and then for the next, so no counts of open operands are kept, as the
 //! usual form of Kahn's algorithm does (Knuth, TAOCP 1, 2.2.3, Algorithm T).
 
-ghost use Rattle.std.specs.Prelude.{◌≡◌, ◌+◌, ◌<◌, ◌≤◌, ◌∷◌, [], ℕ, List, All, Contains, length, slice_index, slice_index_or, drop, OnOk};
+ghost use Rattle.std.specs.Prelude.{◌≡◌, ◌+◌, ◌<◌, ◌≤◌, ◌∷◌, [], ℕ, List, All, Contains, length, slice_index};
+ghost use Rattle.std.specs.Prelude.{slice_index_or, drop, OnOk};
 ghost use Rattle.bb_net.specs.Inside.Placings.{IsPlaced, IsOpen, IsPlacing, IsLookedAt, work};
 ghost use Rattle.bb_net.specs.declared.ordering.placing.Waiter.{Waiter};
 ghost use Rattle.bb_net.specs.declared.ordering.placing.Waiter.TheVariants as waiter;

@@ -3,7 +3,8 @@
 //! Cells may come in any topological order, but the order of the boxes is a function of the list: so what reports say
 //! of boxes does not depend on how cells are levelized. A heap finds the first ready box.
 
-ghost use Rattle.std.specs.Prelude.{◌≡◌, ◌+◌, ◌<◌, ◌≤◌, ◌⊎◌, ◌++◌, ◌∷◌, [], ℕ, true, false, List, All, AllPairs, Contains, length, map, drop, slice_index, IfOk, IfSome, IfNone, OnOk};
+ghost use Rattle.std.specs.Prelude.{◌≡◌, ◌+◌, ◌<◌, ◌≤◌, ◌⊎◌, ◌++◌, ◌∷◌, [], ℕ, true, false, List, All, AllPairs};
+ghost use Rattle.std.specs.Prelude.{Contains, length, map, drop, slice_index, IfOk, IfSome, IfNone, OnOk};
 ghost use Rattle.std.specs.BinaryHeap.{heap_items};
 ghost use Rattle.bb_net.specs.Values.{bit_of};
 ghost use Rattle.bb_net.specs.Netlists.{box_at};
@@ -22,9 +23,12 @@ fn next_ready(ready: &mut BinaryHeap<Reverse<u32>>, numbered: &[bool]) -> Option
     requires order { IsLeastFirst (heap_items ready.old) }
     requires there { All (λ b. b < length numbered.now) (boxes_of (heap_items ready.old)) }
     ensures order { IsLeastFirst (heap_items ready.new) }
-    ensures kept { (b : ℕ) → Contains (boxes_of (heap_items ready.new)) b → Contains (boxes_of (heap_items ready.old)) b }
-    ensures dropped { (b : ℕ) → Contains (boxes_of (heap_items ready.old)) b → Contains (boxes_of (heap_items ready.new)) b ⊎ (bit_of numbered.now b ≡ true) }
-    ensures some { IfSome result (λ b. (bit_of numbered.now b ≡ false) × Contains (boxes_of (heap_items ready.new)) b × All (λ c. b ≤ c) (boxes_of (heap_items ready.new))) }
+    ensures kept { (b : ℕ) → Contains (boxes_of (heap_items ready.new)) b
+        → Contains (boxes_of (heap_items ready.old)) b }
+    ensures dropped { (b : ℕ) → Contains (boxes_of (heap_items ready.old)) b
+        → Contains (boxes_of (heap_items ready.new)) b ⊎ (bit_of numbered.now b ≡ true) }
+    ensures some { IfSome result (λ b. (bit_of numbered.now b ≡ false)
+        × Contains (boxes_of (heap_items ready.new)) b × All (λ c. b ≤ c) (boxes_of (heap_items ready.new))) }
     ensures none { IfNone result (heap_items ready.new ≡ []) }
 {
     while let Some(Reverse(b)) = ready.peek() {

@@ -4,9 +4,10 @@
 //! A buffer gets no cell of its own. Its readers read what it buffers, so a chain of assignments leaves no trace in the
 //! netlist.
 
-ghost use Rattle.std.specs.Prelude.{◌≡◌, ◌+◌, ◌<◌, ◌^◌, ◌⊎◌, ◌++◌, ◌∷◌, [], ℕ, List, Option, Some, All, Contains, length, set, vec_len, IfOk, IfErr, OnOk};
+ghost use Rattle.std.specs.Prelude.{◌≡◌, ◌+◌, ◌<◌, ◌^◌, ◌⊎◌, ◌++◌, ◌∷◌, [], ℕ, List, Option, Some, All, Contains};
+ghost use Rattle.std.specs.Prelude.{length, set, vec_len, IfOk, IfErr, OnOk};
 ghost use Rattle.bb_net.specs.Netlists.{MayBeAppended, with_cell};
-ghost use Rattle.bb_net.specs.Loose.{operands};
+ghost use Rattle.bb_net.specs.Loose.{operand_places};
 ghost use Rattle.bb_net.specs.Inside.Placings.{IsAt, IsOpen, IsResolved, waiters_at};
 
 use crate::{Cell, LooseCell, Net};
@@ -106,9 +107,9 @@ fn two_places(to: &[Option<u32>], a: u32, b: u32) -> Result<(u32, u32), u32>
 
 // An error is an operand without a place, for which the cell has to wait.
 pub(crate) fn resolve(cell: LooseCell, to: &[Option<u32>]) -> Result<Moved, u32>
-    requires there { All (λ a. a < length to.now) (operands [] cell) }
+    requires there { All (λ a. a < length to.now) (operand_places [] cell) }
     ensures ok { IfOk result (IsResolved to.now cell) }
-    ensures err { IfErr result (λ a. IsOpen to.now a × Contains (operands [] cell) a) }
+    ensures err { IfErr result (λ a. IsOpen to.now a × Contains (operand_places [] cell) a) }
 {
     match cell {
         LooseCell::Const(bit) => Ok(Moved::New(Cell::Const(bit))),
@@ -218,7 +219,8 @@ pub(crate) fn put_at(
 
 pub(crate) fn wait(waiting: &mut Vec<Waiters>, a: u32, waiter: Waiter) -> Result<(), NoMemory>
     requires there { a < vec_len waiting.old }
-    ensures ok { OnOk result (waiting.new.items ≡ set waiting.old.items a (waiters_at waiting.old.items a ++ waiter ∷ [])) }
+    ensures ok { OnOk result (waiting.new.items
+        ≡ set waiting.old.items a (waiters_at waiting.old.items a ++ waiter ∷ [])) }
 {
     waiting[a as usize].add(waiter)
 }

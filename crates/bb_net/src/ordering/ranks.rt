@@ -5,7 +5,7 @@
 
 ghost use Rattle.std.specs.Prelude.{◌≡◌, ◌+◌, ◌<◌, ◌≤◌, ℕ, [], true, All, Contains, length, slice_index};
 ghost use Rattle.bb_net.specs.Netlists.{box_at};
-ghost use Rattle.bb_net.specs.Loose.{IsLoose, loose_at, operands};
+ghost use Rattle.bb_net.specs.Loose.{IsLoose, loose_at, operand_places};
 ghost use Rattle.bb_net.specs.Inside.Walks.{BoxesRise, CellsRise};
 
 use crate::ordering::components::{Ranks, rank_at};
@@ -23,7 +23,7 @@ fn above(ranks: &[u32], places: &[u32]) -> u64
 }
 
 fn above_gate(cell: LooseCell, ranks: &[u32]) -> u64
-    ensures above { (a : ℕ) → Contains (operands [] cell) a → slice_index ranks.now a < result }
+    ensures above { (a : ℕ) → Contains (operand_places [] cell) a → slice_index ranks.now a < result }
 {
     let (places, count) = cell.operands();
     above(ranks, &places[..count])
@@ -33,7 +33,8 @@ pub(crate) fn above_operands(loose: &Loose, ranks: &Ranks, place: u32) -> u64
     requires list { IsLoose loose.now }
     requires there { place < length loose.now.cells }
     requires rise { BoxesRise loose.now ranks.now.cells.items ranks.now.boxes.items }
-    ensures above { (a : ℕ) → Contains (operands loose.now.boxes (loose_at loose.now place)) a → slice_index ranks.now.cells.items a < result }
+    ensures above { (a : ℕ) → Contains (operand_places loose.now.boxes (loose_at loose.now place)) a
+        → slice_index ranks.now.cells.items a < result }
 {
     match loose.cell(place) {
         LooseCell::BoxOut(b, _) => u64::from(rank_at(&ranks.boxes, b)) + 1,

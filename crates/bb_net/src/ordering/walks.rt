@@ -4,11 +4,13 @@
 //! be quadratic, so strong components choose where to search. Their numbers are checked and not proved: they cost no
 //! proof and cannot change the answer.
 
-ghost use Rattle.std.specs.Prelude.{◌≡◌, ◌+◌, ◌<◌, true, false, ℕ, [], ◌∷◌, All, length, replicate, Option, None, IfOk, IfSome, IfNone, OnOk};
+ghost use Rattle.std.specs.Prelude.{◌≡◌, ◌+◌, ◌<◌, true, false, ℕ, [], ◌∷◌, All, length, replicate, Option, None, IfOk};
+ghost use Rattle.std.specs.Prelude.{IfSome, IfNone, OnOk};
 ghost use Rattle.std.specs.Bool.{Decides};
 ghost use Rattle.std.specs.List.{slice_index_or};
 ghost use Rattle.bb_net.specs.Netlists.{box_at};
-ghost use Rattle.bb_net.specs.Loose.{loose_at, operands, IsLoose, PlaceDependsOn, IsOnClosedWalk, IsLeastOnClosedWalk};
+ghost use Rattle.bb_net.specs.Loose.{loose_at, operand_places, IsLoose, PlaceDependsOn, IsOnClosedWalk};
+ghost use Rattle.bb_net.specs.Loose.{IsLeastOnClosedWalk};
 ghost use Rattle.bb_net.specs.Values.{bit_of};
 ghost use Rattle.bb_net.specs.Inside.Walks.{IsMarked, IsSearched, AreDone, BoxesRise, CellsRise};
 
@@ -39,8 +41,8 @@ fn mark_all(places: &[u32], seen: &mut [bool], stack: &mut Vec<u32>) -> Result<(
 }
 
 fn mark_gate(cell: LooseCell, seen: &mut [bool], stack: &mut Vec<u32>) -> Result<(), NoMemory>
-    requires there { All (λ k. k < length seen.old) (operands [] cell) }
-    ensures ok { OnOk result (IsMarked (operands [] cell) seen.old stack.old.items seen.new stack.new.items) }
+    requires there { All (λ k. k < length seen.old) (operand_places [] cell) }
+    ensures ok { OnOk result (IsMarked (operand_places [] cell) seen.old stack.old.items seen.new stack.new.items) }
 {
     let (places, count) = cell.operands();
     mark_all(&places[..count], seen, stack)
@@ -58,7 +60,8 @@ fn mark_pins(
     requires there { b < length loose.now.boxes }
     requires whole { length seen.old ≡ length loose.now.cells }
     requires done { AreDone loose.now seen.old done.old.items }
-    ensures ok { OnOk result (IsMarked (box_at loose.now.boxes b).ins seen.old stack.old.items seen.new stack.new.items) }
+    ensures ok { OnOk result (IsMarked (box_at loose.now.boxes b).ins seen.old stack.old.items seen.new
+        stack.new.items) }
     ensures done { OnOk result (AreDone loose.now seen.new done.new.items) }
 {
     if done[b as usize] {
@@ -80,7 +83,8 @@ fn mark_operands(
     requires there { place < length loose.now.cells }
     requires whole { length seen.old ≡ length loose.now.cells }
     requires done { AreDone loose.now seen.old done.old.items }
-    ensures ok { OnOk result (IsMarked (operands loose.now.boxes (loose_at loose.now place)) seen.old stack.old.items seen.new stack.new.items) }
+    ensures ok { OnOk result (IsMarked (operand_places loose.now.boxes (loose_at loose.now place)) seen.old
+        stack.old.items seen.new stack.new.items) }
     ensures done { OnOk result (AreDone loose.now seen.new done.new.items) }
 {
     match loose.cell(place) {

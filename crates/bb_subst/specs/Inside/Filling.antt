@@ -1,13 +1,13 @@
 -- How a netlist is filled cell by cell.
 use Rattle.std.specs.Prelude.{◌≡◌, ℕ, ◌+◌, ◌^◌, ◌<◌, ◌≤◌, false, true, List, [], ◌++◌, length, map, take, sum_by, All, slice_index}
-use Rattle.bb_bits.specs.Tables.{TableBits}
+use Rattle.bb_bits.specs.Tables.{TableBits, column}
 use Rattle.bb_net.specs.declared.cell.Cell.{Cell}
 use Rattle.bb_net.specs.declared.cell.Cell.TheVariants.{Const, Input, Not, And, Or, Xor, Mux, BoxOut}
 use Rattle.bb_net.specs.Completions.{table_bits}
 use Rattle.bb_net.specs.Netlists.{Netlist, IsNetlist, Pins, cell_at, box_at}
 use Rattle.bb_net.specs.Values.{table_at}
 use Rattle.bb_subst.specs.Embeddings.{OccursAt}
-use Rattle.bb_subst.specs.Filled.{IsPlaceOf, column}
+use Rattle.bb_subst.specs.Filled.{IsPlaceOf}
 use Rattle.bb_subst.specs.Trees.{IsTree}
 
 -- the constants come first

@@ -8,7 +8,7 @@ use Rattle.bb_bits.specs.TruthSets.{HasMoreThan}
 use Rattle.bb_net.specs.declared.cell.Cell.{Cell}
 use Rattle.bb_net.specs.declared.cell.Cell.TheVariants.{Const, Input, Not, And, Or, Xor, Mux, BoxOut}
 use Rattle.bb_net.specs.Netlists.{Netlist}
-use Rattle.bb_sym.specs.Plain.{Function, Reading, IsReadSo, table, tables, places, cell_bit, without_pins, differ, first_of}
+use Rattle.bb_sym.specs.Plain.{Function, Reading, IsReadSo, table, tables, cell_numbers, cell_bit, without_pins, differ, first_of}
 use Rattle.bb_uniq.specs.declared.store.Ref.{Ref}
 use Rattle.bb_uniq.specs.Inside.Nodes.{NodeStore, IsRef}
 use Rattle.bb_uniq.specs.Inside.Meaning.{truth_of, IsHeld, Keeps}
@@ -65,7 +65,7 @@ ForEachReading n first starts net P = (r : Reading) → IsReadSo n first starts 
 
 -- the tables of the cells of a netlist
 abbrev pub bits_tables : ℕ → Reading → Netlist → List Truth
-bits_tables n r net = tables n (map (cell_bit r net) (places net))
+bits_tables n r net = tables n (map (cell_bit r net) (cell_numbers net))
 
 -- functions number by number, where those of two differ
 abbrev pub differ_each : (ℕ → Function) → (ℕ → Function) → ℕ → Function

@@ -10,7 +10,7 @@ use Rattle.bb_uniq.specs.Inside.Nodes.{NodeStore, IsRef}
 use Rattle.bb_uniq.specs.Inside.Meaning.{truth_of}
 use Rattle.bb_sym.specs.declared.known_gates.DualRail.{DualRail}
 use Rattle.bb_sym.specs.Functions.{spec_bit, high, low, both, either, sum_table, sum_tables, choice_table, choice_tables, cell_tables, known_tables}
-use Rattle.bb_sym.specs.Plain.{table, tables, variables, places}
+use Rattle.bb_sym.specs.Plain.{table, tables, variables, cell_numbers}
 use Rattle.bb_sym.specs.Inside.Made.{Represents, RepresentAll}
 
 pub record Rails : Type 0 where
@@ -108,7 +108,7 @@ pub record HaveKnown (s : NodeStore) (spec imp : Netlist) (of_spec : List Ref) (
 
 -- the variables and the cells of both nets
 abbrev pub known_functions : Netlist → Netlist → List Truth
-known_functions spec imp = variables imp.inputs ++ (tables imp.inputs (map (spec_bit spec) (places spec)) ++ flat_map (known_tables imp) (places imp))
+known_functions spec imp = variables imp.inputs ++ (tables imp.inputs (map (spec_bit spec) (cell_numbers spec)) ++ flat_map (known_tables imp) (cell_numbers imp))
 
 -- where a bit is known and is not the wanted one, and that of which it is made
 abbrev pub known_wrong_table : Rails → Truth → Truth

@@ -5,7 +5,7 @@ use Rattle.bb_equiv.specs.DesignEquivalence.{IsPairFor}
 use Rattle.bb_bits.specs.Tables.{TableBits}
 use Rattle.bb_design.specs.Hierarchy.{Design}
 use Rattle.bb_net.specs.Flats.{FlatNet, HaveClocks}
-use Rattle.bb_net.specs.Kinds.{shown, spread}
+use Rattle.bb_net.specs.Kinds.{representatives, per_box}
 use Rattle.bb_net.specs.Pairs.{NetPair}
 use Rattle.bb_net.specs.Values.{FitBoxes}
 use Rattle.bb_options.specs.declared.options.Options.{Options}
@@ -28,8 +28,8 @@ pub record IsMade (requested : TextComparison) (spec imp : List ℕ) (made : Mad
 -- the netlist may be filled with tables, one for each sharing class of the pair's boxes
 pub record CanBeFilled (p : NetPair) (f : FlatNet) : Type 0 where
   pub clocks : HaveClocks f
-  pub tables : (tables : List TableBits) → FitBoxes tables (shown p.kinds p.imp.boxes)
-      → FitBoxes (spread p.kinds tables) f.net.boxes
+  pub tables : (tables : List TableBits) → FitBoxes tables (representatives p.kinds p.imp.boxes)
+      → FitBoxes (per_box p.kinds tables) f.net.boxes
 
 -- what follows the verdict, where the netlist is kept
 abbrev pub KeptFollows : Option FlatNet → List ℕ → List Line → List ℕ → Type 0

@@ -2,7 +2,7 @@ use Rattle.std.proofs.Common.{◌+◌, ◌++◌, length, sym, ap, ◌∙◌, ari
 use Rattle.std.specs.Prelude.{slice_index}
 use Rattle.std.proofs.lemmas.Result.{on_ok_weaker}
 use Rattle.bb_cnf.specs.Clauses.{lists_of}
-use Rattle.bb_net.specs.Kinds.{shown}
+use Rattle.bb_net.specs.Kinds.{representatives}
 use Rattle.bb_net.specs.Netlists.{Pins}
 use Rattle.bb_expand.proofs.BoxesThere.{box_there}
 use Rattle.bb_expand.proofs.RowLemmas.{box_read, pin_small, pin_clauses}
@@ -26,7 +26,7 @@ push_pin-requires-clause-small c =
     let sharing = c.laws_below.ensures.sharing in
     let kind = kind_shown sharing c.args.kinds.now c.args.boxes.now c.requires.kinds c.in-BoxOut.b there in
     let read = box_read c.args.boxes.now c.in-BoxOut.b c.index-boxes-b.result there c.index-boxes-b.is in
-    pin_small (shown c.args.kinds.now c.args.boxes.now) (slice_index c.args.kinds.now c.in-BoxOut.b) _ _ c.index-boxes-b.result kind
+    pin_small (representatives c.args.kinds.now c.args.boxes.now) (slice_index c.args.kinds.now c.in-BoxOut.b) _ _ c.index-boxes-b.result kind
     (sharing.inputs c.args.kinds.now c.args.boxes.now c.in-BoxOut.b c.requires.kinds there ∙ ap (λ (pins : Pins). length pins.ins) (sym read))
     (sharing.outputs c.args.kinds.now c.args.boxes.now c.in-BoxOut.b c.requires.kinds there ∙ ap (λ (pins : Pins). length pins.outs) (sym read))
     (c.requires.starts.each (slice_index c.args.kinds.now c.in-BoxOut.b) kind) c.requires.small

@@ -6,7 +6,7 @@ use Rattle.bb_cnf.specs.Clauses.{Formula}
 use Rattle.bb_cnf.specs.Truth.{IsModel}
 use Rattle.bb_subst.specs.Distinguishing.{AreEquivalentAt}
 use Rattle.bb_net.specs.Equivalence.{TablesMakeEquivalent}
-use Rattle.bb_net.specs.Kinds.{spread}
+use Rattle.bb_net.specs.Kinds.{per_box}
 use Rattle.bb_expand.specs.ClauseCounts.{clause_total}
 use Rattle.bb_expand.specs.declared.expanded.ExpandFault.TheVariants as fault
 use Rattle.bb_expand.specs.GivenUp.{FillTooLarge}
@@ -26,10 +26,10 @@ pub returns-then-is_empty-clause-ok : goal.returns-then-is_empty-clause-ok
 returns-then-is_empty-clause-ok c =
     let failing = c.in_ok-failing.failing in
     let none : failing.items ≡ [] = is_nil failing.items (let zero_long = is_zero (vec_len failing) c.is_empty.result c.is_empty.ensures c.if-is_empty.true in omega (arith, failing.ok, zero_long)) in
-    record { fit = c.loop-tables.invariant.fit; agree = subst (λ tables. TablesMakeEquivalent c.args.pair.now.spec c.args.pair.now.imp (spread c.args.pair.now.kinds tables)) c.deref.ensures.value (c.in_ok-failing.ensures.none none) }
+    record { fit = c.loop-tables.invariant.fit; agree = subst (λ tables. TablesMakeEquivalent c.args.pair.now.spec c.args.pair.now.imp (per_box c.args.pair.now.kinds tables)) c.deref.ensures.value (c.in_ok-failing.ensures.none none) }
 
 pub hold_failures-requires-clause-agree : goal.hold_failures-requires-clause-agree
-hold_failures-requires-clause-agree c = subst (λ tables. All (AreEquivalentAt c.args.pair.now.spec c.args.pair.now.imp (spread c.args.pair.now.kinds tables)) (sample_vectors c.loop-tables.samples)) (sym c.deref-in-loop-tables.ensures.value) c.loop-tables.invariant.agree
+hold_failures-requires-clause-agree c = subst (λ tables. All (AreEquivalentAt c.args.pair.now.spec c.args.pair.now.imp (per_box c.args.pair.now.kinds tables)) (sample_vectors c.loop-tables.samples)) (sym c.deref-in-loop-tables.ensures.value) c.loop-tables.invariant.agree
 
 pub loop-tables-init : goal.loop-tables-init
 loop-tables-init c =
@@ -41,7 +41,7 @@ loop-tables-init c =
       samples = no_samples spec imp kinds c.args.clauses c.in_ok-samples.samples c.in_ok-samples.ensures.none c.in_ok-samples.ensures.distinguishing c.in_ok-samples.ensures.cnf;
       fit = c.in_ok-tables.ensures.fit;
       all = c.in_ok-tables.ensures.spread;
-      agree = subst (All (AreEquivalentAt spec imp (spread kinds c.in_ok-tables.tables.items))) (sym none) (All-nil (AreEquivalentAt spec imp (spread kinds c.in_ok-tables.tables.items)));
+      agree = subst (All (AreEquivalentAt spec imp (per_box kinds c.in_ok-tables.tables.items))) (sym none) (All-nil (AreEquivalentAt spec imp (per_box kinds c.in_ok-tables.tables.items)));
     }
 
 pub tables_of-requires-clause-expands : goal.tables_of-requires-clause-expands
@@ -80,8 +80,8 @@ returns-in_err-failing-clause-clauses c e =
     let spec = c.args.pair.now.spec in
     let imp = c.args.pair.now.imp in
     let kinds = c.args.pair.now.kinds in
-    let reported : IsErrOf c.from_residual-in_err-failing.result fault.Clauses → (c.args.clauses < clause_total imp) × FillTooLarge spec imp (spread kinds c.deref.result.now) = search rules in
-    let large = subst (λ tables. FillTooLarge spec imp (spread kinds tables)) c.deref.ensures.value (reported e).1 in
+    let reported : IsErrOf c.from_residual-in_err-failing.result fault.Clauses → (c.args.clauses < clause_total imp) × FillTooLarge spec imp (per_box kinds c.deref.result.now) = search rules in
+    let large = subst (λ tables. FillTooLarge spec imp (per_box kinds tables)) c.deref.ensures.value (reported e).1 in
     (c.in_ok-bits.ensures.small, large_fill spec imp kinds c.args.clauses c.loop-tables.samples c.loop-tables.tables.items c.loop-tables.invariant.samples c.loop-tables.invariant.fit c.loop-tables.invariant.agree (reported e).0 large)
 
 pub loop-tables-smaller : goal.loop-tables-smaller

@@ -1,5 +1,5 @@
 use Rattle.std.proofs.Common.{Bool, List}
-use Rattle.bb_net.specs.Kinds.{shown, spread}
+use Rattle.bb_net.specs.Kinds.{representatives, per_box}
 use Rattle.bb_expand.specs.Expansions.{all_vectors}
 use Rattle.bb_expand.specs.Inside.ReadTables.{tables_in}
 use Rattle.bb_expand.proofs.AllVectors.{agree_from_all, all_from_agree, vectors_rise, vectors_are_all}
@@ -16,7 +16,7 @@ returns-clause-gate c = cell_law c.laws_below.ensures.numbering
 pub returns-clause-models : goal.returns-clause-models
 returns-clause-models c spec imp kinds kept fits vectors =
     let below = c.laws_below.ensures in (
-      λ h. (tables_in (shown kinds imp.boxes) h.0, model_fits below.numbering below.unique below.sharing spec imp kinds kept fits vectors h.0 h.1, model_right below.numbering below.unique below.sharing spec imp kinds kept fits vectors h.0 h.1),
+      λ h. (tables_in (representatives kinds imp.boxes) h.0, model_fits below.numbering below.unique below.sharing spec imp kinds kept fits vectors h.0 h.1, model_right below.numbering below.unique below.sharing spec imp kinds kept fits vectors h.0 h.1),
       λ h. (bits below.numbering below.exists below.sharing spec imp kinds kept fits vectors h.0 h.1 h.2, bits_model below.numbering below.exists below.sharing spec imp kinds kept fits vectors h.0 h.1 h.2),
     )
 
@@ -25,11 +25,11 @@ returns-clause-all c spec imp kinds kept fits =
     let below = c.laws_below.ensures in
     let all : List (List Bool) = all_vectors imp.inputs in (
       λ h. (
-        tables_in (shown kinds imp.boxes) h.0,
+        tables_in (representatives kinds imp.boxes) h.0,
         model_fits below.numbering below.unique below.sharing spec imp kinds kept fits all h.0 h.1,
-        agree_from_all below.numbering spec imp (spread kinds (tables_in (shown kinds imp.boxes) h.0)) (model_right below.numbering below.unique below.sharing spec imp kinds kept fits all h.0 h.1),
+        agree_from_all below.numbering spec imp (per_box kinds (tables_in (representatives kinds imp.boxes) h.0)) (model_right below.numbering below.unique below.sharing spec imp kinds kept fits all h.0 h.1),
       ),
-      λ h. let right = all_from_agree below.numbering spec imp (spread kinds h.0) h.2 in (bits below.numbering below.exists below.sharing spec imp kinds kept fits all h.0 h.1 right, bits_model below.numbering below.exists below.sharing spec imp kinds kept fits all h.0 h.1 right),
+      λ h. let right = all_from_agree below.numbering spec imp (per_box kinds h.0) h.2 in (bits below.numbering below.exists below.sharing spec imp kinds kept fits all h.0 h.1 right, bits_model below.numbering below.exists below.sharing spec imp kinds kept fits all h.0 h.1 right),
     )
 
 pub returns-clause-counted : goal.returns-clause-counted

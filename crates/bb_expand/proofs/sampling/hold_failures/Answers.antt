@@ -2,7 +2,7 @@ use Rattle.std.proofs.Common.{rules, [], ◌∷◌, ◌++◌, ◌+◌, ◌-◌, 
 use Rattle.std.specs.Prelude.{vec_items, IsErrOf}
 use Rattle.bb_subst.specs.Distinguishing.{AreEquivalentAt, AreDistinguishing}
 use Rattle.bb_net.specs.Equivalence.{IsVector}
-use Rattle.bb_net.specs.Kinds.{spread}
+use Rattle.bb_net.specs.Kinds.{per_box}
 use Rattle.bb_expand.specs.ClauseCounts.{clauses_per_vector}
 use Rattle.bb_expand.specs.declared.expanded.ExpandFault.TheVariants as fault
 use Rattle.bb_expand.specs.Expansions.{expansion}
@@ -19,7 +19,7 @@ add_distinguishing-requires-clause-each c =
     let kinds = c.args.pair.now.kinds in
     let tables = c.args.tables.now in
     let samples = sample_vectors c.in_ok-samples.samples in
-    let agree = all_among (AreEquivalentAt spec imp (spread kinds tables)) samples (sample_vectors c.args.samples) c.requires.agree c.in_ok-samples.ensures.among in
+    let agree = all_among (AreEquivalentAt spec imp (per_box kinds tables)) samples (sample_vectors c.args.samples) c.requires.agree c.in_ok-samples.ensures.among in
     subst (λ x. AreDistinctWith (IsVector imp) (samples ++ x ∷ [])) (sym (c.deref.ensures.value ∙ ap vec_items c.index-failures-0.is))
     (first_beside spec imp kinds tables c.requires.fit samples agree c.in_ok-samples.ensures.samples.each c.args.failures.now c.requires.some c.requires.failures c.index-failures-0.result)
 
@@ -31,10 +31,10 @@ add_distinguishing-requires-clause-distinguishing c =
     let tables = c.args.tables.now in
     let samples = sample_vectors c.in_ok-samples.samples in
     let distinguishing = distinguishing_vectors c.in_ok-samples.samples in
-    let agree = all_among (AreEquivalentAt spec imp (spread kinds tables)) samples (sample_vectors c.args.samples) c.requires.agree c.in_ok-samples.ensures.among in
+    let agree = all_among (AreEquivalentAt spec imp (per_box kinds tables)) samples (sample_vectors c.args.samples) c.requires.agree c.in_ok-samples.ensures.among in
     let is = c.in_ok-samples.ensures.samples in
     subst (λ x. AreDistinguishing spec imp kinds (distinguishing ++ x ∷ [])) (sym (c.deref.ensures.value ∙ ap vec_items c.index-failures-0.is))
-    (distinguishing_push spec imp kinds tables c.requires.fit distinguishing (all_among (AreEquivalentAt spec imp (spread kinds tables)) distinguishing samples agree is.among) is.distinguishing _
+    (distinguishing_push spec imp kinds tables c.requires.fit distinguishing (all_among (AreEquivalentAt spec imp (per_box kinds tables)) distinguishing samples agree is.among) is.distinguishing _
     (first_fails spec imp kinds tables c.requires.fit samples agree is.each c.args.failures.now c.requires.some c.requires.failures c.index-failures-0.result))
 
 pub hold_others-requires-clause-each : goal.hold_others-requires-clause-each
@@ -45,7 +45,7 @@ hold_others-requires-clause-each c =
     let tables = c.args.tables.now in
     let samples = sample_vectors c.in_ok-samples.samples in
     let others = length c.args.failures.now - 1 in
-    let agree = all_among (AreEquivalentAt spec imp (spread kinds tables)) samples (sample_vectors c.args.samples) c.requires.agree c.in_ok-samples.ensures.among in
+    let agree = all_among (AreEquivalentAt spec imp (per_box kinds tables)) samples (sample_vectors c.args.samples) c.requires.agree c.in_ok-samples.ensures.among in
     subst (λ l. AreDistinctWith (IsVector imp) (l ++ map vec_items (take others (drop 1 c.args.failures.now)))) (sym (c.in_ok-samples-2.ensures.vectors ∙ ap (λ x. samples ++ x ∷ []) (c.deref.ensures.value ∙ ap vec_items c.index-failures-0.is)))
     (others_beside spec imp kinds tables c.requires.fit samples agree c.in_ok-samples.ensures.samples.each c.args.failures.now c.requires.some c.requires.failures c.index-failures-0.result others)
 

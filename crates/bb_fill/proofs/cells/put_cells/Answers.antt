@@ -1,6 +1,6 @@
 use Rattle.std.proofs.Common.{◌≡◌, ◌∙◌, ◌<◌, ℕ, List, arith, replicate, ap, length}
 use Rattle.std.specs.List.{flat_map, range_with_len}
-use Rattle.bb_net.specs.Kinds.{spread}
+use Rattle.bb_net.specs.Kinds.{per_box}
 use Rattle.bb_net.specs.Netlists.{cell_at}
 use Rattle.bb_fill.specs.Lines.{line_text}
 use Rattle.bb_fill.specs.Filled.{cell_lines}
@@ -22,7 +22,7 @@ pub loop-number-preserved : goal.loop-number-preserved
 loop-number-preserved c =
     let f = c.args.flat.now in
     let within : c.loop-number.number < length f.net.cells = omega (arith, c.loop-number-test.true, c.cell_count-number-end.ensures.count) in (
-      one_number_more (λ k. flat_map (line_text (replicate c.args.stem 95)) (cell_lines f (spread c.args.kinds.now c.args.tables.now) k (cell_at f.net.cells k))) c.loop-number.number c.loop-number.invariant.0 c.put_cell.ensures.adds,
+      one_number_more (λ k. flat_map (line_text (replicate c.args.stem 95)) (cell_lines f (per_box c.args.kinds.now c.args.tables.now) k (cell_at f.net.cells k))) c.loop-number.number c.loop-number.invariant.0 c.put_cell.ensures.adds,
       omega (arith, c.loop-number.invariant.1, c.choice_count-first.ensures.count, choices_more f c.loop-number.number within),
     )
 
@@ -30,7 +30,7 @@ pub returns : goal.returns
 returns c =
     let f = c.args.flat.now in
     let stem : List ℕ = replicate c.args.stem 95 in
-    let tables = spread c.args.kinds.now c.args.tables.now in
+    let tables = per_box c.args.kinds.now c.args.tables.now in
     let last : c.loop-number.number ≡ length f.net.cells = omega (arith, c.loop-number-test.false, c.cell_count-number-end.ensures.count) in
     record {
       adds = same

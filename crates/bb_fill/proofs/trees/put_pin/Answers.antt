@@ -1,6 +1,6 @@
 use Rattle.std.proofs.Common.{replicate, map, reverse, ap, ◌∙◌, refl}
 use Rattle.bb_fill.specs.Words.{Bit, word_at}
-use Rattle.bb_fill.specs.Trees.{column}
+use Rattle.bb_bits.specs.Tables.{column}
 use Rattle.bb_fill.specs.declared.trees.Values.TheVariants.{Rows}
 use Rattle.bb_fill.specs.Inside.Levels.{level_words}
 use Rattle.bb_fill.proofs.Levels.{rooted, row_bits}

@@ -3,7 +3,7 @@ use Rattle.bb_bits.specs.Truth.{Truth, variable, complement_of_table, joined_tab
 use Rattle.bb_net.specs.Netlists.{Netlist}
 use Rattle.bb_uniq.specs.Inside.Meaning.{truth_of, IsTooMany}
 use Rattle.bb_sym.specs.declared.fault.RungFault.TheVariants.{Nodes}
-use Rattle.bb_sym.specs.Plain.{Reading, is_wrong_at, one_of, first_of, outputs, table, tables}
+use Rattle.bb_sym.specs.Plain.{Reading, is_wrong_at, one_of, first_of, output_numbers, table, tables}
 use Rattle.bb_sym.specs.Inside.Made.{Makes, AreTooMany, Represents, RepresentAll, HaveCells}
 use Rattle.bb_input.specs.InputFunctions.{boxes_first, missed_functions}
 use Rattle.bb_input.proofs.RefutingParts.{refused_wrong, refused_missed, refused_not, refused_and, still_wrong, refuting_made, refuting_occurs}
@@ -11,7 +11,7 @@ use Rattle.bb_input.proofs.refuting.refuting.Goals as goal
 
 -- where outputs are wrong, the points being read so
 abbrev wrong_as : Reading → ℕ → Netlist → Netlist → List Truth
-wrong_as r n spec imp = tables n (map (is_wrong_at r spec imp) (outputs imp)) ++ tables n (map (first_of (is_wrong_at r spec imp)) (outputs imp))
+wrong_as r n spec imp = tables n (map (is_wrong_at r spec imp) (output_numbers imp)) ++ tables n (map (first_of (is_wrong_at r spec imp)) (output_numbers imp))
 
 pub returns-in_err-wrong-clause-nodes : goal.returns-in_err-wrong-clause-nodes
 returns-in_err-wrong-clause-nodes c =

@@ -3,7 +3,7 @@ use Rattle.std.specs.Prelude.{IsSome, None}
 use Rattle.bb_lemmas.proofs.Tests.{if_err}
 use Rattle.bb_net.specs.Pairs.{pin_count}
 use Rattle.bb_match.specs.declared.fault.MatchFault.TheVariants.{PortDiffers, RegDiffers, TooManyPins}
-use Rattle.bb_net.specs.CutPoints.{register_texts}
+use Rattle.bb_net.specs.CutPoints.{state_texts}
 use Rattle.bb_match.specs.Refusals.{AreAmong, Box, SpecInput, SpecOutput, ImpInput, ImpOutput, SpecRegister, ImpRegister, SpecClock, ImpClock, Clocks, Pins, Fit, most_pins}
 use Rattle.bb_match.proofs.Decisions.{none_at_first, none_more, fit_from}
 use Rattle.bb_match.proofs.CheckLemmas.{if_err_weaker, on_ok_weaker, MayRefuse, past_care, refusal, Missing, WithBox, box_reported, WithoutClock, clock_reported}
@@ -64,7 +64,7 @@ returns-in_err-check_registers-clause-fault c =
     let b4 = none_more None spec imp ImpInput b3 (subst (λ t. AreAmong t spec.ins) c.ins-2.ensures.ins (c.in_ok-check_ports-3.ensures.ok spec.ins c.requires.of_spec.ins)) in
     let b5 = none_more None spec imp ImpOutput b4 (subst (λ t. AreAmong t spec.outs) c.outs-2.ensures.outs (c.in_ok-check_ports-4.ensures.ok spec.outs c.requires.of_spec.outs)) in
     let fault = c.in_err-check_registers.field-0.0 in
-    if_err c.from_residual-in_err-check_registers.result (MayRefuse None spec imp) fault c.from_residual-in_err-check_registers.ensures.1 (refusal None spec imp SpecRegister fault b5 (subst (Missing RegDiffers (register_texts imp) fault) (c.deref.ensures.value ∙ c.requires.of_spec.texts) (c.in_err-check_registers.ensures.fault (register_texts imp) c.requires.of_imp.regs)))
+    if_err c.from_residual-in_err-check_registers.result (MayRefuse None spec imp) fault c.from_residual-in_err-check_registers.ensures.1 (refusal None spec imp SpecRegister fault b5 (subst (Missing RegDiffers (state_texts imp) fault) (c.deref.ensures.value ∙ c.requires.of_spec.texts) (c.in_err-check_registers.ensures.fault (state_texts imp) c.requires.of_imp.regs)))
 
 pub returns-in_err-check_registers-2-clause-fault : goal.returns-in_err-check_registers-2-clause-fault
 returns-in_err-check_registers-2-clause-fault c =
@@ -75,9 +75,9 @@ returns-in_err-check_registers-2-clause-fault c =
     let b3 = none_more None spec imp SpecOutput b2 (subst (λ t. AreAmong t imp.outs) c.outs.ensures.outs (c.in_ok-check_ports-2.ensures.ok imp.outs c.requires.of_imp.outs)) in
     let b4 = none_more None spec imp ImpInput b3 (subst (λ t. AreAmong t spec.ins) c.ins-2.ensures.ins (c.in_ok-check_ports-3.ensures.ok spec.ins c.requires.of_spec.ins)) in
     let b5 = none_more None spec imp ImpOutput b4 (subst (λ t. AreAmong t spec.outs) c.outs-2.ensures.outs (c.in_ok-check_ports-4.ensures.ok spec.outs c.requires.of_spec.outs)) in
-    let b6 = none_more None spec imp SpecRegister b5 (subst (λ t. AreAmong t (register_texts imp)) (c.deref.ensures.value ∙ c.requires.of_spec.texts) (c.in_ok-check_registers.ensures.ok (register_texts imp) c.requires.of_imp.regs)) in
+    let b6 = none_more None spec imp SpecRegister b5 (subst (λ t. AreAmong t (state_texts imp)) (c.deref.ensures.value ∙ c.requires.of_spec.texts) (c.in_ok-check_registers.ensures.ok (state_texts imp) c.requires.of_imp.regs)) in
     let fault = c.in_err-check_registers-2.field-0.0 in
-    if_err c.from_residual-in_err-check_registers-2.result (MayRefuse None spec imp) fault c.from_residual-in_err-check_registers-2.ensures.1 (refusal None spec imp ImpRegister fault b6 (subst (Missing RegDiffers (register_texts spec) fault) (c.deref-2.ensures.value ∙ c.requires.of_imp.texts) (c.in_err-check_registers-2.ensures.fault (register_texts spec) c.requires.of_spec.regs)))
+    if_err c.from_residual-in_err-check_registers-2.result (MayRefuse None spec imp) fault c.from_residual-in_err-check_registers-2.ensures.1 (refusal None spec imp ImpRegister fault b6 (subst (Missing RegDiffers (state_texts spec) fault) (c.deref-2.ensures.value ∙ c.requires.of_imp.texts) (c.in_err-check_registers-2.ensures.fault (state_texts spec) c.requires.of_spec.regs)))
 
 pub returns-in_err-check_clocks-clause-fault : goal.returns-in_err-check_clocks-clause-fault
 returns-in_err-check_clocks-clause-fault c =
@@ -88,8 +88,8 @@ returns-in_err-check_clocks-clause-fault c =
     let b3 = none_more None spec imp SpecOutput b2 (subst (λ t. AreAmong t imp.outs) c.outs.ensures.outs (c.in_ok-check_ports-2.ensures.ok imp.outs c.requires.of_imp.outs)) in
     let b4 = none_more None spec imp ImpInput b3 (subst (λ t. AreAmong t spec.ins) c.ins-2.ensures.ins (c.in_ok-check_ports-3.ensures.ok spec.ins c.requires.of_spec.ins)) in
     let b5 = none_more None spec imp ImpOutput b4 (subst (λ t. AreAmong t spec.outs) c.outs-2.ensures.outs (c.in_ok-check_ports-4.ensures.ok spec.outs c.requires.of_spec.outs)) in
-    let b6 = none_more None spec imp SpecRegister b5 (subst (λ t. AreAmong t (register_texts imp)) (c.deref.ensures.value ∙ c.requires.of_spec.texts) (c.in_ok-check_registers.ensures.ok (register_texts imp) c.requires.of_imp.regs)) in
-    let b7 = none_more None spec imp ImpRegister b6 (subst (λ t. AreAmong t (register_texts spec)) (c.deref-2.ensures.value ∙ c.requires.of_imp.texts) (c.in_ok-check_registers-2.ensures.ok (register_texts spec) c.requires.of_spec.regs)) in
+    let b6 = none_more None spec imp SpecRegister b5 (subst (λ t. AreAmong t (state_texts imp)) (c.deref.ensures.value ∙ c.requires.of_spec.texts) (c.in_ok-check_registers.ensures.ok (state_texts imp) c.requires.of_imp.regs)) in
+    let b7 = none_more None spec imp ImpRegister b6 (subst (λ t. AreAmong t (state_texts spec)) (c.deref-2.ensures.value ∙ c.requires.of_imp.texts) (c.in_ok-check_registers-2.ensures.ok (state_texts spec) c.requires.of_spec.regs)) in
     let fault = c.in_err-check_clocks.field-0.0 in
     if_err c.from_residual-in_err-check_clocks.result (MayRefuse None spec imp) fault c.from_residual-in_err-check_clocks.ensures.1 (refusal None spec imp SpecClock fault b7 (clock_reported spec fault (subst (WithoutClock fault) c.regs.ensures.regs c.in_err-check_clocks.ensures.fault)))
 
@@ -102,8 +102,8 @@ returns-in_err-check_clocks-2-clause-fault c =
     let b3 = none_more None spec imp SpecOutput b2 (subst (λ t. AreAmong t imp.outs) c.outs.ensures.outs (c.in_ok-check_ports-2.ensures.ok imp.outs c.requires.of_imp.outs)) in
     let b4 = none_more None spec imp ImpInput b3 (subst (λ t. AreAmong t spec.ins) c.ins-2.ensures.ins (c.in_ok-check_ports-3.ensures.ok spec.ins c.requires.of_spec.ins)) in
     let b5 = none_more None spec imp ImpOutput b4 (subst (λ t. AreAmong t spec.outs) c.outs-2.ensures.outs (c.in_ok-check_ports-4.ensures.ok spec.outs c.requires.of_spec.outs)) in
-    let b6 = none_more None spec imp SpecRegister b5 (subst (λ t. AreAmong t (register_texts imp)) (c.deref.ensures.value ∙ c.requires.of_spec.texts) (c.in_ok-check_registers.ensures.ok (register_texts imp) c.requires.of_imp.regs)) in
-    let b7 = none_more None spec imp ImpRegister b6 (subst (λ t. AreAmong t (register_texts spec)) (c.deref-2.ensures.value ∙ c.requires.of_imp.texts) (c.in_ok-check_registers-2.ensures.ok (register_texts spec) c.requires.of_spec.regs)) in
+    let b6 = none_more None spec imp SpecRegister b5 (subst (λ t. AreAmong t (state_texts imp)) (c.deref.ensures.value ∙ c.requires.of_spec.texts) (c.in_ok-check_registers.ensures.ok (state_texts imp) c.requires.of_imp.regs)) in
+    let b7 = none_more None spec imp ImpRegister b6 (subst (λ t. AreAmong t (state_texts spec)) (c.deref-2.ensures.value ∙ c.requires.of_imp.texts) (c.in_ok-check_registers-2.ensures.ok (state_texts spec) c.requires.of_spec.regs)) in
     let b8 = none_more None spec imp SpecClock b7 (subst (λ l. All (λ r. IsSome r.clock) l) c.regs.ensures.regs c.in_ok-check_clocks.ensures.ok) in
     let fault = c.in_err-check_clocks-2.field-0.0 in
     if_err c.from_residual-in_err-check_clocks-2.result (MayRefuse None spec imp) fault c.from_residual-in_err-check_clocks-2.ensures.1 (refusal None spec imp ImpClock fault b8 (clock_reported imp fault (subst (WithoutClock fault) c.regs-2.ensures.regs c.in_err-check_clocks-2.ensures.fault)))
@@ -117,8 +117,8 @@ returns-in_err-check_same_clocks-clause-fault c =
     let b3 = none_more None spec imp SpecOutput b2 (subst (λ t. AreAmong t imp.outs) c.outs.ensures.outs (c.in_ok-check_ports-2.ensures.ok imp.outs c.requires.of_imp.outs)) in
     let b4 = none_more None spec imp ImpInput b3 (subst (λ t. AreAmong t spec.ins) c.ins-2.ensures.ins (c.in_ok-check_ports-3.ensures.ok spec.ins c.requires.of_spec.ins)) in
     let b5 = none_more None spec imp ImpOutput b4 (subst (λ t. AreAmong t spec.outs) c.outs-2.ensures.outs (c.in_ok-check_ports-4.ensures.ok spec.outs c.requires.of_spec.outs)) in
-    let b6 = none_more None spec imp SpecRegister b5 (subst (λ t. AreAmong t (register_texts imp)) (c.deref.ensures.value ∙ c.requires.of_spec.texts) (c.in_ok-check_registers.ensures.ok (register_texts imp) c.requires.of_imp.regs)) in
-    let b7 = none_more None spec imp ImpRegister b6 (subst (λ t. AreAmong t (register_texts spec)) (c.deref-2.ensures.value ∙ c.requires.of_imp.texts) (c.in_ok-check_registers-2.ensures.ok (register_texts spec) c.requires.of_spec.regs)) in
+    let b6 = none_more None spec imp SpecRegister b5 (subst (λ t. AreAmong t (state_texts imp)) (c.deref.ensures.value ∙ c.requires.of_spec.texts) (c.in_ok-check_registers.ensures.ok (state_texts imp) c.requires.of_imp.regs)) in
+    let b7 = none_more None spec imp ImpRegister b6 (subst (λ t. AreAmong t (state_texts spec)) (c.deref-2.ensures.value ∙ c.requires.of_imp.texts) (c.in_ok-check_registers-2.ensures.ok (state_texts spec) c.requires.of_spec.regs)) in
     let b8 = none_more None spec imp SpecClock b7 (subst (λ l. All (λ r. IsSome r.clock) l) c.regs.ensures.regs c.in_ok-check_clocks.ensures.ok) in
     let b9 = none_more None spec imp ImpClock b8 (subst (λ l. All (λ r. IsSome r.clock) l) c.regs-2.ensures.regs c.in_ok-check_clocks-2.ensures.ok) in
     let fault = c.in_err-check_same_clocks.field-0.0 in
@@ -133,8 +133,8 @@ returns-clause-ok c =
     let b3 = none_more None spec imp SpecOutput b2 (subst (λ t. AreAmong t imp.outs) c.outs.ensures.outs (c.in_ok-check_ports-2.ensures.ok imp.outs c.requires.of_imp.outs)) in
     let b4 = none_more None spec imp ImpInput b3 (subst (λ t. AreAmong t spec.ins) c.ins-2.ensures.ins (c.in_ok-check_ports-3.ensures.ok spec.ins c.requires.of_spec.ins)) in
     let b5 = none_more None spec imp ImpOutput b4 (subst (λ t. AreAmong t spec.outs) c.outs-2.ensures.outs (c.in_ok-check_ports-4.ensures.ok spec.outs c.requires.of_spec.outs)) in
-    let b6 = none_more None spec imp SpecRegister b5 (subst (λ t. AreAmong t (register_texts imp)) (c.deref.ensures.value ∙ c.requires.of_spec.texts) (c.in_ok-check_registers.ensures.ok (register_texts imp) c.requires.of_imp.regs)) in
-    let b7 = none_more None spec imp ImpRegister b6 (subst (λ t. AreAmong t (register_texts spec)) (c.deref-2.ensures.value ∙ c.requires.of_imp.texts) (c.in_ok-check_registers-2.ensures.ok (register_texts spec) c.requires.of_spec.regs)) in
+    let b6 = none_more None spec imp SpecRegister b5 (subst (λ t. AreAmong t (state_texts imp)) (c.deref.ensures.value ∙ c.requires.of_spec.texts) (c.in_ok-check_registers.ensures.ok (state_texts imp) c.requires.of_imp.regs)) in
+    let b7 = none_more None spec imp ImpRegister b6 (subst (λ t. AreAmong t (state_texts spec)) (c.deref-2.ensures.value ∙ c.requires.of_imp.texts) (c.in_ok-check_registers-2.ensures.ok (state_texts spec) c.requires.of_spec.regs)) in
     let b8 = none_more None spec imp SpecClock b7 (subst (λ l. All (λ r. IsSome r.clock) l) c.regs.ensures.regs c.in_ok-check_clocks.ensures.ok) in
     let b9 = none_more None spec imp ImpClock b8 (subst (λ l. All (λ r. IsSome r.clock) l) c.regs-2.ensures.regs c.in_ok-check_clocks-2.ensures.ok) in
     let b10 = none_more None spec imp Clocks b9 (c.in_ok-check_same_clocks.ensures.ok) in
@@ -150,8 +150,8 @@ returns-clause-fault c =
     let b3 = none_more None spec imp SpecOutput b2 (subst (λ t. AreAmong t imp.outs) c.outs.ensures.outs (c.in_ok-check_ports-2.ensures.ok imp.outs c.requires.of_imp.outs)) in
     let b4 = none_more None spec imp ImpInput b3 (subst (λ t. AreAmong t spec.ins) c.ins-2.ensures.ins (c.in_ok-check_ports-3.ensures.ok spec.ins c.requires.of_spec.ins)) in
     let b5 = none_more None spec imp ImpOutput b4 (subst (λ t. AreAmong t spec.outs) c.outs-2.ensures.outs (c.in_ok-check_ports-4.ensures.ok spec.outs c.requires.of_spec.outs)) in
-    let b6 = none_more None spec imp SpecRegister b5 (subst (λ t. AreAmong t (register_texts imp)) (c.deref.ensures.value ∙ c.requires.of_spec.texts) (c.in_ok-check_registers.ensures.ok (register_texts imp) c.requires.of_imp.regs)) in
-    let b7 = none_more None spec imp ImpRegister b6 (subst (λ t. AreAmong t (register_texts spec)) (c.deref-2.ensures.value ∙ c.requires.of_imp.texts) (c.in_ok-check_registers-2.ensures.ok (register_texts spec) c.requires.of_spec.regs)) in
+    let b6 = none_more None spec imp SpecRegister b5 (subst (λ t. AreAmong t (state_texts imp)) (c.deref.ensures.value ∙ c.requires.of_spec.texts) (c.in_ok-check_registers.ensures.ok (state_texts imp) c.requires.of_imp.regs)) in
+    let b7 = none_more None spec imp ImpRegister b6 (subst (λ t. AreAmong t (state_texts spec)) (c.deref-2.ensures.value ∙ c.requires.of_imp.texts) (c.in_ok-check_registers-2.ensures.ok (state_texts spec) c.requires.of_spec.regs)) in
     let b8 = none_more None spec imp SpecClock b7 (subst (λ l. All (λ r. IsSome r.clock) l) c.regs.ensures.regs c.in_ok-check_clocks.ensures.ok) in
     let b9 = none_more None spec imp ImpClock b8 (subst (λ l. All (λ r. IsSome r.clock) l) c.regs-2.ensures.regs c.in_ok-check_clocks-2.ensures.ok) in
     let b10 = none_more None spec imp Clocks b9 (c.in_ok-check_same_clocks.ensures.ok) in

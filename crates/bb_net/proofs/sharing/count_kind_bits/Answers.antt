@@ -3,7 +3,7 @@ use Rattle.std.specs.Prelude.{IfNone}
 use Rattle.std.proofs.lemmas.List.{get_or_read, length_push}
 use Rattle.std.proofs.lemmas.List.Sums.{sum_by_push}
 use Rattle.bb_net.specs.Completions.{table_bits}
-use Rattle.bb_net.specs.Kinds.{FitKinds, shown}
+use Rattle.bb_net.specs.Kinds.{FitKinds, representatives}
 use Rattle.bb_net.specs.Netlists.{Pins, box_at}
 use Rattle.bb_net.proofs.FirstBoxes.{prefix_sum, shown_next}
 use Rattle.bb_net.proofs.sharing.count_kind_bits.Goals as goal
@@ -14,14 +14,14 @@ bits_of_box pins = length pins.outs * 2 ^ length pins.ins
 
 -- the bits of the tables of the first boxes, with those of a box of the next kind
 record NextBits (kinds : List ℕ) (boxes : List Pins) (b : ℕ) : Type 0 where
-  pub bits : table_bits (shown (take (b + 1) kinds) (take (b + 1) boxes)) ≡ table_bits (shown (take b kinds) (take b boxes)) + bits_of_box (box_at boxes b)
-  pub count : length (shown (take (b + 1) kinds) (take (b + 1) boxes)) ≡ length (shown (take b kinds) (take b boxes)) + 1
-  pub few : table_bits (shown (take (b + 1) kinds) (take (b + 1) boxes)) ≤ table_bits (shown kinds boxes)
+  pub bits : table_bits (representatives (take (b + 1) kinds) (take (b + 1) boxes)) ≡ table_bits (representatives (take b kinds) (take b boxes)) + bits_of_box (box_at boxes b)
+  pub count : length (representatives (take (b + 1) kinds) (take (b + 1) boxes)) ≡ length (representatives (take b kinds) (take b boxes)) + 1
+  pub few : table_bits (representatives (take (b + 1) kinds) (take (b + 1) boxes)) ≤ table_bits (representatives kinds boxes)
 
-next_bits : (kinds : List ℕ) (boxes : List Pins) → FitKinds kinds boxes → (b : ℕ) → b < length kinds → get_or kinds b 0 ≡ length (shown (take b kinds) (take b boxes)) → NextBits kinds boxes b
+next_bits : (kinds : List ℕ) (boxes : List Pins) → FitKinds kinds boxes → (b : ℕ) → b < length kinds → get_or kinds b 0 ≡ length (representatives (take b kinds) (take b boxes)) → NextBits kinds boxes b
 next_bits kinds boxes fit b h new =
-    let prefix = shown (take b kinds) (take b boxes) in
-    let more : shown (take (b + 1) kinds) (take (b + 1) boxes) ≡ prefix ++ box_at boxes b ∷ [] = (shown_next kinds boxes b (record { ins = []; outs = [] }) fit.ordered (sym fit.count) h).new new in
+    let prefix = representatives (take b kinds) (take b boxes) in
+    let more : representatives (take (b + 1) kinds) (take (b + 1) boxes) ≡ prefix ++ box_at boxes b ∷ [] = (shown_next kinds boxes b (record { ins = []; outs = [] }) fit.ordered (sym fit.count) h).new new in
     record {
       bits = ap table_bits more ∙ sum_by_push bits_of_box prefix (box_at boxes b);
       count = ap length more ∙ length_push prefix (box_at boxes b);
@@ -40,8 +40,8 @@ returns-in_err-bits-clause-none c =
     let h : c.loop-b.b < length c.args.kinds.now = c.loop-b-test.true in
     let next = next_bits c.args.kinds.now c.args.boxes.now c.requires.fit c.loop-b.b h (c.if-kind-count.true ∙ c.loop-b.invariant.2) in
     let read = read_bits c.args.boxes.now c.loop-b.b c.index-boxes-b.result (omega (arith, h, c.requires.fit.count)) c.index-boxes-b.is in
-    let many : 2 ^ 24 < table_bits (shown c.args.kinds.now c.args.boxes.now) = omega (arith, c.in_err-bits.ensures.none, read, next.bits, next.few) in
-    subst (λ r. IfNone r (2 ^ 24 < table_bits (shown c.args.kinds.now c.args.boxes.now))) (sym c.from_residual.ensures) many
+    let many : 2 ^ 24 < table_bits (representatives c.args.kinds.now c.args.boxes.now) = omega (arith, c.in_err-bits.ensures.none, read, next.bits, next.few) in
+    subst (λ r. IfNone r (2 ^ 24 < table_bits (representatives c.args.kinds.now c.args.boxes.now))) (sym c.from_residual.ensures) many
 
 pub returns-then-bits-gt-MOST_BITS-clause-none : goal.returns-then-bits-gt-MOST_BITS-clause-none
 returns-then-bits-gt-MOST_BITS-clause-none c =

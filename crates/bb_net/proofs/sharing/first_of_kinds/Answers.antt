@@ -1,7 +1,7 @@
 use Rattle.std.proofs.Common.{◌≡◌, ◌<◌, ◌+◌, ◌++◌, ◌∷◌, [], length, take, sym, ap, ◌∙◌, arith}
 use Rattle.std.specs.List.{range_with_len}
 use Rattle.std.proofs.lemmas.List.FromFn.{get_or-range_with_len, length-range_with_len}
-use Rattle.bb_net.specs.Kinds.{shown}
+use Rattle.bb_net.specs.Kinds.{representatives}
 use Rattle.bb_net.proofs.FirstBoxes.{firsts_taken, shown_next}
 use Rattle.bb_net.proofs.KindNumbers.{nothing_added}
 use Rattle.bb_net.proofs.sharing.first_of_kinds.Goals as goal
@@ -20,7 +20,7 @@ loop-b-preserved c =
     let number = get_or-range_with_len 0 (length kinds) b 0 h ∙ nothing_added b in
     elim c.if-kind-len.branch [
       | then-kind-len+in_ok-push w ↦
-          ap (λ v. v.items) w.firsts-is ∙ w.in_ok-push.ensures.items ∙ ap (λ xs. xs ++ b ∷ []) shows ∙ ap (λ n. shown (take b kinds) (take b (range_with_len 0 (length kinds))) ++ n ∷ []) (sym number)
+          ap (λ v. v.items) w.firsts-is ∙ w.in_ok-push.ensures.items ∙ ap (λ xs. xs ++ b ∷ []) shows ∙ ap (λ n. representatives (take b kinds) (take b (range_with_len 0 (length kinds))) ++ n ∷ []) (sym number)
           ∙ sym (next.new (w.if-kind-len.true ∙ sym count ∙ ap length shows)) ∙ more
       | else-kind-len w ↦ ap (λ v. v.items) w.firsts-is ∙ shows ∙ sym (next.again (λ e. w.if-kind-len.false (e ∙ sym (ap length shows) ∙ count))) ∙ more
     ]

@@ -2,7 +2,7 @@ use Rattle.std.proofs.Common.{◌≡◌, ◌+◌, ◌*◌, ◌<◌, ℕ, List, l
 use Rattle.std.specs.Prelude.{slice_index}
 use Rattle.bb_net.specs.declared.cell.Cell.{Cell}
 use Rattle.bb_net.specs.Netlists.{cell_at}
-use Rattle.bb_subst.specs.Embeddings.{moved}
+use Rattle.bb_subst.specs.Embeddings.{renumbered}
 use Rattle.bb_strash.specs.Inside.Copies.{AreCopied}
 use Rattle.bb_strash.specs.Inside.Extensions.{bit, gate_bit}
 use Rattle.bb_strash.proofs.BitLaws.{no_pin}
@@ -27,9 +27,9 @@ loop-number-preserved g c =
     let cells = c.cells-cells.ensures.cells in
     let lt : k < length source.cells = omega (arith, c.loop-number-test.true, ap length cells) in
     let both = then_more old c.add.new.self new 5 10 c.in_ok-copied.ensures.extends c.in_ok-place.ensures.extends in
-    let is : c.moved.result ≡ moved (slice_index c.loop-number.places.items) (cell_at source.cells k) =
-    c.moved.ensures.cell ∙ ap₂ (λ (l : List ℕ) (cs : List Cell). moved (slice_index l) (cell_at cs k)) c.deref.ensures.value cells in
-    let gives = gives_same new c.in_ok-place.place _ (λ x. gate_bit x (bit old x) (moved (slice_index c.loop-number.places.items) (cell_at source.cells k)))
+    let is : c.moved.result ≡ renumbered (slice_index c.loop-number.places.items) (cell_at source.cells k) =
+    c.moved.ensures.cell ∙ ap₂ (λ (l : List ℕ) (cs : List Cell). renumbered (slice_index l) (cell_at cs k)) c.deref.ensures.value cells in
+    let gives = gives_same new c.in_ok-place.place _ (λ x. gate_bit x (bit old x) (renumbered (slice_index c.loop-number.places.items) (cell_at source.cells k)))
     (λ x. c.in_ok-copied.ensures.gives.same x ∙ ap (gate_bit x (bit old x)) is) c.in_ok-place.ensures.gives in (
       subst (AreCopied source (k + 1) new) (sym c.in_ok-push.ensures.items)
           (copied_next c.bits.ensures.gates c.bits.ensures.stay source c.cells-cells.ensures.kept c.requires.source old new 15 k c.in_ok-place.place c.loop-number.places.items lt both c.loop-number.invariant.0 gives),

@@ -2,11 +2,11 @@ use Rattle.std.proofs.Common.{◌≡◌, ◌+◌, ◌<◌, ◌≤◌, ◌⊎◌,
 use Rattle.std.specs.Prelude.{slice_index}
 use Rattle.bb_net.specs.declared.cell.Cell.{Cell}
 use Rattle.bb_net.specs.declared.cell.Cell.TheVariants.{BoxOut}
-use Rattle.bb_net.specs.Kinds.{spread}
+use Rattle.bb_net.specs.Kinds.{per_box}
 use Rattle.bb_net.specs.Netlists.{Pins, box_at, cell_at}
 use Rattle.bb_net.specs.Values.{table_at}
 use Rattle.bb_subst.specs.Embeddings.{OccursAt}
-use Rattle.bb_subst.specs.Filled.{column}
+use Rattle.bb_bits.specs.Tables.{column}
 use Rattle.bb_subst.specs.Inside.Filling.{GrowsBy, IsFilledUpTo, cost}
 use Rattle.bb_subst.specs.Trees.{IsInTree, IsTree}
 use Rattle.bb_subst.proofs.FilledNets.{box_there}
@@ -15,7 +15,7 @@ use Rattle.bb_subst.proofs.filling.add_cells.Goals as goal
 
 pub loop-k-init : goal.loop-k-init
 loop-k-init c = (
-  subst (λ n. IsFilledUpTo c.args.old.now (spread c.args.kinds.now c.args.tables.now) (n + 2) c.args.new.now c.args.places.now.items) (sym c.inputs.ensures.inputs) c.requires.begun,
+  subst (λ n. IsFilledUpTo c.args.old.now (per_box c.args.kinds.now c.args.tables.now) (n + 2) c.args.new.now c.args.places.now.items) (sym c.inputs.ensures.inputs) c.requires.begun,
   ap length c.cells-k-end.ensures.cells,
   omega (arith, first_long c.args.old.now c.inputs.ensures.kept, c.inputs.ensures.inputs),
 )
@@ -46,9 +46,9 @@ loop-k-preserved c =
     let occurs : OccursAt more.cells (slice_index c.loop-k.places.items) (cell_at old.cells k) c.in_ok-place.place =
     subst (λ (l : List ℕ). OccursAt more.cells (slice_index l) (cell_at old.cells k) c.in_ok-place.place) c.deref.ensures.value
     (subst (λ (l : List Cell). OccursAt more.cells (slice_index c.deref.result.now) (cell_at l k) c.in_ok-place.place) c.cells.ensures.cells c.in_ok-place.ensures.occurs) in
-    let tree : (b p : ℕ) → cell_at old.cells k ≡ BoxOut b p → IsTree more.cells (map (slice_index c.loop-k.places.items) (box_at old.boxes b).ins) (column (table_at (spread c.args.kinds.now c.args.tables.now) b) p) c.in_ok-place.place = λ b p is.
-    subst (λ (l : List ℕ). IsTree more.cells (map (slice_index l) (box_at old.boxes b).ins) (column (table_at (spread c.args.kinds.now c.args.tables.now) b) p) c.in_ok-place.place) c.deref.ensures.value
-    (subst (λ (l : List Pins). IsTree more.cells (map (slice_index c.deref.result.now) (box_at l b).ins) (column (table_at (spread c.args.kinds.now c.args.tables.now) b) p) c.in_ok-place.place) c.boxes.ensures.boxes
+    let tree : (b p : ℕ) → cell_at old.cells k ≡ BoxOut b p → IsTree more.cells (map (slice_index c.loop-k.places.items) (box_at old.boxes b).ins) (column (table_at (per_box c.args.kinds.now c.args.tables.now) b) p) c.in_ok-place.place = λ b p is.
+    subst (λ (l : List ℕ). IsTree more.cells (map (slice_index l) (box_at old.boxes b).ins) (column (table_at (per_box c.args.kinds.now c.args.tables.now) b) p) c.in_ok-place.place) c.deref.ensures.value
+    (subst (λ (l : List Pins). IsTree more.cells (map (slice_index c.deref.result.now) (box_at l b).ins) (column (table_at (per_box c.args.kinds.now c.args.tables.now) b) p) c.in_ok-place.place) c.boxes.ensures.boxes
     (c.in_ok-place.ensures.tree b p (ap (λ l. cell_at l k) c.cells.ensures.cells ∙ is))) in
     let only : (q : ℕ) → length c.loop-k.new.cells ≤ q → q < length more.cells
     → (q ≡ c.in_ok-place.place) ⊎ ((b p : ℕ) × (cell_at old.cells k ≡ BoxOut b p) × IsInTree more.cells (map (slice_index c.loop-k.places.items) (box_at old.boxes b).ins) c.in_ok-place.place q) = λ q past h.
@@ -56,14 +56,14 @@ loop-k-preserved c =
     (subst (λ (l : List Cell). (q ≡ c.in_ok-place.place) ⊎ ((b p : ℕ) × (cell_at l k ≡ BoxOut b p) × IsInTree more.cells (map (slice_index c.deref.result.now) (box_at old.boxes b).ins) c.in_ok-place.place q)) c.cells.ensures.cells
     (subst (λ (l : List Pins). (q ≡ c.in_ok-place.place) ⊎ ((b p : ℕ) × (cell_at c.cells.result.now k ≡ BoxOut b p) × IsInTree more.cells (map (slice_index c.deref.result.now) (box_at l b).ins) c.in_ok-place.place q)) c.boxes.ensures.boxes
     (c.in_ok-place.ensures.only q past h))) in (
-      subst (IsFilledUpTo old (spread c.args.kinds.now c.args.tables.now) (k + 1) more) (sym c.in_ok-push.ensures.items)
-          (filled_next old c.inputs.ensures.kept (spread c.args.kinds.now c.args.tables.now) k c.loop-k.new more c.loop-k.places.items c.in_ok-place.place lt c.loop-k.invariant.0 grows c.in_ok-place.ensures.there occurs tree only),
+      subst (IsFilledUpTo old (per_box c.args.kinds.now c.args.tables.now) (k + 1) more) (sym c.in_ok-push.ensures.items)
+          (filled_next old c.inputs.ensures.kept (per_box c.args.kinds.now c.args.tables.now) k c.loop-k.new more c.loop-k.places.items c.in_ok-place.place lt c.loop-k.invariant.0 grows c.in_ok-place.ensures.there occurs tree only),
       c.loop-k.invariant.1,
       omega (arith, lt),
     )
 
 pub returns : goal.returns
 returns c = record {
-  filled = subst (λ n. IsFilledUpTo c.args.old.now (spread c.args.kinds.now c.args.tables.now) n c.loop-k.new c.loop-k.places.items)
+  filled = subst (λ n. IsFilledUpTo c.args.old.now (per_box c.args.kinds.now c.args.tables.now) n c.loop-k.new c.loop-k.places.items)
       (omega (arith, c.loop-k-test.false, c.loop-k.invariant.1, c.loop-k.invariant.2)) c.loop-k.invariant.0;
 }

@@ -3,7 +3,7 @@ use Rattle.std.specs.Prelude.{IfOk, IfNone, IsErrOf, OnOk}
 use Rattle.bb_bits.specs.Truth.{IsBeadOfAny}
 use Rattle.bb_bits.specs.TruthSets.{HasMoreThan}
 use Rattle.bb_net.specs.Netlists.{Netlist}
-use Rattle.bb_net.specs.Conditions.{AllSometimesRight}
+use Rattle.bb_net.specs.Conditions.{AllRightTogether}
 use Rattle.bb_sym.specs.declared.fault.RungFault.TheVariants.{Nodes}
 use Rattle.bb_sym.specs.Functions.{output_functions, inputs_and_pins}
 use Rattle.bb_sym.proofs.PlainCells.{few_variables}
@@ -13,7 +13,7 @@ pub output_of-requires-clause-few : goal.output_of-requires-clause-few
 output_of-requires-clause-few c = let few = few_variables c.args.pair.now c.spec-spec.ensures.kept in omega (arith, few, ap inputs_and_pins c.imp-imp.ensures.imp)
 
 pub returns-clause-none : goal.returns-clause-none
-returns-clause-none c = subst₂ (λ (spec imp : Netlist). IfOk c.output_of.result (λ answer. IfNone answer (AllSometimesRight spec imp))) c.spec-spec.ensures.spec c.imp-imp.ensures.imp c.output_of.ensures.none
+returns-clause-none c = subst₂ (λ (spec imp : Netlist). IfOk c.output_of.result (λ answer. IfNone answer (AllRightTogether spec imp))) c.spec-spec.ensures.spec c.imp-imp.ensures.imp c.output_of.ensures.none
 
 pub returns-clause-nodes : goal.returns-clause-nodes
 returns-clause-nodes c =

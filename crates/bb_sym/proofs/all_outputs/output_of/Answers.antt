@@ -2,7 +2,7 @@ use Rattle.std.proofs.Common.{rules, ◌≡◌, ◌+◌, ◌≤◌, length, take
 use Rattle.bb_bits.specs.Truth.{IsBeadOfAny}
 use Rattle.bb_bits.specs.TruthSets.{HasMoreThan}
 use Rattle.bb_net.specs.Values.{output_pins}
-use Rattle.bb_net.specs.Conditions.{HasAlwaysWrong}
+use Rattle.bb_net.specs.Conditions.{AlwaysSomeWrongAt}
 use Rattle.bb_uniq.specs.Inside.Meaning.{truth_of}
 use Rattle.bb_quant.specs.Inside.LeastPoints.{IsLeastPoint}
 use Rattle.bb_sym.specs.Finds.{IsLeastVector}
@@ -75,7 +75,7 @@ returns-clause-found c =
     let is : c.truncate.new.self.items ≡ take imp.inputs written =
     c.truncate.ensures.items ∙ (cut_written written c.in_ok-point.point.items c.inputs-inputs.result c.in_ok-point.point.len same (let e : c.in_ok-point.point.len ≡ length c.in_ok-point.point.items = search rules in e) ∙ ap (λ k. take k written) inputs) in (
       refl,
-      subst (IsLeastVector imp (HasAlwaysWrong c.args.spec.now imp)) (sym is)
+      subst (IsLeastVector imp (AlwaysSomeWrongAt c.args.spec.now imp)) (sym is)
           (least_some c.quantifiers.ensures c.args.spec.now imp c.deref_mut.result.now written (long ∙ vars) (subst (λ t. IsLeastPoint t true 0 c.deref_mut.result.now written) table least)),
     )
 

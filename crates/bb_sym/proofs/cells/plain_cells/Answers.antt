@@ -2,7 +2,7 @@ use Rattle.std.proofs.Common.{rules, IsErrOf, ◌≡◌, ℕ, List, subst, sym, 
 use Rattle.bb_bits.specs.Truth.{variable}
 use Rattle.bb_net.specs.Netlists.{Netlist}
 use Rattle.bb_sym.specs.declared.fault.RungFault.TheVariants.{Nodes}
-use Rattle.bb_sym.specs.Plain.{Reading, IsReadSo, AreVariables, tables, variables, places, cell_bit, without_pins}
+use Rattle.bb_sym.specs.Plain.{Reading, IsReadSo, AreVariables, tables, variables, cell_numbers, cell_bit, without_pins}
 use Rattle.bb_sym.specs.Inside.Made.{AreTooMany}
 use Rattle.bb_sym.proofs.MadeLemmas.{RepresentAll-kept, AreRefs-kept}
 use Rattle.bb_sym.proofs.PlainCells.{spec_variables, spec_read, refused_variables, refused_spec, refused_imp, plain_made, plain_occur}
@@ -29,7 +29,7 @@ returns-in_err-spec-clause-nodes c = λ r reads.
     let b = c.make_variables.new.d.store in
     let for_spec = still_read c.args.spec.now b.vars n c.args.first c.args.starts.now (without_pins r) c.in_ok-variables.ensures.makes.kept.vars (spec_read c.args.spec.now c.args.imp.now c.requires.inputs c.requires.no_box n c.args.first c.args.starts.now r reads) in
     let more = c.net_cells.ensures.nodes (without_pins r) for_spec in
-    let reported : IsErrOf c.from_residual-in_err-spec.result Nodes → AreTooMany b (tables b.vars (map (cell_bit (without_pins r) c.args.spec.now) (places c.args.spec.now))) = search (rules, more) in
+    let reported : IsErrOf c.from_residual-in_err-spec.result Nodes → AreTooMany b (tables b.vars (map (cell_bit (without_pins r) c.args.spec.now) (cell_numbers c.args.spec.now))) = search (rules, more) in
     λ full. refused_spec c.args.spec.now c.args.imp.now r c.args.d.now.store b c.in_ok-variables.ensures.makes (reported full)
 
 pub net_cells-requires-2 : goal.net_cells-requires-2
@@ -43,7 +43,7 @@ returns-in_err-imp-clause-nodes c = λ r reads.
     let vars = c.in_ok-variables.ensures.makes.kept.vars in
     let for_spec = still_read c.args.spec.now b.vars n c.args.first c.args.starts.now (without_pins r) vars (spec_read c.args.spec.now c.args.imp.now c.requires.inputs c.requires.no_box n c.args.first c.args.starts.now r reads) in
     let more = c.net_cells-2.ensures.nodes r (still_read c.args.imp.now last.vars n c.args.first c.args.starts.now r (c.in_ok-spec.ensures.kept.vars ∙ vars) reads) in
-    let reported : IsErrOf c.from_residual-in_err-imp.result Nodes → AreTooMany last (tables last.vars (map (cell_bit r c.args.imp.now) (places c.args.imp.now))) = search (rules, more) in
+    let reported : IsErrOf c.from_residual-in_err-imp.result Nodes → AreTooMany last (tables last.vars (map (cell_bit r c.args.imp.now) (cell_numbers c.args.imp.now))) = search (rules, more) in
     λ full. refused_imp c.args.spec.now c.args.imp.now r c.args.d.now.store b c.in_ok-variables.ensures.makes last (c.in_ok-spec.ensures.makes (without_pins r) for_spec) (reported full)
 
 pub returns-clause-variables : goal.returns-clause-variables

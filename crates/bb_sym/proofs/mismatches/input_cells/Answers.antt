@@ -2,7 +2,7 @@ use Rattle.std.proofs.Common.{rules, IsErrOf, [], refl, subst, sym, ap, ◌∙�
 use Rattle.bb_net.specs.Netlists.{Netlist}
 use Rattle.bb_sym.specs.declared.fault.RungFault.TheVariants.{Nodes}
 use Rattle.bb_sym.specs.Functions.{known_tables}
-use Rattle.bb_sym.specs.Plain.{AreVariables, cell_bit, table, tables, variables, places}
+use Rattle.bb_sym.specs.Plain.{AreVariables, cell_bit, table, tables, variables, cell_numbers}
 use Rattle.bb_sym.specs.Inside.Made.{Makes, AreTooMany, RepresentAll}
 use Rattle.bb_sym.specs.Inside.Rails.{HaveAllRails, known_rails}
 use Rattle.bb_sym.proofs.PlainCells.{few_variables, read_net}
@@ -29,26 +29,26 @@ pub returns-in_err-spec-clause-nodes : goal.returns-in_err-spec-clause-nodes
 returns-in_err-spec-clause-nodes c =
     let b = c.make_variables.new.d.store in
     let more = c.in_err-spec.ensures.nodes inputs_only (read_net c.spec-spec_net.result.now c.args.pair.now.spec c.spec-spec_net.ensures.spec b.vars b.vars 0 [] inputs_only refl (inputs_read c.args.pair.now c.spec-spec_net.ensures.kept b.vars)) in
-    let reported : IsErrOf c.from_residual-in_err-spec.result Nodes → AreTooMany b (tables b.vars (map (cell_bit inputs_only c.spec-spec_net.result.now) (places c.spec-spec_net.result.now))) = search (rules, more) in
+    let reported : IsErrOf c.from_residual-in_err-spec.result Nodes → AreTooMany b (tables b.vars (map (cell_bit inputs_only c.spec-spec_net.result.now) (cell_numbers c.spec-spec_net.result.now))) = search (rules, more) in
     λ full. refused_bits c.args.pair.now c.spec-spec_net.ensures.kept c.args.d.now.store c.requires.vars b c.in_ok-make_variables.ensures.makes
-    (subst (λ (net : Netlist). AreTooMany b (tables b.vars (map (cell_bit inputs_only net) (places net)))) c.spec-spec_net.ensures.spec (reported full))
+    (subst (λ (net : Netlist). AreTooMany b (tables b.vars (map (cell_bit inputs_only net) (cell_numbers net)))) c.spec-spec_net.ensures.spec (reported full))
 
 pub known_cells-requires : goal.known_cells-requires
 known_cells-requires c =
     let b = c.make_variables.new.d.store in
     let mid = c.net_cells.new.d.store in
     let vars = subst (λ (net : Netlist). net.inputs ≡ mid.vars) (sym c.imp-imp_net.ensures.imp) (mid_vars c.args.pair.now c.spec-spec_net.ensures.kept c.args.d.now.store c.requires.vars b c.in_ok-make_variables.ensures.makes mid
-    (subst (λ (net : Netlist). Makes b mid (tables b.vars (map (cell_bit inputs_only net) (places net)))) c.spec-spec_net.ensures.spec (c.in_ok-spec.ensures.makes inputs_only (read_net c.spec-spec_net.result.now c.args.pair.now.spec c.spec-spec_net.ensures.spec b.vars b.vars 0 [] inputs_only refl (inputs_read c.args.pair.now c.spec-spec_net.ensures.kept b.vars))))) in
+    (subst (λ (net : Netlist). Makes b mid (tables b.vars (map (cell_bit inputs_only net) (cell_numbers net)))) c.spec-spec_net.ensures.spec (c.in_ok-spec.ensures.makes inputs_only (read_net c.spec-spec_net.result.now c.args.pair.now.spec c.spec-spec_net.ensures.spec b.vars b.vars 0 [] inputs_only refl (inputs_read c.args.pair.now c.spec-spec_net.ensures.kept b.vars))))) in
     record { vars = vars }
 
 pub returns-in_err-imp-clause-nodes : goal.returns-in_err-imp-clause-nodes
 returns-in_err-imp-clause-nodes c =
     let b = c.make_variables.new.d.store in
     let mid = c.net_cells.new.d.store in
-    let reported : IsErrOf c.from_residual-in_err-imp.result Nodes → AreTooMany mid (flat_map (known_tables c.imp-imp_net.result.now) (places c.imp-imp_net.result.now)) = search rules in
+    let reported : IsErrOf c.from_residual-in_err-imp.result Nodes → AreTooMany mid (flat_map (known_tables c.imp-imp_net.result.now) (cell_numbers c.imp-imp_net.result.now)) = search rules in
     λ full. refused_known c.args.pair.now c.spec-spec_net.ensures.kept c.args.d.now.store c.requires.vars b c.in_ok-make_variables.ensures.makes mid
-    (subst (λ (net : Netlist). Makes b mid (tables b.vars (map (cell_bit inputs_only net) (places net)))) c.spec-spec_net.ensures.spec (c.in_ok-spec.ensures.makes inputs_only (read_net c.spec-spec_net.result.now c.args.pair.now.spec c.spec-spec_net.ensures.spec b.vars b.vars 0 [] inputs_only refl (inputs_read c.args.pair.now c.spec-spec_net.ensures.kept b.vars))))
-    (subst (λ (net : Netlist). AreTooMany mid (flat_map (known_tables net) (places net))) c.imp-imp_net.ensures.imp (reported full))
+    (subst (λ (net : Netlist). Makes b mid (tables b.vars (map (cell_bit inputs_only net) (cell_numbers net)))) c.spec-spec_net.ensures.spec (c.in_ok-spec.ensures.makes inputs_only (read_net c.spec-spec_net.result.now c.args.pair.now.spec c.spec-spec_net.ensures.spec b.vars b.vars 0 [] inputs_only refl (inputs_read c.args.pair.now c.spec-spec_net.ensures.kept b.vars))))
+    (subst (λ (net : Netlist). AreTooMany mid (flat_map (known_tables net) (cell_numbers net))) c.imp-imp_net.ensures.imp (reported full))
 
 pub returns-clause-cells : goal.returns-clause-cells
 returns-clause-cells c =
@@ -58,8 +58,8 @@ returns-clause-cells c =
     let of_spec = c.in_ok-spec.spec.items in
     let imp = c.in_ok-imp.imp in
     input_cells_occur c.args.pair.now c.spec-spec_net.ensures.kept c.args.d.now.store c.requires.vars b c.in_ok-make_variables.ensures.makes mid
-    (subst (λ (net : Netlist). Makes b mid (tables b.vars (map (cell_bit inputs_only net) (places net)))) c.spec-spec_net.ensures.spec (c.in_ok-spec.ensures.makes inputs_only (read_net c.spec-spec_net.result.now c.args.pair.now.spec c.spec-spec_net.ensures.spec b.vars b.vars 0 [] inputs_only refl (inputs_read c.args.pair.now c.spec-spec_net.ensures.kept b.vars)))) last
-    (subst (λ (net : Netlist). Makes mid last (flat_map (known_tables net) (places net))) c.imp-imp_net.ensures.imp c.in_ok-imp.ensures.makes)
+    (subst (λ (net : Netlist). Makes b mid (tables b.vars (map (cell_bit inputs_only net) (cell_numbers net)))) c.spec-spec_net.ensures.spec (c.in_ok-spec.ensures.makes inputs_only (read_net c.spec-spec_net.result.now c.args.pair.now.spec c.spec-spec_net.ensures.spec b.vars b.vars 0 [] inputs_only refl (inputs_read c.args.pair.now c.spec-spec_net.ensures.kept b.vars)))) last
+    (subst (λ (net : Netlist). Makes mid last (flat_map (known_tables net) (cell_numbers net))) c.imp-imp_net.ensures.imp c.in_ok-imp.ensures.makes)
     of_spec imp.items
     (subst (λ (net : Netlist). (length of_spec ≡ length net.cells) × RepresentAll mid (λ place. table b.vars (cell_bit inputs_only net place)) of_spec) c.spec-spec_net.ensures.spec (c.in_ok-spec.ensures.count, c.in_ok-spec.ensures.cells inputs_only (read_net c.spec-spec_net.result.now c.args.pair.now.spec c.spec-spec_net.ensures.spec b.vars b.vars 0 [] inputs_only refl (inputs_read c.args.pair.now c.spec-spec_net.ensures.kept b.vars))))
     (subst (λ (net : Netlist). (length imp.items ≡ length net.cells) × HaveAllRails last (known_rails net) imp.items) c.imp-imp_net.ensures.imp (c.in_ok-imp.ensures.count, c.in_ok-imp.ensures.rails))
@@ -70,5 +70,5 @@ returns-clause-makes c =
     let mid = c.net_cells.new.d.store in
     let last = c.known_cells.new.d.store in
     input_cells_made c.args.pair.now c.spec-spec_net.ensures.kept c.args.d.now.store c.requires.vars b c.in_ok-make_variables.ensures.makes mid
-    (subst (λ (net : Netlist). Makes b mid (tables b.vars (map (cell_bit inputs_only net) (places net)))) c.spec-spec_net.ensures.spec (c.in_ok-spec.ensures.makes inputs_only (read_net c.spec-spec_net.result.now c.args.pair.now.spec c.spec-spec_net.ensures.spec b.vars b.vars 0 [] inputs_only refl (inputs_read c.args.pair.now c.spec-spec_net.ensures.kept b.vars)))) last
-    (subst (λ (net : Netlist). Makes mid last (flat_map (known_tables net) (places net))) c.imp-imp_net.ensures.imp c.in_ok-imp.ensures.makes)
+    (subst (λ (net : Netlist). Makes b mid (tables b.vars (map (cell_bit inputs_only net) (cell_numbers net)))) c.spec-spec_net.ensures.spec (c.in_ok-spec.ensures.makes inputs_only (read_net c.spec-spec_net.result.now c.args.pair.now.spec c.spec-spec_net.ensures.spec b.vars b.vars 0 [] inputs_only refl (inputs_read c.args.pair.now c.spec-spec_net.ensures.kept b.vars)))) last
+    (subst (λ (net : Netlist). Makes mid last (flat_map (known_tables net) (cell_numbers net))) c.imp-imp_net.ensures.imp c.in_ok-imp.ensures.makes)

@@ -1,5 +1,5 @@
 use Rattle.std.proofs.Common.{◌≡◌, length, ap, subst, arith}
-use Rattle.bb_net.specs.Kinds.{spread}
+use Rattle.bb_net.specs.Kinds.{per_box}
 use Rattle.bb_net.specs.Netlists.{Netlist}
 use Rattle.bb_net.specs.Values.{flat_with}
 use Rattle.bb_net.proofs.TableLemmas.{flat_with_is}
@@ -17,6 +17,6 @@ returns c =
     let each = c.write_tabled.ensures.each in
     record {
       value =
-          subst (λ n. c.write_tabled.new.out ≡ flat_with n c.args.x.now (spread c.args.kinds.now c.args.tables.now)) c.self.view_is
-          (flat_with_is net c.args.x.now (spread c.args.kinds.now c.args.tables.now) c.write_tabled.new.out c.self.invariant (omega (arith, count)) (rw (cells, boxes) at each));
+          subst (λ n. c.write_tabled.new.out ≡ flat_with n c.args.x.now (per_box c.args.kinds.now c.args.tables.now)) c.self.view_is
+          (flat_with_is net c.args.x.now (per_box c.args.kinds.now c.args.tables.now) c.write_tabled.new.out c.self.invariant (omega (arith, count)) (rw (cells, boxes) at each));
     }

@@ -1,7 +1,7 @@
 use Rattle.std.proofs.Common.{ℕ, ◌<◌, List, [], length, refl, sym, ap, subst, ◌∙◌, arith}
 use Rattle.std.specs.Prelude.{Contains}
 use Rattle.std.proofs.lemmas.List.{length_push}
-use Rattle.bb_net.specs.Loose.{loose_at, operands}
+use Rattle.bb_net.specs.Loose.{loose_at, operand_places}
 use Rattle.bb_net.specs.Inside.Placings.{IsOpen, open_count}
 use Rattle.bb_net.specs.declared.ordering.placing.Moved.TheVariants as what
 use Rattle.std.proofs.lemmas.List.Elements.{All-contains}
@@ -54,7 +54,7 @@ wait-requires c =
     let l = c.args.loose.now in
     let s = c.args.s.now in
     let lt = woken_cell l s.net s.to.items s.numbers.items s.numbered.items s.waiting.items s.fresh.items _ c.args.k c.requires.placing.0 [] p in
-    let reads = subst (λ d. Contains (operands [] d) c.in-Err.a) c.cell.ensures.cell c.in-Err.ensures.err.1 in
+    let reads = subst (λ d. Contains (operand_places [] d) c.in-Err.a) c.cell.ensures.cell c.in-Err.ensures.err.1 in
     let below = All-contains (λ j. j < length l.cells) _ c.in-Err.a (p.list.there c.args.k lt) (operand_whole l.boxes (loose_at l c.args.k) c.in-Err.a reads) in
     record { there = omega (arith, below, p.queue.width, s.waiting.ok.0) }
 
@@ -120,7 +120,7 @@ returns-in-Err c =
     let s = c.args.s.now in
     let k = c.args.k in
     let a = c.in-Err.a in
-    let reads = subst (λ d. Contains (operands [] d) a) c.cell.ensures.cell c.in-Err.ensures.err.1 in
+    let reads = subst (λ d. Contains (operand_places [] d) a) c.cell.ensures.cell c.in-Err.ensures.err.1 in
     let free = subst (λ xs. IsOpen xs a) c.deref.ensures.value c.in-Err.ensures.err.0 in
     record {
       ok = on_ok1 c.wait.result _ _ c.wait.ensures.ok (λ e. record {
