@@ -20,6 +20,8 @@ pub mod NetlistWords
 pub mod AnswerLaws
 pub mod FillAnswers
 pub mod SizeLemmas
+pub mod LineCounts
+pub mod TextLengths
 pub mod StemLemmas
 pub mod TextLists
 pub mod PortLists

@@ -1,6 +1,6 @@
 -- Where the text is not too large, its words are those of the netlist: numbers of cells and of choices have 64 bits.
-use Rattle.std.proofs.Common.{◌≡◌, ◌∙◌, ◌⊎◌, inl, inr, ℕ, ◌+◌, ◌<◌, ◌≤◌, false, List, ◌++◌, length, map, refl, sym, ap, subst, arith}
-use Rattle.std.specs.Prelude.{Contains, sum_by}
+use Rattle.std.proofs.Common.{◌≡◌, ◌∙◌, ◌⊎◌, inl, inr, ℕ, ◌+◌, ◌<◌, ◌≤◌, Bool, false, List, ◌++◌, length, map, refl, sym, ap, subst, arith}
+use Rattle.std.specs.Prelude.{All, Contains, sum_by}
 use Rattle.std.specs.List.{flat_map, range_with_len}
 use Rattle.std.proofs.lemmas.List.Concat.{length-flat_map}
 use Rattle.std.proofs.lemmas.List.Elements.{All-weaker, Contains-append_cases, Contains-append_left, Contains-append_right}
@@ -13,12 +13,12 @@ use Rattle.bb_lemmas.proofs.Ranges.{from_range}
 use Rattle.bb_net.specs.declared.cell.Cell.{Cell}
 use Rattle.bb_net.specs.declared.cell.Cell.TheVariants as cells
 use Rattle.bb_net.specs.CutPoints.{state_texts}
-use Rattle.bb_net.specs.Flats.{FlatNet}
+use Rattle.bb_net.specs.Flats.{FlatNet, HaveClocks}
 use Rattle.bb_net.specs.Netlists.{cell_at}
-use Rattle.bb_fill.specs.Words.{NetWord, Named, texts_of}
+use Rattle.bb_fill.specs.Words.{NetWord, Bit, Named, CellNet, ChoiceNet, texts_of}
 use Rattle.bb_fill.specs.Filled.{cell_lines, choice_count, filled_lines, lines_of_cells}
 use Rattle.bb_fill.specs.Laws.{IsNumber, IsReady, IsWordOf, WordsAreNets, WordsAreOfNetlist, all_nets, line_words}
-use Rattle.bb_fill.specs.Sizes.{IsSmallText, plain_outputs}
+use Rattle.bb_fill.specs.Sizes.{most_filled_cells, most_nets, net_count, plain_outputs}
 use Rattle.bb_fill.proofs.Choices.{choices_within}
 use Rattle.bb_fill.proofs.Driven.{IsNetOf, cell_nets, driven_texts, from_nets, nets_of}
 use Rattle.bb_fill.proofs.DrivenOnce.{nets_are, plain_is}
@@ -48,36 +48,41 @@ module _ (f : FlatNet) (tables : List TableBits) (fits : TablesFit tables f.net.
       in
       omega (arith, each, all, length-flat_map (λ k. cell_lines f tables k (cell_at f.net.cells k)) numbers)
 
-module _ (f : FlatNet) (tables : List TableBits) (ready : IsReady f tables) (small : IsSmallText f tables) where
-  net_of_netlist : (k : ℕ) → k < length f.net.cells → (word : NetWord) → IsNetOf f k (cell_at f.net.cells k) word → IsWordOf f word
-  net_of_netlist k within word (inl is) = subst (IsWordOf f) (sym is) (omega (arith, within, ready.flat.small.cells))
+-- where there are not too many nets, what holds of numbers of one bit, of names, and of the nets of so many cells and choices holds of each word
+module _ (f : FlatNet) (tables : List TableBits) (ready : IsReady f tables) (few : net_count f tables ≤ most_nets) (P : NetWord → Type 0)
+    (bits : (b : Bool) → P (Bit b)) (names : (text : List ℕ) → Contains (texts_of f) text → P (Named text)) (cell : (k : ℕ) → k < most_filled_cells → P (CellNet k)) (choice : (m : ℕ) → m < most_nets → P (ChoiceNet m)) where
+  net_of_netlist : (k : ℕ) → k < length f.net.cells → (word : NetWord) → IsNetOf f k (cell_at f.net.cells k) word → P word
+  net_of_netlist k within word (inl is) = subst P (sym is) (cell k (omega (arith, within, ready.flat.small.cells)))
   net_of_netlist k within word (inr (m, is, from, below)) =
-      subst (IsWordOf f) (sym is) (omega (arith, below, choices_within f k within, choices_few f tables (tables_fit tables f.net.boxes ready.fit), small.nets))
+      subst P (sym is) (choice m (omega (arith, below, choices_within f k within, choices_few f tables (tables_fit tables f.net.boxes ready.fit), few)))
 
-  named_of_netlist : (texts : List (List ℕ)) → ((text : List ℕ) → Contains texts text → Contains (texts_of f) text) → (word : NetWord) → Contains (map Named texts) word → IsWordOf f word
-  named_of_netlist texts there word has = let at = from_map Named texts word has in subst (IsWordOf f) at.2 (there at.0 at.1)
+  named_of_netlist : (texts : List (List ℕ)) → ((text : List ℕ) → Contains texts text → Contains (texts_of f) text) → (word : NetWord) → Contains (map Named texts) word → P word
+  named_of_netlist texts there word has = let at = from_map Named texts word has in subst P at.2 (names at.0 (there at.0 at.1))
 
   -- an output or a register
   driven_there : (text : List ℕ) → Contains (plain_outputs f) text ⊎ Contains (state_texts f) text → Contains (texts_of f) text
   driven_there text (inl plain) = Contains-append_right (f.ins ++ state_texts f) f.outs text (plain_is f text plain).0
   driven_there text (inr register) = Contains-append_left (f.ins ++ state_texts f) f.outs text (Contains-append_right f.ins (state_texts f) text register)
 
-  after_of_netlist : (word : NetWord) → Contains (cell_nets f) word ⊎ Contains (map Named (driven_texts f)) word → IsWordOf f word
+  after_of_netlist : (word : NetWord) → Contains (cell_nets f) word ⊎ Contains (map Named (driven_texts f)) word → P word
   after_of_netlist word (inl net) =
       let at = from_flat (λ k. nets_of f k (cell_at f.net.cells k)) (range_with_len 0 (length f.net.cells)) word net in
       net_of_netlist at.0 (omega (arith, (from_range 0 (length f.net.cells) at.0 at.1).1)) word (from_nets f at.0 (cell_at f.net.cells at.0) word at.2)
   after_of_netlist word (inr named) = named_of_netlist (driven_texts f) (λ text has. driven_there text (Contains-append_cases (plain_outputs f) (state_texts f) text has)) word named
 
-  part_of_netlist : (word : NetWord) → Contains (map Named f.ins) word ⊎ Contains (cell_nets f ++ map Named (driven_texts f)) word → IsWordOf f word
+  part_of_netlist : (word : NetWord) → Contains (map Named f.ins) word ⊎ Contains (cell_nets f ++ map Named (driven_texts f)) word → P word
   part_of_netlist word (inl input) =
       named_of_netlist f.ins (λ text has. Contains-append_left (f.ins ++ state_texts f) f.outs text (Contains-append_left f.ins (state_texts f) text has)) word input
   part_of_netlist word (inr after) = after_of_netlist word (Contains-append_cases (cell_nets f) (map Named (driven_texts f)) word after)
 
-  word_of_netlist : (word : NetWord) → IsNumber word ⊎ Contains (all_nets f tables) word → IsWordOf f word
-  word_of_netlist word (inl number) = subst (IsWordOf f) (sym number.1) tt
+  word_of_netlist : (word : NetWord) → IsNumber word ⊎ Contains (all_nets f tables) word → P word
+  word_of_netlist word (inl number) = subst P (sym number.1) (bits number.0)
   word_of_netlist word (inr net) =
       part_of_netlist word (Contains-append_cases (map Named f.ins) (cell_nets f ++ map Named (driven_texts f)) word (subst (λ l. Contains l word) (nets_are f tables ready) net))
 
+  pub words_hold : WordsAreNets → HaveClocks f → All P (flat_map line_words (filled_lines f tables))
+  words_hold nets clocks = All-weaker (λ word. IsNumber word ⊎ Contains (all_nets f tables) word) P word_of_netlist (flat_map line_words (filled_lines f tables)) (nets f tables ready clocks)
+
 pub words_are_of_netlist : WordsAreNets → WordsAreOfNetlist
 words_are_of_netlist nets f tables ready clocks small =
-    All-weaker (λ word. IsNumber word ⊎ Contains (all_nets f tables) word) (IsWordOf f) (word_of_netlist f tables ready small) (flat_map line_words (filled_lines f tables)) (nets f tables ready clocks)
+    words_hold f tables ready small.nets (IsWordOf f) (λ b. tt) (λ text has. has) (λ k few. omega (arith, few)) (λ m few. omega (arith, few)) nets clocks

@@ -1,5 +1,5 @@
 -- Laws of the filled text, and the definitions that laws alone need.
-use Rattle.std.specs.Prelude.{◌≡◌, ◌≢◌, ◌⊎◌, ℕ, ◌+◌, ◌<◌, ◌^◌, Bool, true, false, not, ◌&&◌, ◌||◌, if◌then◌else◌, List, [], ◌∷◌, ◌++◌, length, map, reverse, fold, All, AllPairs, Contains, Option, None, Some, codes, decimal, slice_get}
+use Rattle.std.specs.Prelude.{◌≡◌, ◌≢◌, ◌⊎◌, ℕ, ◌+◌, ◌-◌, ◌*◌, ◌<◌, ◌≤◌, ◌^◌, Bool, true, false, not, ◌&&◌, ◌||◌, if◌then◌else◌, List, [], ◌∷◌, ◌++◌, length, map, reverse, fold, All, AllPairs, Contains, Option, None, Some, codes, decimal, slice_get, sum_by}
 use Rattle.std.specs.List.{flat_map, slice_index_or}
 use Rattle.bb_bits.specs.Numbers.{number_of}
 use Rattle.bb_bits.specs.Tables.{TableBits, table_bit, column}
@@ -7,13 +7,14 @@ use Rattle.bb_net.specs.declared.flat.Reg.{Reg as Register}
 use Rattle.bb_net.specs.Equivalence.{IsVector, out_bit}
 use Rattle.bb_net.specs.CutPoints.{clock_text, state_texts}
 use Rattle.bb_net.specs.Flats.{FlatNet, IsFlat, HaveClocks}
+use Rattle.bb_net.specs.Netlists.{Pins}
 use Rattle.bb_net.specs.Values.{FitBoxes, bit_of, flat_with, xor}
-use Rattle.bb_fill.specs.Words.{NetWord, Bit, Named, CellNet, ChoiceNet, stem_of, texts_of, word_at}
+use Rattle.bb_fill.specs.Words.{NetWord, Bit, Named, CellNet, ChoiceNet, maximum, stem_of, texts_of, word_at}
 use Rattle.bb_fill.specs.Lines.{Line, Primitive, Not, And, Or, Xor, Buf, Module, Input, Output, Reg, Gate, Assign, Always, End}
 use Rattle.bb_fill.specs.Trees.{tree_lines, tree_values}
-use Rattle.bb_fill.specs.Filled.{filled_lines, output_text}
+use Rattle.bb_fill.specs.Filled.{filled_lines, filled_text, lines_of_cells, output_text}
 use Rattle.bb_fill.specs.Clashes.{AreNamesApart}
-use Rattle.bb_fill.specs.Sizes.{IsSmallText, net_count}
+use Rattle.bb_fill.specs.Sizes.{IsSmallText, most_nets, net_count}
 use Rattle.bb_fill.specs.Answers.{Answer, IsFillAnswer}
 
 -- the bit of a gate for those of its inputs (IEEE 1364-2005, 7.2 and 7.3)
@@ -155,3 +156,23 @@ WordsAreOfNetlist = (f : FlatNet) (tables : List TableBits) → IsReady f tables
 abbrev pub LinesReadWhatIsDriven : Type 0
 LinesReadWhatIsDriven = (f : FlatNet) (tables : List TableBits) → IsReady f tables → HaveClocks f → (before after : List Line) (line : Line) → filled_lines f tables ≡ before ++ line ∷ after
     → All (λ word. IsNumber word ⊎ Contains (map Named (f.ins ++ state_texts f) ++ flat_map driven before) word) (line_reads line)
+
+-- the choices of the trees that implement a box: 2^k - 1 for each output pin, where it has k input pins
+abbrev pub tree_choices : Pins → ℕ
+tree_choices pins = length pins.outs * (2 ^ length pins.ins - 1)
+
+-- cells have at most so many lines: one each, but for constants and inputs, and one for each choice
+abbrev pub LinesAreFew : Type 0
+LinesAreFew = (f : FlatNet) (tables : List TableBits) → IsReady f tables
+    → length (lines_of_cells f tables) + (f.net.inputs + 2) ≤ length f.net.cells + sum_by tree_choices f.net.boxes
+
+-- the most bytes that a name in the text has
+abbrev pub longest_name : FlatNet → ℕ
+longest_name f = maximum (map length (texts_of f))
+
+-- a text that has not too many nets has at most so many bytes: those of its first and its last line, and for each input,
+-- register, output and line of a cell four words, each with 15 bytes more than the longest name
+abbrev pub TextsAreShort : Type 0
+TextsAreShort = (f : FlatNet) (tables : List TableBits) → IsReady f tables → HaveClocks f → net_count f tables ≤ most_nets
+    → length (filled_text f tables)
+    ≤ 27 + (length f.ins + length f.regs + length f.outs + length (lines_of_cells f tables)) * (4 * (longest_name f + 15))

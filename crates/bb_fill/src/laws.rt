@@ -1,9 +1,9 @@
 //! Laws of the filled text. They speak of bits for all words that meet the lines, which is what crates above need to
 //! show that a design has them. Each function has a law as its contract and does nothing.
 
-ghost use Rattle.bb_fill.specs.Laws.{AnswersAreOne, AnswersExist, LinesCanBeMet, LinesHaveBits, LinesReadWhatIsDriven};
-ghost use Rattle.bb_fill.specs.Laws.{NetsAreDrivenOnce, RegistersTakeBits, TreesChoose, WordsAreApart, WordsAreNets};
-ghost use Rattle.bb_fill.specs.Laws.{WordsAreOfNetlist};
+ghost use Rattle.bb_fill.specs.Laws.{AnswersAreOne, AnswersExist, LinesAreFew, LinesCanBeMet, LinesHaveBits};
+ghost use Rattle.bb_fill.specs.Laws.{LinesReadWhatIsDriven, NetsAreDrivenOnce, RegistersTakeBits, TextsAreShort};
+ghost use Rattle.bb_fill.specs.Laws.{TreesChoose, WordsAreApart, WordsAreNets, WordsAreOfNetlist};
 
 use bb_bits::{number_doubles, number_is_below};
 use bb_net::{value_exists, value_is_unique};
@@ -75,3 +75,15 @@ pub fn words_are_of_netlist()
 pub fn lines_read_what_is_driven()
     ensures { LinesReadWhatIsDriven }
 {}
+
+/// So the number of nets is bounded by the cells and the boxes of the netlist, whatever its tables.
+pub fn lines_are_few()
+    ensures { LinesAreFew }
+{}
+
+/// And so is the number of bytes, by the nets and the longest name.
+pub fn texts_are_short()
+    ensures { TextsAreShort }
+{
+    words_are_nets();
+}

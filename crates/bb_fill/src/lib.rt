@@ -23,7 +23,7 @@ mod words;
 pub use fault::FillFault;
 pub use filling::fill;
 pub use laws::{
-    answers_are_one, answers_exist, lines_can_be_met, lines_have_bits, lines_read_what_is_driven,
-    nets_are_driven_once, registers_take_bits, trees_choose, words_are_apart, words_are_nets,
-    words_are_of_netlist,
+    answers_are_one, answers_exist, lines_are_few, lines_can_be_met, lines_have_bits,
+    lines_read_what_is_driven, nets_are_driven_once, registers_take_bits, texts_are_short,
+    trees_choose, words_are_apart, words_are_nets, words_are_of_netlist,
 };

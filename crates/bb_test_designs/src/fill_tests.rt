@@ -8,7 +8,7 @@ use crate::value_tests::tables;
 use bb_bits::{Name, Table};
 use bb_fill::{FillFault, fill};
 use bb_net::{Flat, Reg, own_kinds};
-use std::alloc::Global;
+use std::alloc::{AllocError, Global};
 use std::process::Abort;
 use std::test::Fail;
 
@@ -133,14 +133,21 @@ module t(a, \\a[0] ); input [0:0] a; output \\a[0] ; buf(\\a[0] , a[0]); endmodu
 
 clash a[0]";
 
+// Each way out of a function and each value that is dropped there costs proof, so bodies of loops are functions.
+fn expect_filled<R: Abort>(rt: &R, alloc: Global, block: &str) -> Result<(), Fail> {
+    let (text, rest) = block.split_once("\n").unwrap_or((block, ""));
+    let (rows, expected) = rest.split_once("\n").unwrap_or((rest, ""));
+    let flat = flat_of(rt, alloc, text.as_bytes(), Some(b"t"))?;
+    let tables = tables(alloc, &flat, rows)?;
+    let found = printed(rt, alloc, &flat, &tables)?;
+    assert_eq!(rt; found.as_str(), expected, "{text}");
+    Ok(())
+}
+
 #[test]
 fn texts_of_filled_designs(rt: HostRuntime) -> Result<(), Fail> {
     for block in FILLED.split("\n---\n") {
-        let (text, rest) = block.split_once("\n").unwrap_or((block, ""));
-        let (rows, expected) = rest.split_once("\n").unwrap_or((rest, ""));
-        let flat = flat_of(&rt, rt.alloc(), text.as_bytes(), Some(b"t"))?;
-        let found = printed(&rt, rt.alloc(), &flat, &tables(rt.alloc(), &flat, rows)?)?;
-        assert_eq!(&rt; found.as_str(), expected, "{text}");
+        expect_filled(&rt, rt.alloc(), block)?;
     }
     Ok(())
 }
@@ -149,24 +156,40 @@ const TREE: &[u8] =
     b"module t(a, y); input a; output y; bx u({20{a}}, y); endmodule module bx(i, o); input [19:0] i; output o; \
         endmodule";
 
-// Each bound alone: a tree with too many nets, and six hundred gates that read an input with a name of 65,536 bytes,
-// for the bound on bytes.
-#[test]
-fn texts_that_are_too_large(rt: HostRuntime) -> Result<(), Fail> {
-    let flat = flat_of(&rt, rt.alloc(), TREE, Some(b"t"))?;
-    let tables = vec![in rt.alloc(); Table::zeros(rt.alloc(), 20, 1)?]?;
-    let found = printed(&rt, rt.alloc(), &flat, &tables)?;
-    assert_eq!(&rt; found.as_str(), "toolarge");
-    let mut name = String::new(rt.alloc());
+fn expect_too_large<R: Abort>(
+    rt: &R,
+    alloc: Global,
+    text: &[u8],
+    tables: &[Table],
+) -> Result<(), Fail> {
+    let flat = flat_of(rt, alloc, text, Some(b"t"))?;
+    let found = printed(rt, alloc, &flat, tables)?;
+    assert_eq!(rt; found.as_str(), "toolarge");
+    Ok(())
+}
+
+fn long_name(alloc: Global) -> Result<String, AllocError> {
+    let mut name = String::new(alloc);
     for _ in 0..65_536 {
         name.push('n')?;
     }
-    let text = format!(in rt.alloc();
+    Ok(name)
+}
+
+// Six hundred gates that read an input.
+fn wide_gates(alloc: Global, name: &str) -> Result<String, AllocError> {
+    format!(in alloc;
         "module t({name}, b, y); input {name}, b; output [599:0] y; assign y = {{600{{{name}}}}} & {{600{{b}}}}; \
             endmodule"
-    )?;
-    let flat = flat_of(&rt, rt.alloc(), text.as_bytes(), Some(b"t"))?;
-    let found = printed(&rt, rt.alloc(), &flat, &[])?;
-    assert_eq!(&rt; found.as_str(), "toolarge");
-    Ok(())
+    )
+}
+
+// Each bound alone: a tree with too many nets, and gates that read an input with a name of 65,536 bytes, for the bound
+// on bytes.
+#[test]
+fn texts_that_are_too_large(rt: HostRuntime) -> Result<(), Fail> {
+    let tables = vec![in rt.alloc(); Table::zeros(rt.alloc(), 20, 1)?]?;
+    expect_too_large(&rt, rt.alloc(), TREE, &tables)?;
+    let text = wide_gates(rt.alloc(), &long_name(rt.alloc())?)?;
+    expect_too_large(&rt, rt.alloc(), text.as_bytes(), &[])
 }

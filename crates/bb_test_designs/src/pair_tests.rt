@@ -4,24 +4,35 @@
 use crate::designs::{DESIGNS, text_in};
 use crate::printing::{flat_of, print_name, print_names};
 use bb_match::pair;
-use bb_net::Pair;
+use bb_net::{OutName, Pair};
 use std::alloc::{AllocError, Global};
+use std::process::Abort;
 use std::test::Fail;
+
+fn print_outs(out: &mut String, outs: &[OutName]) -> Result<(), AllocError> {
+    for name in outs {
+        out.push_str(if name.next { " next " } else { " " })?;
+        print_name(out, &name.text)?;
+    }
+    Ok(())
+}
+
+fn print_boxes(out: &mut String, pair: &Pair) -> Result<(), AllocError> {
+    for (of, kind) in pair.boxes().iter().zip(pair.kinds()) {
+        out.push_str(" box ")?;
+        print_name(out, of.path())?;
+        write!(out, " {kind}")?;
+    }
+    Ok(())
+}
 
 // Inputs, outputs and next states, boxes with their sharing classes.
 fn names(alloc: Global, pair: &Pair) -> Result<String, AllocError> {
     let mut out = String::from_str(alloc, "in")?;
     print_names(&mut out, pair.ins())?;
     out.push_str(" out")?;
-    for name in pair.outs() {
-        out.push_str(if name.next { " next " } else { " " })?;
-        print_name(&mut out, &name.text)?;
-    }
-    for (of, kind) in pair.boxes().iter().zip(pair.kinds()) {
-        out.push_str(" box ")?;
-        print_name(&mut out, of.path())?;
-        write!(out, " {kind}")?;
-    }
+    print_outs(&mut out, pair.outs())?;
+    print_boxes(&mut out, pair)?;
     Ok(out)
 }
 
@@ -74,21 +85,28 @@ care k: module s(a, k); input a; output k; buf(k, a); endmodule / module t(a); i
 care k: module s(c, k); input c; output k; reg k; always @(posedge c) k <= c; endmodule / module t(c); input c; reg k; \
     always @(posedge c) k <= c; endmodule => in c k out next k";
 
+fn pair_of<R: Abort>(rt: &R, alloc: Global, options: &str, texts: &str) -> Result<Pair, Fail> {
+    let (spec, imp) = texts.split_once(" / ").unwrap_or((texts, ""));
+    let spec = flat_of(rt, alloc, text_of(spec).as_bytes(), None)?;
+    let imp = flat_of(rt, alloc, text_of(imp).as_bytes(), None)?;
+    let care = options.strip_prefix("care ").map(|text| text.as_bytes());
+    Ok(pair(alloc, spec, imp, care, options == "shared")?)
+}
+
+fn expect_row<R: Abort>(rt: &R, alloc: Global, line: &str) -> Result<(), Fail> {
+    let (row, expected) = line.split_once(" => ").unwrap_or((line, ""));
+    let (options, texts) = row.split_once(": ").unwrap_or((row, ""));
+    let pair = pair_of(rt, alloc, options, texts)?;
+    assert_eq!(rt; names(alloc, &pair)?.as_str(), expected, "{row}");
+    Ok(())
+}
+
 #[test]
 fn names_of_pairs(rt: HostRuntime) -> Result<(), Fail> {
-    let alloc = rt.alloc();
     for line in PAIRS.lines() {
-        if line.starts_with("//") {
-            continue;
+        if !line.starts_with("//") {
+            expect_row(&rt, rt.alloc(), line)?;
         }
-        let (row, expected) = line.split_once(" => ").unwrap_or((line, ""));
-        let (options, texts) = row.split_once(": ").unwrap_or((row, ""));
-        let (spec, imp) = texts.split_once(" / ").unwrap_or((texts, ""));
-        let spec = flat_of(&rt, alloc, text_of(spec).as_bytes(), None)?;
-        let imp = flat_of(&rt, alloc, text_of(imp).as_bytes(), None)?;
-        let care = options.strip_prefix("care ").map(|text| text.as_bytes());
-        let pair = pair(alloc, spec, imp, care, options == "shared")?;
-        assert_eq!(&rt; names(alloc, &pair)?.as_str(), expected, "{row}");
     }
     Ok(())
 }

@@ -5,33 +5,42 @@ use crate::designs::{DESIGNS, parts};
 use crate::fitting::table_of;
 use crate::printing::{flat_of, print_name, print_names};
 use bb_bits::Table;
-use bb_net::Flat;
+use bb_net::{BoxName, Flat, Reg};
 use std::alloc::{AllocError, Global};
 use std::process::Abort;
 use std::test::Fail;
 
-fn names(alloc: Global, flat: &Flat) -> Result<String, AllocError> {
-    let mut out = String::new(alloc);
-    out.push_str("in")?;
-    print_names(&mut out, flat.ins())?;
-    for reg in flat.regs() {
+fn print_registers(out: &mut String, regs: &[Reg]) -> Result<(), AllocError> {
+    for reg in regs {
         out.push_str(if reg.falling { " neg " } else { " pos " })?;
-        print_name(&mut out, &reg.text)?;
+        print_name(out, &reg.text)?;
         match reg.clock {
             Some(clock) => write!(out, "@{clock}")?,
             None => out.push_str("@?")?,
         }
     }
+    Ok(())
+}
+
+fn print_boxes(out: &mut String, boxes: &[BoxName]) -> Result<(), AllocError> {
+    for of in boxes {
+        out.push_str(" box ")?;
+        print_name(out, of.path())?;
+        out.push_str(":")?;
+        print_names(out, of.ins())?;
+        out.push_str(" ->")?;
+        print_names(out, of.outs())?;
+    }
+    Ok(())
+}
+
+fn names(alloc: Global, flat: &Flat) -> Result<String, AllocError> {
+    let mut out = String::from_str(alloc, "in")?;
+    print_names(&mut out, flat.ins())?;
+    print_registers(&mut out, flat.regs())?;
     out.push_str(" out")?;
     print_names(&mut out, flat.outs())?;
-    for of in flat.boxes() {
-        out.push_str(" box ")?;
-        print_name(&mut out, of.path())?;
-        out.push_str(":")?;
-        print_names(&mut out, of.ins())?;
-        out.push_str(" ->")?;
-        print_names(&mut out, of.outs())?;
-    }
+    print_boxes(&mut out, flat.boxes())?;
     Ok(out)
 }
 
@@ -52,22 +61,24 @@ const ONE_MODULE: &[u8] =
 module m(c, d, y); input c, d; output y; bx w(.s(y), .i({c, d}), .o()); endmodule
 module bx(i, o, s); input [1:0] i; output o, s; endmodule";
 
+fn print_module(out: &mut String, of: &BoxName) -> Result<(), AllocError> {
+    print_name(out, of.path())?;
+    out.push(' ')?;
+    print_name(out, of.module())?;
+    print_names(out, of.ins())?;
+    print_names(out, of.outs())?;
+    out.push(';')
+}
+
 #[test]
 fn modules_of_boxes(rt: HostRuntime) -> Result<(), Fail> {
     let flat = flat_of(&rt, rt.alloc(), ONE_MODULE, Some(b"t"))?;
     let mut printed = String::new(rt.alloc());
     for of in flat.boxes() {
-        print_name(&mut printed, of.path())?;
-        printed.push(' ')?;
-        print_name(&mut printed, of.module())?;
-        print_names(&mut printed, of.ins())?;
-        print_names(&mut printed, of.outs())?;
-        printed.push(';')?;
+        print_module(&mut printed, of)?;
     }
-    assert_eq!(&rt;
-        printed.as_str(),
-        "u bx i[1] i[0] o s;v.w bx i[1] i[0] o s;"
-    );
+    let expected = "u bx i[1] i[0] o s;v.w bx i[1] i[0] o s;";
+    assert_eq!(&rt; printed.as_str(), expected);
     Ok(())
 }
 

@@ -4,26 +4,42 @@
 use crate::in_memory::{held, run_over, words};
 use bb_ladder::run;
 use bb_outside::{MemFiles, MemSink};
+use std::alloc::{AllocError, Global};
 use std::process::Abort;
 use std::str;
 use std::test::Fail;
 
-#[test]
-fn long_texts_are_refused(rt: HostRuntime) -> Result<(), Fail> {
-    let alloc = rt.alloc();
+fn long_files(alloc: Global) -> Result<MemFiles, AllocError> {
     let nor = b"module s(a,b,y); input a,b; output y; nor g(y,a,b); endmodule";
     let mut texts = held(alloc, &[("s.v", nor)])?;
     let long = vec![in alloc; b' '; 33_554_433]?;
     texts.push((String::from_str(alloc, "long.v")?, long))?;
-    let mut files = MemFiles::new(texts, Vec::new(alloc));
+    Ok(MemFiles::new(texts, Vec::new(alloc)))
+}
+
+fn expect_refusal<R: Abort>(
+    rt: &R,
+    alloc: Global,
+    files: &mut MemFiles,
+    line: &str,
+    report: &str,
+) -> Result<(), Fail> {
+    let mut sink = MemSink::new(alloc, Vec::new(alloc));
+    sink.reserve(64)?;
+    assert_eq!(rt; run(alloc, &words(alloc, line)?, files, &mut sink), 2);
+    assert!(rt; sink.bytes() == report.as_bytes(), "{line}");
+    Ok(())
+}
+
+#[test]
+fn long_texts_are_refused(rt: HostRuntime) -> Result<(), Fail> {
+    let alloc = rt.alloc();
+    let mut files = long_files(alloc)?;
     for (line, report) in [
         ("bbeq long.v s.v", "refused spec toolong\n"),
         ("bbeq s.v long.v", "refused impl toolong\n"),
     ] {
-        let mut sink = MemSink::new(alloc, Vec::new(alloc));
-        sink.reserve(64)?;
-        assert_eq!(rt; run(alloc, &words(alloc, line)?, &mut files, &mut sink), 2);
-        assert!(rt; sink.bytes() == report.as_bytes(), "{line}");
+        expect_refusal(&rt, alloc, &mut files, line, report)?;
     }
     Ok(())
 }
@@ -46,6 +62,26 @@ fn a_wide_box_is_too_large(rt: HostRuntime) -> Result<(), Fail> {
     Ok(())
 }
 
+fn lines_with(text: &str, begins: &str) -> u32 {
+    let mut count = 0u32;
+    for line in text.lines() {
+        if line.starts_with(begins) {
+            count = count.saturating_add(1);
+        }
+    }
+    count
+}
+
+fn expect_proof<R: Abort>(rt: &R, text: &str) {
+    assert!(rt; text.starts_with("rung expand error\nvector "));
+    assert!(rt; text.contains("\nstep "));
+    assert!(rt; text.ends_with("verdict error\n"));
+    let (vectors, clauses) = (lines_with(text, "vector "), lines_with(text, "clause "));
+    assert!(rt; vectors >= 2);
+    assert_eq!(rt; clauses / 14, vectors);
+    assert_eq!(rt; clauses % 14, 0);
+}
+
 // Vectors, 2 + 2 + 8 + 2 clauses for each, and steps that refute them; which steps is the solver's choice.
 #[test]
 fn proofs_are_shown(rt: HostRuntime) -> Result<(), Fail> {
@@ -56,21 +92,6 @@ fn proofs_are_shown(rt: HostRuntime) -> Result<(), Fail> {
     let line = "bbeq s.v i.v --from expand --proof";
     let found = run_over(rt.alloc(), line, (spec, imp))?;
     assert_eq!(rt; found.status, 1);
-    let text = str::from_utf8(&found.report)?;
-    assert!(rt; text.starts_with("rung expand error\nvector "));
-    assert!(rt; text.contains("\nstep "));
-    assert!(rt; text.ends_with("verdict error\n"));
-    let (mut vectors, mut clauses) = (0u32, 0u32);
-    for line in text.lines() {
-        if line.starts_with("vector ") {
-            vectors = vectors.saturating_add(1);
-        }
-        if line.starts_with("clause ") {
-            clauses = clauses.saturating_add(1);
-        }
-    }
-    assert!(rt; vectors >= 2);
-    assert_eq!(rt; clauses / 14, vectors);
-    assert_eq!(rt; clauses % 14, 0);
+    expect_proof(&rt, str::from_utf8(&found.report)?);
     Ok(())
 }

@@ -6,12 +6,27 @@ use bb_outside::{
     Failed, FileFault, Files, KeptFiles, KeptRead, MemFiles, MemSink, QuietFiles, QuietSink, Sink,
     StdFiles, StdOut, Take, put_all,
 };
+use std::alloc::Global;
 use std::fs;
 use std::process::Abort;
+use std::rc::Rc;
 use std::test::Fail;
 
 // Two of the three files have one name.
 const THREE: [(&str, &[u8]); 3] = [("a", b"first"), ("b", b"other"), ("a", b"twice")];
+
+fn expect_read<R: Abort>(
+    rt: &R,
+    read: Result<Rc<Vec<u8>>, FileFault>,
+    want: Option<&str>,
+    name: &str,
+) {
+    match (read, want) {
+        (Ok(bytes), Some(text)) => assert!(rt; bytes.as_slice() == text.as_bytes(), "{name}"),
+        (Err(FileFault::Failed), None) => {}
+        _ => assert!(rt; false, "{name}"),
+    }
+}
 
 #[test]
 fn files_in_memory_fail_by_the_number_of_the_call(rt: HostRuntime) -> Result<(), Fail> {
@@ -25,11 +40,7 @@ fn files_in_memory_fail_by_the_number_of_the_call(rt: HostRuntime) -> Result<(),
         ("b", 0, Some("")),
         ("none", 9, Some("")),
     ] {
-        match (files.read(alloc, name, limit), want) {
-            (Ok(bytes), Some(text)) => assert!(rt; bytes.as_slice() == text.as_bytes(), "{name}"),
-            (Err(FileFault::Failed), None) => {}
-            _ => assert!(rt; false, "{name}"),
-        }
+        expect_read(&rt, files.read(alloc, name, limit), want, name);
     }
     Ok(())
 }
@@ -44,10 +55,7 @@ fn quiet_files_give_what_they_hold(rt: HostRuntime) -> Result<(), Fail> {
         ("b", 0, ""),
         ("none", 9, ""),
     ] {
-        match files.read(alloc, name, limit) {
-            Ok(bytes) => assert!(rt; bytes.as_slice() == want.as_bytes(), "{name}"),
-            Err(_) => assert!(rt; false, "{name}"),
-        }
+        expect_read(&rt, files.read(alloc, name, limit), Some(want), name);
     }
     Ok(())
 }
@@ -91,25 +99,27 @@ pub fn expect_reads<R: Abort>(rt: &R, reads: &[KeptRead], want: &[(&str, u64, Op
     }
 }
 
+const PATH: &str = "bb_outside_read_test.txt";
+
+fn are_read<F: Files>(files: &mut F, alloc: Global, limits: [u64; 2]) -> bool {
+    let [first, second] = limits;
+    files.read(alloc, PATH, first).is_ok() & files.read(alloc, PATH, second).is_ok()
+}
+
 #[test]
 fn a_real_file_is_read_up_to_the_limit_and_kept(rt: HostRuntime) -> Result<(), Fail> {
-    let alloc = rt.alloc();
-    let path = "bb_outside_read_test.txt";
-    fs::write(&rt, path, "module top;")?;
-    let mut files = KeptFiles::new(alloc, StdFiles::new(rt));
-    let whole = files.read(alloc, path, 100);
-    let prefix = files.read(alloc, path, 6);
-    fs::remove_file(&rt, path)?;
-    let missing = files.read(alloc, path, 100);
-    let directory = files.read(alloc, ".", 100);
-    assert!(rt; whole.is_ok() && prefix.is_ok());
-    assert_eq!(rt; missing.err(), Some(FileFault::Failed));
-    assert_eq!(rt; directory.err(), Some(FileFault::Failed));
+    fs::write(&rt, PATH, "module top;")?;
+    let mut files = KeptFiles::new(rt.alloc(), StdFiles::new(rt));
+    let whole = are_read(&mut files, rt.alloc(), [100, 6]);
+    fs::remove_file(&rt, PATH)?;
+    assert!(rt; whole);
+    expect_read(&rt, files.read(rt.alloc(), PATH, 100), None, "missing");
+    expect_read(&rt, files.read(rt.alloc(), ".", 100), None, "folder");
     let (all, six) = (b"module top;".as_slice(), b"module".as_slice());
     let want = [
-        (path, 100, Some(all)),
-        (path, 6, Some(six)),
-        (path, 100, None),
+        (PATH, 100, Some(all)),
+        (PATH, 6, Some(six)),
+        (PATH, 100, None),
         (".", 100, None),
     ];
     expect_reads(&rt, files.reads(), &want);

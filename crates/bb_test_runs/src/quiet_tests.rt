@@ -4,6 +4,7 @@
 use crate::in_memory::{held, words};
 use bb_ladder::run_quietly;
 use bb_outside::{QuietFiles, QuietSink};
+use std::alloc::Global;
 use std::process::Abort;
 use std::test::Fail;
 
@@ -67,15 +68,26 @@ const VERDICTS: [(&str, &str, &str, u8, &str); 7] = [
     ("bbeq s.v i.v --rup", CLAUSES, "", 1, "rup no 1\n"),
 ];
 
+fn expect_length<R: Abort>(
+    rt: &R,
+    alloc: Global,
+    line: &str,
+    texts: (&str, &str),
+    want: (u8, &str),
+) -> Result<(), Fail> {
+    let texts = [("s.v", texts.0.as_bytes()), ("i.v", texts.1.as_bytes())];
+    let mut files = QuietFiles::new(held(alloc, &texts)?);
+    let mut sink = QuietSink::new();
+    let found = run_quietly(alloc, &words(alloc, line)?, &mut files, &mut sink);
+    assert_eq!(rt; found, want.0, "{line}");
+    assert_eq!(rt; sink.taken(), want.1.len() as u64, "{line}");
+    Ok(())
+}
+
 #[test]
 fn verdicts_come_without_a_report(rt: HostRuntime) -> Result<(), Fail> {
-    let alloc = rt.alloc();
     for (line, spec, imp, status, report) in VERDICTS {
-        let texts = held(alloc, &[("s.v", spec.as_bytes()), ("i.v", imp.as_bytes())])?;
-        let (mut files, mut sink) = (QuietFiles::new(texts), QuietSink::new());
-        let found = run_quietly(alloc, &words(alloc, line)?, &mut files, &mut sink);
-        assert_eq!(rt; found, status, "{line}");
-        assert_eq!(rt; sink.taken(), report.len() as u64, "{line}");
+        expect_length(&rt, rt.alloc(), line, (spec, imp), (status, report))?;
     }
     Ok(())
 }

@@ -105,17 +105,31 @@ const READS: [(&[u64], u8, &[(&str, u64, Option<&[u8]>)]); 3] = [
     ),
 ];
 
+fn expect_order<R: Abort>(
+    rt: &R,
+    alloc: Global,
+    failing: &[u64],
+    status: u8,
+    reads: &[(&str, u64, Option<&[u8]>)],
+) -> Result<(), Fail> {
+    let texts = held(alloc, &[("s.v", BUFFER), ("i.v", COPY)])?;
+    let memory = MemFiles::new(texts, failing.to_vec(alloc)?);
+    let mut files = KeptFiles::new(alloc, memory);
+    let found = run(
+        alloc,
+        &words(alloc, TWO)?,
+        &mut files,
+        &mut QuietSink::new(),
+    );
+    assert_eq!(rt; found, status);
+    expect_reads(rt, files.reads(), reads);
+    Ok(())
+}
+
 #[test]
 fn texts_are_read_in_order(rt: HostRuntime) -> Result<(), Fail> {
-    let alloc = rt.alloc();
     for (failing, status, reads) in READS {
-        let texts = held(alloc, &[("s.v", BUFFER), ("i.v", COPY)])?;
-        let memory = MemFiles::new(texts, failing.to_vec(alloc)?);
-        let mut files = KeptFiles::new(alloc, memory);
-        let mut sink = QuietSink::new();
-        let found = run(alloc, &words(alloc, TWO)?, &mut files, &mut sink);
-        assert_eq!(rt; found, status);
-        expect_reads(&rt, files.reads(), reads);
+        expect_order(&rt, rt.alloc(), failing, status, reads)?;
     }
     Ok(())
 }

@@ -25,9 +25,10 @@ use Rattle.bb_checks.specs.Reports.{GivesTables, report_text, verdict_of}
 use Rattle.bb_frontend.specs.declared.refusal.Refusal.{Refusal}
 use Rattle.bb_frontend.specs.declared.refusal.Refusal.TheVariants.{Spec, Imp, Pair, NoMemory}
 use Rattle.bb_verdict.specs.declared.requested.TextComparison.{TextComparison}
+use Rattle.bb_verdict.specs.FilledSizes.{IsTooLargeToFill}
 use Rattle.bb_verdict.specs.FilledTexts.{Clashes, Finished, Follows, FollowsVerdict, IsFinishedText, IsLarge, IsTwice, MayFollowVerdict, NoTablesFollow, NotRequested, NotFinished, answer_text}
 use Rattle.bb_verdict.specs.TextAnswers.{FillingOnlyAdds, Judged, Judges, Refused, RepairsFinish}
-use Rattle.bb_verdict.specs.TextPairs.{DesignsAreAllowed, FilledTextsFinish, IsFilledText, IsRefusal}
+use Rattle.bb_verdict.specs.TextPairs.{DesignsAreAllowed, FilledTextsFinish, IsFilledText, IsRefusal, LargeTextsAreOfLargeDesigns}
 use Rattle.bb_verdict.proofs.AnswerLaws.{finished, is_repairable, order}
 use Rattle.bb_verdict.proofs.FilledNames.{clash_is_twice}
 use Rattle.bb_verdict.proofs.FollowLaws.{something_follows}
@@ -35,10 +36,11 @@ use Rattle.bb_verdict.proofs.FollowLaws.{something_follows}
 -- what follows the verdict where the filled implementation is asked for and its text has a property
 module _ (fill : Bool) (i : Design) (Claims : List ℕ → Type 0) (p : NetPair) (f : FlatNet) (lines : List Line) (rest : List ℕ) (repairable : verdict_of lines ≡ verdicts.Repairable)
     (tables : List TableBits) (only : (others : List TableBits) → GivesTables lines others → others ≡ tables)
-    (holds : (filled : List ℕ) → IsFillAnswer f (per_box p.kinds tables) (Text filled) → Claims filled) (twice : (name : List ℕ) → IsFillAnswer f (per_box p.kinds tables) (Clash name) → IsTwice i name) where
+    (holds : (filled : List ℕ) → IsFillAnswer f (per_box p.kinds tables) (Text filled) → Claims filled) (twice : (name : List ℕ) → IsFillAnswer f (per_box p.kinds tables) (Clash name) → IsTwice i name)
+    (large : IsFillAnswer f (per_box p.kinds tables) TooLarge → IsTooLargeToFill i) where
   answer_follows : (answer : Answer) → IsFillAnswer f (per_box p.kinds tables) answer → rest ≡ answer_text answer → FollowsVerdict i Claims rest
   answer_follows (Clash name) may e = Clashes name e (twice name may)
-  answer_follows TooLarge may e = IsLarge e
+  answer_follows TooLarge may e = IsLarge e (large may)
   answer_follows (Text filled) may e = Finished filled e (holds filled may)
 
   rest_follows : fill ≡ true → MayFollowVerdict fill f p.kinds lines rest → FollowsVerdict i Claims rest
@@ -57,9 +59,9 @@ reported_clash f tables name (fill.IsFilled apart small is) = let no : Clash nam
 
 module _ (allowed : DesignsAreAllowed) (none_after : NoTablesFollow) (spell : TablesSpellContents) (agree : SpelledContentsMakeEquivalent) (exactly : PairsImplementExactlyFitting)
     (comparable : FittingDesignsAreComparable) (have_orders : PairsHaveBoxOrders) (of_boxes : FittingTablesAreOfBoxes) where
-  pub repairs_finish : RepairsMakeEquivalent → TablesAreGivenOnce → EquivalentDesignsRunTheSame → FilledTextsFinish → RepairsFinish
-  repairs_finish repairs once run finish requested spec imp status text (Refused r is s t) zero = absurd (omega (arith, s, zero))
-  repairs_finish repairs once run finish requested spec imp status text (Judged p lines s i are for climb same rest follows t) zero =
+  pub repairs_finish : RepairsMakeEquivalent → TablesAreGivenOnce → EquivalentDesignsRunTheSame → FilledTextsFinish → LargeTextsAreOfLargeDesigns → RepairsFinish
+  repairs_finish repairs once run finish large requested spec imp status text (Refused r is s t) zero = absurd (omega (arith, s, zero))
+  repairs_finish repairs once run finish large requested spec imp status text (Judged p lines s i are for climb same rest follows t) zero =
       let repairable = is_repairable (verdict_of lines) (sym same ∙ zero) in
       let (tables, given, complete, ends) = repairs p requested.options lines for.kept climb repairable in
       let boxes = order allowed none_after spell agree exactly comparable have_orders of_boxes requested spec imp text p lines s i are for rest follows t tables complete ends in
@@ -76,7 +78,7 @@ module _ (allowed : DesignsAreAllowed) (none_after : NoTablesFollow) (spell : Ta
       record {
         finished = done;
         runs = λ contents fills. run requested.care s i contents (allowed requested.spec_top spec s are.spec_design) (allowed requested.imp_top imp i are.imp_design) done.comparable fills.0 (done.agree contents fills.0 fills.1);
-        filled = λ on. rest_follows requested.fill i (IsFilledText done) p for.imp_net lines rest repairable tables only is_filled twice on follows;
+        filled = λ on. rest_follows requested.fill i (IsFilledText done) p for.imp_net lines rest repairable tables only is_filled twice (large requested spec imp s i are p for tables complete) on follows;
       }
 
 -- a refusal is one whether the filled implementation is asked for or not

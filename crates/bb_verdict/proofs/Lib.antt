@@ -8,6 +8,7 @@ pub mod FilledNames
 pub mod FilledFit
 pub mod FilledAgree
 pub mod FilledLaw
+pub mod LargeTexts
 pub mod FilledNets
 pub mod AnswerLaws
 pub mod FilledAnswers

@@ -17,6 +17,7 @@ use Rattle.bb_checks.specs.declared.line.Line.{Line}
 use Rattle.bb_checks.specs.declared.verdict.Verdict.TheVariants as verdicts
 use Rattle.bb_checks.specs.Reports.{GivesTables, verdict_of}
 use Rattle.bb_frontend.specs.TextDesigns.{IsReadAs}
+use Rattle.bb_verdict.specs.FilledSizes.{IsTooLargeToFill}
 use Rattle.bb_verdict.specs.OwnTexts.{HasOwnTexts}
 
 -- what is written when a netlist is to be filled
@@ -70,9 +71,10 @@ abbrev pub IsTwice : Design → List ℕ → Type 0
 IsTwice i name = (Contains (input_texts i) name × (Contains (register_texts i) name ⊎ Contains (output_texts i) name))
     ⊎ (Contains (output_texts i) name × Contains (register_texts i) name)
 
--- what comes after the verdict of an implementation: a text of which this holds, or why there is none
+-- what comes after the verdict of an implementation: a text of which this holds, or why there is none; that the text
+-- would be too large is said only of an implementation with so many nets, or such long names, that it may be
 pub data FollowsVerdict (i : Design) (Claims : List ℕ → Type 0) (rest : List ℕ) : Type 0 where
   Finished : (filled : List ℕ) → rest ≡ codes "fill\n" ++ filled → Claims filled → FollowsVerdict i Claims rest
   Clashes : (name : List ℕ) → rest ≡ codes "fill clash " ++ name ++ codes "\n" → IsTwice i name
       → FollowsVerdict i Claims rest
-  IsLarge : rest ≡ codes "fill toolarge\n" → FollowsVerdict i Claims rest
+  IsLarge : rest ≡ codes "fill toolarge\n" → IsTooLargeToFill i → FollowsVerdict i Claims rest

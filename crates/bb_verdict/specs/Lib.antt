@@ -1,5 +1,6 @@
 pub mod OwnTexts
 pub mod TextPairs
+pub mod FilledSizes
 pub mod FilledTexts
 pub mod TextAnswers
 pub mod ShownMistakes

@@ -16,12 +16,13 @@ use Rattle.bb_equiv.specs.DesignEquivalence.{AreSpelled, ContentsMakeEquivalent,
 use Rattle.bb_equiv.specs.DesignFit.{DesignsFit, IsRefusalFor}
 use Rattle.bb_equiv.specs.Mistakes.{AllHaveCounterexamples}
 use Rattle.bb_equiv.specs.Runs.{EventShows, RunTheSame}
-use Rattle.bb_fill.specs.Answers.{Text, IsFillAnswer as MayPrint}
+use Rattle.bb_fill.specs.Answers.{Text, TooLarge, IsFillAnswer as MayPrint}
 use Rattle.bb_names.specs.Faults.{IsSound}
 use Rattle.bb_net.specs.Kinds.{AreKinds, AreSharedCompletion, representatives, per_box}
 use Rattle.bb_net.specs.Pairs.{NetPair, box_key}
 use Rattle.bb_checks.specs.LeftOpen.{AllMayLeaveOpen, AllMustLeaveOpen, SomeDecides}
 use Rattle.bb_checks.specs.Reports.{EndsWithTables}
+use Rattle.bb_verdict.specs.FilledSizes.{IsTooLargeToFill}
 use Rattle.bb_verdict.specs.FilledTexts.{FollowsVerdict, HasNoLine, IsFinishedText}
 use Rattle.bb_verdict.specs.OwnTexts.{HasOwnTexts}
 use Rattle.bb_verdict.specs.declared.requested.TextComparison.{TextComparison}
@@ -207,6 +208,14 @@ FilledTextsFinish = (requested : TextComparison) (spec imp : List ℕ) (s i : De
     → MayPrint pair.imp_net (per_box p.kinds tables) (Text text)
     → IsFinishedText requested.care s i (λ contents. FitDesign i contents × AreSpelled p.boxes p.kinds tables contents) text
     × Passes requested spec text × RunsAsText requested.care s text
+
+-- and where such a text is too large to be printed, the implementation is too large to be filled
+abbrev pub LargeTextsAreOfLargeDesigns : Type 0
+LargeTextsAreOfLargeDesigns = (requested : TextComparison) (spec imp : List ℕ) (s i : Design)
+    → AreDesignsOf requested spec imp s i
+    → (p : NetPair) (pair : IsPairFor requested.care requested.options.shared s i p) (tables : List TableBits)
+    → AreSharedCompletion p.spec p.imp p.kinds tables
+    → MayPrint pair.imp_net (per_box p.kinds tables) TooLarge → IsTooLargeToFill i
 
 -- pairs of two texts are isomorphic
 abbrev pub TextPairsAreIsomorphic : Type 0

@@ -11,8 +11,8 @@ ghost use Rattle.bb_verdict.specs.TextAnswers.{AnsweredFit, ErrorsRefute, Fillin
 ghost use Rattle.bb_verdict.specs.TextAnswers.{OpenAnswersLeaveOpen, DecidedAreAnswered, StayingOpenAreAnswered};
 ghost use Rattle.bb_verdict.specs.TextAnswers.{JudgedRefusalsAreFirst, RefusedAreAnsweredOnce, ReportsAreOne};
 ghost use Rattle.bb_verdict.specs.TextAnswers.{ReportsBeginAsOne, StatusesAreOne, StatusesNeverClash};
-ghost use Rattle.bb_verdict.specs.TextPairs.{DesignsAreAllowed, FilledTextsFinish, NotPairAndRefusal, RefusalsAreOne};
-ghost use Rattle.bb_verdict.specs.TextPairs.{TextPairsAreIsomorphic};
+ghost use Rattle.bb_verdict.specs.TextPairs.{DesignsAreAllowed, FilledTextsFinish, LargeTextsAreOfLargeDesigns};
+ghost use Rattle.bb_verdict.specs.TextPairs.{NotPairAndRefusal, RefusalsAreOne, TextPairsAreIsomorphic};
 
 use bb_checks::{
     climbs_leave_open, deciders_decide, errors_exclude_tables, found_vectors_are_mistakes,
@@ -30,10 +30,10 @@ use bb_equiv::laws::{
     wrong_outputs_are_mistakes, wrong_vectors_are_mistakes,
 };
 use bb_expand::refutations_show_vectors;
-use bb_fill::answers_exist;
+use bb_fill::{answers_exist, lines_are_few, texts_are_short};
 use bb_frontend::texts_have_designs;
-use bb_implements::list_laws::implementing_nets_give_outputs;
-use bb_implements::naming_laws::followed_inputs_are_one;
+use bb_implements::list_laws::{implementing_nets_give_outputs, nets_are_no_larger};
+use bb_implements::naming_laws::{followed_inputs_are_one, implementing_nets_have_box_orders};
 use bb_implements::table_laws::{tables_give_outputs, tables_have_contents};
 use bb_net::tables_are_spread;
 use bb_parse::laws::sources_are_formed;
@@ -109,6 +109,19 @@ pub fn filled_texts_finish()
     spelled_contents_have_tables();
 }
 
+/// That the text would be too large is a fact about the design: whichever bound it exceeds, the design has many nets or
+/// long names. The cells of its netlist are no more than its own, and the boxes are the same.
+pub fn large_texts_are_of_large_designs()
+    ensures { LargeTextsAreOfLargeDesigns }
+{
+    designs_are_allowed();
+    tables_are_spread();
+    nets_are_no_larger();
+    implementing_nets_have_box_orders();
+    lines_are_few();
+    texts_are_short();
+}
+
 /// Each flat netlist of the filled text has the names of the netlist that was filled, no box, and its bits with the
 /// tables in its boxes. That there is one is not said.
 pub fn filled_nets_implement()
@@ -145,7 +158,7 @@ pub fn answers_are_meant()
     ensures fit { AnsweredFit }
     // Errors are reported only where no contents make the designs equivalent, and their vectors show it. Tables are
     // reported only where all contents that they spell do, so that the two designs run alike whatever events come;
-    // where it is requested, the filled implementation follows, or why there is none.
+    // where it is requested, the filled implementation follows, or why there is none, which is a cause in the design.
     ensures errors { ErrorsRefute }
     ensures shown { ErrorsAreShown }
     ensures repairs { RepairsFinish }
@@ -176,6 +189,7 @@ pub fn answers_are_meant()
     tables_are_given_once();
     no_tables_follow();
     filled_texts_finish();
+    large_texts_are_of_large_designs();
     tables_spell_contents();
     spelled_contents_make_equivalent();
     pairs_implement_exactly_fitting();

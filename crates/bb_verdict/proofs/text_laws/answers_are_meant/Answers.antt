@@ -13,7 +13,7 @@ returns c = record {
   repairs =
       repairs_finish c.designs_are_allowed.ensures c.no_tables_follow.ensures c.tables_spell_contents.ensures c.spelled_contents_make_equivalent.ensures c.pairs_implement_exactly_fitting.ensures
       c.fitting_designs_are_comparable.ensures c.pairs_have_box_orders.ensures c.fitting_tables_are_of_boxes.ensures c.repairs_make_equivalent.ensures c.tables_are_given_once.ensures
-      c.equivalent_designs_run_the_same.ensures c.filled_texts_finish.ensures;
+      c.equivalent_designs_run_the_same.ensures c.filled_texts_finish.ensures c.large_texts_are_of_large_designs.ensures;
   open_reports = open_answers_are_reports;
   opens = open_answers_leave_open c.text_pairs_are_isomorphic.ensures c.isomorphic_pairs_are_left_open.ensures.left c.climbs_leave_open.ensures;
   stays_open = staying_open_are_answered c.no_pair_and_refusal.ensures c.text_pairs_are_isomorphic.ensures c.isomorphic_pairs_are_left_open.ensures.stays c.staying_open_is_reported.ensures;
