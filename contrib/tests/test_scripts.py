@@ -120,8 +120,9 @@ class Fill(Tries):
                   == [0, 0] and done[1].out != done[2].out, done[0].why())
         done = run([script("fill"), "--style", "casez", "--only",
                     write(self.folder, "joined", JOINED_REPORT), write(self.folder, "j.v", JOINED)])
-        self.note("fill --style casez joins rows", done.status == 0 and done.out.count("3'b") == 2
-                  and "default: contents = 2'b01;" in done.out, done.why())
+        self.note("fill --style casez joins rows", done.status == 0
+                  and "3'b0?1: contents[1] = 1'b1;" in done.out
+                  and "3'b1??: contents[0] = 1'b1;" in done.out, done.why())
         rtl = write(self.folder, "rtl.v", "module bx #(parameter W = 3 /* pins */)(input [W-1:0] "
                     "i, output [1:0] o); endmodule\n")
         done = run([script("fill"), "--only", "--rtl", rtl, os.path.join(self.folder, "joined"),

@@ -18,6 +18,22 @@ case " $* " in *" --to=ternary "*) exec {bbeq} "$@" ;; esac
 case " $* " in *" --from=$QUICK "*) exec {bbeq} "$@" ;; esac
 sleep 300
 """
+# One that decides nothing with any budget.
+OPEN = """#!/bin/sh
+case " $* " in
+*" --to=ternary "*) exec {bbeq} "$@" ;;
+*" --from=expand "*) echo rung expand clauses ;;
+*" --from=input "*) echo rung input nodes ;;
+*) echo rung output nodes ;;
+esac
+echo verdict open
+exit 3
+"""
+# One whose runs with $KILLED are ended by a signal.
+KILLED = """#!/bin/sh
+case "$*" in *"$KILLED"*) kill -KILL $$ ;; esac
+exec {bbeq} "$@"
+"""
 
 
 def processes(mark):
@@ -39,6 +55,11 @@ def is_gone(mark, place):
     while time.monotonic() < until and (processes(mark) or os.listdir(place)):
         time.sleep(0.05)
     return not processes(mark) and not os.listdir(place)
+
+
+def tried(done):
+    """What `solve` says is left to try."""
+    return re.findall(r"^solve:   try (.*)$", done.err, re.MULTILINE)
 
 
 def verdict(report):
@@ -113,12 +134,17 @@ class Solve(Tries):
             done = run([script("solve"), pipe, implementation])
         self.note("solve of a pipe", done.status == 0, done.why())
 
-    def slow(self, quick):
-        program = write(self.folder, "slow", SLOW.format(bbeq=shlex.quote(BBEQ)))
+    def program(self, text):
+        """Where a script stands for the program, and a folder for what `solve` makes."""
+        program = write(self.folder, "program", text.format(bbeq=shlex.quote(BBEQ)))
         os.chmod(program, 0o755)
         place = os.path.join(self.folder, "place")
         os.makedirs(place, exist_ok=True)
-        return {**os.environ, "BBEQ": program, "QUICK": quick, "TMPDIR": place}, place
+        return {**os.environ, "BBEQ": program, "TMPDIR": place}, place
+
+    def slow(self, quick):
+        env, place = self.program(SLOW)
+        return {**env, "QUICK": quick}, place
 
     def test_turns(self):
         words = [script("solve"), example("carry", "spec.v"), example("carry", "impl.v")]
@@ -134,15 +160,45 @@ class Solve(Tries):
                   done.err and " 4 s: " in done.err and is_gone(self.folder, place), done.why())
 
     def test_open(self):
-        """Where each run has ended the report is that of one that is open, and what to try is
-        said; --shared where some module has two instances."""
-        for name, most, shares in (("holes", "1000", True), ("counter", "1", False)):
+        """Where each run has ended the report is that of one that is open, and what none of them
+        tried is said: larger budgets, --shared where some module has two instances, one box where
+        there are several."""
+        for name, most, is_several in (("holes", 1000, True), ("counter", 1, False)):
             done = run([script("solve"), example(name, "spec.v"), example(name, "impl.v"),
-                        "--clauses", most, "--nodes", most])
-            is_said = ("nothing decided" in done.err and ("`--shared`" in done.err) == shares
-                       and "solve:   try (rung expand clauses): " in done.err)
+                        "--clauses", str(most), "--nodes", str(most)])
+            tries = tried(done)
+            is_said = ("nothing decided" in done.err
+                       and f"--clauses 8000000: `expand` had at most {most}" in tries
+                       and [any(word in line for line in tries)
+                            for word in ("--shared, if", "one box with the")] == [is_several] * 2)
             self.note(f"solve of {name}, which stays open", done.status == 3 and is_said
                       and done.out == "rung expand clauses\nverdict open\n", done.why())
+
+    def test_tried(self):
+        """What the runs tried is not advised: the largest budgets, the order, the parts."""
+        env, _ = self.program(OPEN)
+        done = run([script("solve"), example("carry", "spec.v"), example("carry", "impl.v")],
+                   env=env)
+        tries = tried(done)
+        self.note("solve advises nothing that it has tried", done.status == 3 and tries
+                  and not any(line.startswith(("--clauses", "--nodes", "--shared"))
+                              or "order" in line or "parts" in line for line in tries)
+                  and any("its 3 input and 1 output pins make a table of 2^3 rows" in line
+                          for line in tries)
+                  and any("`ternary`, which needs no diagrams, drew 32 vectors" in line
+                          for line in tries), done.why())
+
+    def test_killed(self):
+        """A run that a signal ends is no answer, and where all end so the status is none of the
+        program."""
+        words = [script("solve"), example("carry", "spec.v"), example("carry", "impl.v")]
+        for killed, status in (("--to=ternary", 125), ("--from=", 125), ("--from=expand", 0)):
+            env, place = self.program(KILLED)
+            done = run(words, env={**env, "KILLED": killed})
+            self.note(f"solve where a signal ends the runs with {killed}", done.status == status
+                      and ("ended by signal 9 (Killed)" in done.err or not status)
+                      and verdict(done.out) == ["verdict repairable"] * (not status)
+                      and is_gone(self.folder, place), done.why())
 
     def test_ended(self):
         """Ended at random moments, by a signal that it sees or does not, it leaves nothing, and no

@@ -1,11 +1,14 @@
 """The tries of the contents that `fill` writes: in each style they are the tables from time 0 on,
-also at pins that never change."""
+also at pins that never change, and where pins are unknown an output is known only if all that they
+may be give the same."""
 import os
 import random
+from itertools import product
 
 from bbeq_tools.report.filler import STYLES
 from bbeq_tools.report.products import MOST_PINS
 from bbeq_tools.report.sums import expression
+from bbeq_tools.verilog.language import Reader
 from tests.tries import Tries, read, run, script, write
 
 SHAPES = ((1, 1), (2, 1), (3, 2), (4, 3), (7, 2))
@@ -24,22 +27,35 @@ def top_text(ins, outs):
             "endmodule\n")
 
 
-def bench(ins, outs):
+def rows_with(digits, ins):
+    """All rows of these digits, as texts."""
+    return ["".join(row) for row in product(digits, repeat=ins)]
+
+
+def bench(ins, outs, rows):
     """An instance for each row, with constant pins, and what each gives at time 0."""
     lines = ["module bench;"]
-    for row in range(2 ** ins):
-        lines.append(f"  wire [{outs - 1}:0] y{row}; bx u{row}({ins}'d{row}, y{row});")
-    lines += ["  initial begin", *[f'    $strobe("%b", y{row});' for row in range(2 ** ins)],
+    for at, row in enumerate(rows):
+        lines.append(f"  wire [{outs - 1}:0] y{at}; bx u{at}({ins}'b{row}, y{at});")
+    lines += ["  initial begin", *[f'    $strobe("%b", y{at});' for at in range(len(rows))],
               "  end", "endmodule"]
     return "\n".join(lines) + "\n"
+
+
+def due(row, table):
+    """The most that is known of an output at a row with unknown pins: the bit that it has whatever
+    these are, else x. Rows of `-` never come, and neither does one that may be no other."""
+    bits = {table[int("".join(known), 2)]
+            for known in product(*[digit if digit in "01" else "01" for digit in row])} - {"-"}
+    return "-" if not bits else bits.pop() if len(bits) == 1 else "x"
 
 
 class Styles(Tries):
     part = "styles"
     needs = ("iverilog", "vvp")
 
-    def simulated(self, filled, ins, outs):
-        paths = [filled, write(self.folder, "bench.v", bench(ins, outs))]
+    def simulated(self, filled, ins, outs, rows):
+        paths = [filled, write(self.folder, "bench.v", bench(ins, outs, rows))]
         program = os.path.join(self.folder, "bench.vvp")
         made = run(["iverilog", "-g2005", "-Wall", "-s", "bench", "-o", program, *paths])
         return run(["vvp", "-n", program]).out.split() if made.status == 0 else made.why()
@@ -63,9 +79,41 @@ class Styles(Tries):
             filled = os.path.join(self.folder, "filled.v")
             done = run([script("fill"), "--only", "--style", style, report, implementation, "-o",
                         filled])
-            shown = self.simulated(filled, ins, outs) if done.status == 0 else done.why()
+            shown = (self.simulated(filled, ins, outs, rows_with("01", ins))
+                     if done.status == 0 else done.why())
             self.note(f"fill --style {style}, {ins} pins and {outs} outputs, at time 0",
                       shown == rows, f"{str(shown)[:200]} {read(filled)[:400]}")
+
+    def test_unknown(self):
+        """All rows with x or z at some pins."""
+        draw = random.Random(6)
+        for ins, outs, digits in ((1, 1, "01xz"), (2, 2, "01xz"), (3, 2, "01x"), (4, 1, "01x")):
+            for odds in (1, 3):
+                rows = ["".join(draw.choice("0" * odds + "1") for _ in range(outs))
+                        for _ in range(2 ** ins)]
+                self.try_unknown(ins, rows, rows_with(digits, ins))
+                unused = [draw.choice((row, "-" * outs)) for row in rows]
+                self.try_unknown(ins, unused, rows_with(digits, ins))
+
+    def try_unknown(self, ins, table, rows):
+        outs, tables = len(table[0]), ["".join(pins) for pins in zip(*table)]
+        module = Reader(box_text(ins, outs)).modules()[0]
+        texts = [box_text(ins, outs).replace(" bx(", f" bx_{style}(").replace(
+            "endmodule", "\n".join(["", *lines(module, tables), "endmodule"]))
+            for style, lines in STYLES.items()]
+        all_outs = ", ".join(f"o[{at * outs}:{(at + 1) * outs - 1}]" for at in range(len(STYLES)))
+        texts.append(f"module bx(a, o); input [{ins - 1}:0] a; output [0:{len(STYLES) * outs - 1}] "
+                     "o; " + " ".join(f"bx_{style} u_{style}(a, {own});" for style, own in
+                                      zip(STYLES, all_outs.split(", "))) + " endmodule\n")
+        shown = self.simulated(write(self.folder, "filled.v", "".join(texts)), ins,
+                               len(STYLES) * outs, rows)
+        wanted = ["".join(due(row, own) for own in tables) for row in rows]
+        for at, style in enumerate(STYLES):
+            wrong = [(row, own[at * outs:(at + 1) * outs], bits)
+                     for row, own, bits in zip(rows, shown, wanted)
+                     if not is_due(style, row, own[at * outs:(at + 1) * outs], bits, tables)]
+            self.note(f"fill --style {style}, {ins} pins of which some are unknown: {tables}",
+                      len(shown) == len(rows) and not wrong, f"{wrong[:3]} {texts[at]}")
 
     def test_sums(self):
         """Each row has its bit, and one that never comes has any."""
@@ -82,6 +130,17 @@ class Styles(Tries):
         wide = "0" * 1023 + "1"
         self.note("an and of ten pins", expression([f"p{place}" for place in range(MOST_PINS)],
                                                    wide).count("&") == 9)
+
+
+def is_due(style, row, shown, wanted, tables):
+    """Whether outputs are what a style makes of a row, of which `wanted` is the most that is known.
+    Sums know less of some, and so does what takes rows that never come for 0."""
+    is_known = set(row) <= {"0", "1"}
+    if style == "case" and not is_known:
+        return set(shown) == {"x"}
+    return all(own == bit or bit == "-" or not is_known and own == "x"
+               and (style == "sums" or "-" in table)
+               for own, bit, table in zip(shown.replace("z", "x"), wanted, tables))
 
 
 def value_of(text, bits):

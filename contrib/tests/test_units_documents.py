@@ -8,7 +8,7 @@ from tests.tries import TOP, read
 
 # At most so many words a page, as `wc -w` counts them.
 WORDS = {"README.md": 800, "NEWS.md": 900, "contrib/README.md": 2600, "docs/ARCHITECTURE.md": 4000,
-         "docs/AUDIT.md": 850, "docs/CONTRIBUTING.md": 850, "docs/DECISIONS.md": 4500,
+         "docs/AUDIT.md": 1350, "docs/CONTRIBUTING.md": 1600, "docs/DECISIONS.md": 4500,
          "docs/LANGUAGE.md": 4200, "docs/PROVED.md": 3700, "docs/REPORT.md": 5000,
          "docs/SEMANTICS.md": 4500, "docs/TUTORIAL.md": 1300}
 # Names of yosys, Linux and grep, and options of pip, rt and GNU parallel.

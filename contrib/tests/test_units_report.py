@@ -1,11 +1,12 @@
 """Unit tests of what is read of a report, and of the texts that are made of it."""
 import os
+import re
 import tempfile
 import unittest
 
 from bbeq_tools.cli import Fault
 from bbeq_tools.report import lrat
-from bbeq_tools.report.contents import assign_lines, case_lines, casez_lines, cubes, tree
+from bbeq_tools.report.contents import assign_lines, case_lines, casez_lines, decided, tree
 from bbeq_tools.report.sums import expression
 from bbeq_tools.report.drat import proof_lines, resolve
 from bbeq_tools.report.reports import (OTHER, on_terminal, other_texts, read_filled, read_report,
@@ -92,21 +93,25 @@ class Contents(unittest.TestCase):
 
     def test_default(self):
         lines = list(case_lines(BOX, ["0-01", "0-10"]))
-        self.assertIn("        default: contents = 2'b00;", lines)
+        self.assertIn("        default: contents = {2{^pins ^ ^pins}};", lines)
         self.assertFalse(any("2'b01:" in line for line in lines))
 
     def test_casez(self):
-        self.assertEqual(list(casez_lines(BOX, ["0001", "0001"]))[5:-4],
-                         ["        2'b11: contents = 2'b11;", "        default: contents = 2'b00;"])
+        self.assertEqual(list(casez_lines(BOX, ["0001", "1111"]))[3:-2], [
+            "      contents = 2'bxx;", "      casez (pins)", "        2'b11: contents[1] = 1'b1;",
+            "        2'b0?, 2'b?0: contents[1] = 1'b0;", "      endcase",
+            "      contents[0] = 1'b1;", "    end"])
 
-    def test_cubes(self):
-        """Each row is in one cube, and has its outputs."""
-        rows = ["0", "0", "1", "0", "1", "1", "1", "0"]
-        found = cubes(3, rows)
-        for row, bits in enumerate(rows):
-            fits = [value for cube, value in found
-                    if all(digit in ("?", bit) for digit, bit in zip(cube, f"{row:03b}"))]
-            self.assertEqual(fits, [bits])
+    def test_decided(self):
+        """All patterns that decide an output are there, and each row is in one."""
+        for bits in ("00110101", "0-1-1001", "---1--0-"):
+            ones, zeros = (re.findall(r"3'b([01?]+)", part)
+                           for part in "".join(decided(3, bits, "o")).split(": o = 1'b1;"))
+            for row, bit in enumerate(bits):
+                places = [any(all(digit in ("?", own) for digit, own in zip(cube, f"{row:03b}"))
+                              for cube in found) for found in (ones, zeros)]
+                self.assertTrue(any(places) if bit == "-" else places == [bit == "1", bit == "0"])
+        self.assertIn("3'b?11", "".join(decided(3, "00110101", "o")))
 
     def test_assign(self):
         self.assertEqual(list(assign_lines(BOX, ["0001", "0110"])),

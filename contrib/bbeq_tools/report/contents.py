@@ -2,14 +2,14 @@
 or for rows that are joined, or as trees of choices. All are continuous assignments, which have
 their values from time 0 on: `always @*` waits for a pin to change. Where no vector brings a row to
 the pins, `-` stands for the bits of its outputs."""
-from typing import Callable, Dict, Iterable, Iterator, List, Optional, Sequence, Tuple
+from typing import Callable, Iterable, Iterator, List, Sequence
 
-from bbeq_tools.report.products import MOST_PINS
+from bbeq_tools.report.products import MOST_PINS, Cube, covers, primes
 from bbeq_tools.report.sums import expression
 from bbeq_tools.verilog.language import Module, Net, bit_text, written
 
 Contents = Sequence[str]  # The bits of each output pin, row by row.
-WIDTH = 110  # Of a line that lists rows.
+WIDTH = 104  # Of a line that lists rows.
 
 
 def joined(nets: Iterable[Net]) -> str:
@@ -23,27 +23,59 @@ def ports_of(module: Module, direction: str) -> List[Net]:
 
 def case_lines(module: Module, contents: Contents) -> Iterator[str]:
     """A row of the table a line: the inputs, the first pin most significant, and the outputs in the
-    same order."""
+    same order. Where a pin is x, no row is met, and all outputs are x."""
     pins, rows = len(module.pins("input")), rows_of(module, contents)
-    lines = [([f"{row:0{pins}b}"], bits) for row, bits in enumerate(rows) if "-" not in bits]
-    default = "0" * len(rows[0]) if any("-" in bits for bits in rows) else None
-    yield from framed("case", module, lines, default,
-                      default and "No vector brings another row to the pins.")
+    name, outs = own_name(module), len(module.pins("output"))
+    body = ["case (pins)"]
+    for row, bits in enumerate(rows):
+        if "-" not in bits:
+            body.append(f"  {pins}'b{row:0{pins}b}: {name} = {outs}'b{bits};")
+    if any("-" in bits for bits in rows):
+        body += ["  // No vector brings another row to the pins: 0, or x where a pin is x.",
+                 f"  default: {name} = {{{outs}{{^pins ^ ^pins}}}};"]
+    yield from framed(module, name, [*body, "endcase"], joined(ports_of(module, "input")))
 
 
 def casez_lines(module: Module, contents: Contents) -> Iterator[str]:
-    """As `case_lines`, with rows of equal outputs joined: `?` is a pin that may be either, and
-    several stand before one colon. The outputs that most lines have are the default."""
-    rows = rows_of(module, contents)
-    groups: Dict[str, List[str]] = {}
-    for cube, bits in cubes(len(module.pins("input")), rows):
-        groups.setdefault(bits, []).append(cube)
-    default = max(groups, default="0" * len(rows[0]),
-                  key=lambda bits: (len(groups[bits]), sum(2 ** cube.count("?")
-                                                           for cube in groups[bits])))
-    never = "Some of these rows come at no vector." if any("-" in bits for bits in rows) else None
-    yield from framed("casez", module, [(listed, bits) for bits, listed in groups.items()
-                                        if bits != default], default, never)
+    """For each output pin all rows that make it 1 and all that make it 0, joined as far as they can
+    be: `?` is a pin that may be either, and several stand before one colon. So an output is known
+    wherever the pins that are known decide it. Of more than ten input pins a tree."""
+    if len(module.pins("input")) > MOST_PINS:
+        yield from assign_lines(module, contents)
+        return
+    name, outputs = own_name(module), module.pins("output")
+    body = []
+    if any("-" in bits for bits in contents):
+        body.append("// Some of these rows come at no vector.")
+    for place, bits in zip(reversed(range(len(outputs))), contents):
+        target = f"{name}[{place}]" if len(outputs) > 1 else name
+        body += decided(len(module.pins("input")), bits, target)
+    # By the or a pin that is z is x; else it would match each digit.
+    call = f"{joined(ports_of(module, 'input'))} | {len(module.pins('input'))}'b0"
+    yield from framed(module, name, body, call)
+
+
+def decided(width: int, bits: str, target: str) -> List[str]:
+    """The lines that give an output its bit, by all prime implicants of it and of its complement,
+    of which one has each row that never comes."""
+    ones, zeros, free = ({row for row, bit in enumerate(bits) if bit == kind} for kind in "10-")
+    if not ones or not zeros:
+        return [f"{target} = 1'b{int(bool(ones))};"]
+    listed = {"1": [cube for cube in primes(width, ones | free)
+                    if any(covers(cube, row) for row in ones)], "0": primes(width, zeros | free)}
+    lines = ["casez (pins)"]
+    for bit, found in listed.items():
+        rows = sorted((digits_of(width, cube) for cube in found),
+                      key=lambda row: (row.replace("?", "0"), row))
+        lines += wrapped([f"{width}'b{row}" for row in rows], f": {target} = 1'b{bit};")
+    return [*lines, "endcase"]
+
+
+def digits_of(width: int, cube: Cube) -> str:
+    """The digits of a cube, `?` where either will do."""
+    care, value = cube
+    return "".join(str(value >> place & 1) if care >> place & 1 else "?"
+                   for place in reversed(range(width)))
 
 
 def rows_of(module: Module, contents: Contents) -> List[str]:
@@ -52,58 +84,37 @@ def rows_of(module: Module, contents: Contents) -> List[str]:
             for row in range(2 ** len(module.pins("input")))]
 
 
-def framed(word: str, module: Module, lines: Iterable[Tuple[List[str], str]],
-           default: Optional[str], note: Optional[str]) -> Iterator[str]:
-    """A function with a line for each of these lists of inputs and their outputs, and its call."""
-    pins, outs = len(module.pins("input")), len(module.pins("output"))
+def own_name(module: Module) -> str:
+    """A name for a function that no net has."""
     name = "contents"
     while name in module.nets:
         name += "_"
+    return name
+
+
+def framed(module: Module, name: str, body: Iterable[str], call: str) -> Iterator[str]:
+    """A function of the input pins with these lines, and its call."""
+    pins, outs = len(module.pins("input")), len(module.pins("output"))
     yield f"  function {f'[{outs - 1}:0] ' if outs > 1 else ''}{name};"
     yield f"    input {f'[{pins - 1}:0] ' if pins > 1 else ''}pins;"
     yield "    begin"
     yield f"      {name} = {outs}'b{'x' * outs};"
-    yield f"      {word} (pins)"
-    for listed, bits in lines:
-        yield from wrapped([f"{pins}'b{row}" for row in listed], f": {name} = {outs}'b{bits};")
-    if default is not None:
-        if note:
-            yield f"        // {note}"
-        yield f"        default: {name} = {outs}'b{default};"
-    yield "      endcase"
+    for line in body:
+        yield f"      {line}"
     yield "    end"
     yield "  endfunction"
-    yield (f"  assign {joined(ports_of(module, 'output'))} = "
-           f"{name}({joined(ports_of(module, 'input'))});")
+    yield f"  assign {joined(ports_of(module, 'output'))} = {name}({call});"
 
 
 def wrapped(parts: List[str], end: str) -> Iterator[str]:
     """Parts with commas between them, as lines that are not too long."""
-    line = "        "
+    line = "  "
     for part in parts[:-1]:
         if len(line) + len(part) > WIDTH:
             yield line.rstrip()
-            line = "          "
+            line = "    "
         line += part + ", "
     yield line + parts[-1] + end
-
-
-def cubes(width: int, rows: List[str]) -> List[Tuple[str, str]]:
-    """Sets of rows with equal outputs, each a digit for each pin; each row is in one of them, but
-    for those that no vector brings to the pins. Two are joined as long as some differ in one digit
-    alone."""
-    found = {f"{row:0{width}b}": bits for row, bits in enumerate(rows) if "-" not in bits}
-    joins = True
-    while joins:
-        joins = False
-        for place in reversed(range(width)):
-            for cube in sorted(cube for cube in found if cube[place] == "0"):
-                other = cube[:place] + "1" + cube[place + 1:]
-                if found.get(other) == found[cube]:
-                    found[cube[:place] + "?" + cube[place + 1:]] = found.pop(cube)
-                    del found[other]
-                    joins = True
-    return sorted(found.items(), key=lambda cube: cube[0].replace("?", "0"))
 
 
 def sum_lines(module: Module, contents: Contents) -> Iterator[str]:

@@ -1,11 +1,11 @@
 """Writes an implementation with its boxes filled, from the tables of a report.
 
 A report that ends with `verdict repairable` has a table line for each output of each box. This
-script puts a module with these contents in the place of each empty module, as expressions or as a
-case statement. Where instances of one module have different
-contents, each content gets a module of its own, and so do the modules above it. With --shared a
-module has the same contents in all its instances, and is filled once. No proof speaks of what this
-script writes.
+script puts a module with these contents in the place of each empty module, as expressions or as
+case statements. Where a pin is x, an output is x or what it is for both values of the pin; with
+`case` all outputs are x then. Where instances of one module have different contents, each content
+gets a module of its own, and so do the modules above it. With --shared a module has the same
+contents in all its instances, and is filled once. No proof speaks of what this script writes.
 
 With --flat it takes the filled implementation out of a report of `bbeq --fill`: one module of
 single bits without hierarchy, of which it is proved that it agrees with the specification. --ports
@@ -32,8 +32,9 @@ def parse_words():
     parser.add_argument("--top", help="the top module, as --top-impl of bbeq")
     parser.add_argument("--style", choices=tuple(STYLES),
                         help="contents as short expressions (sums, the default), as a case "
-                        "statement with a line a row, or with rows of equal outputs joined "
-                        "(casez), or as trees of choices (assign); bbeq reads sums and assign")
+                        "statement with a line a row, or for each output with rows of equal bits "
+                        "joined (casez), or as trees of choices (assign); bbeq reads sums and "
+                        "assign")
     whose = parser.add_mutually_exclusive_group()
     whose.add_argument("--shared", action="store_true", help="the report is one with --shared: its "
                        "tables are those of modules, each of which is filled in its place")

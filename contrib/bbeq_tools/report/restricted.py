@@ -7,8 +7,9 @@ import time
 from bbeq_tools.cli import Fault
 from bbeq_tools.report.cut import Cut
 from bbeq_tools.report.reports import is_verdict
-from bbeq_tools.runs.climbs import without
+from bbeq_tools.runs.climbs import value_of, wants_clauses, without
 from bbeq_tools.runs.timed import Started
+from bbeq_tools.runs.ways import FIRST_CLAUSES
 from bbeq_tools.verilog.language import bit_text, read_modules, top_of, written
 from bbeq_tools.verilog.values import Design
 
@@ -25,13 +26,11 @@ class Restricted:
         self.words, self.folder, self.program = words, folder, program
         self.files = [words.specification, words.implementation]
         self.care = {("output", words.care)} if words.care else set()
-        self.sides, self.modules, self.tops, self.designs = [], [], [], []
+        self.sides, self.designs = [], []
         for path, name in zip(self.files, (words.top_spec, words.top_impl)):
             text, modules = read_modules(path)
             top = top_of(path, modules, name)
             self.sides.append(Cut(path, text, modules, top))
-            self.modules.append(modules)
-            self.tops.append(top)
             self.designs.append(Design(modules, top))
         self.names = self.designs[0].inputs
         self.opened = self.count = 0
@@ -70,16 +69,37 @@ class Restricted:
             self.told = now
             print(f"why: {now - self.began:.0f} s: {what}", file=sys.stderr, flush=True)
 
-    def whole(self, *words):
-        """The report of the two texts as they are, with these words in the place of others."""
-        others = without(without(self.words.others, "from"), "to")
-        others = [word for word in others if word not in words]
-        tops = [f"--top-spec={self.tops[0].name}", f"--top-impl={self.tops[1].name}"]
-        care = [f"--care={name}" for _, name in self.care]
-        return self.report([*tops, *care, *others, *words], self.files)
+    def proof(self, kept):
+        """Vectors at which no contents are right together, as `expand` finds them, or none."""
+        is_whole = len(kept) == len(self.all())
+        files = self.files if is_whole else self.written(kept)
+        names = self.names if is_whole else self.names_in(files[0])
+        words = [*self.tops(), *self.care_words(), *self.expand_words(), "--proof"]
+        few = [] if value_of(words, "clauses", None) else [f"--clauses={FIRST_CLAUSES}"]
+        lines = self.report([*words, *few], files)
+        if few and wants_clauses("\n".join(lines)):
+            lines = self.report(words, files)
+        found = [dict(zip(names, line[7:])) for line in lines if line.startswith("vector ")]
+        return [{name: bits[name] for name in self.names} for bits in found]
 
-    def verdict(self, kept, vectors=None):
-        """The verdict on these outputs and next states, at these vectors or at all."""
+    def names_in(self, path):
+        """The names of a specification that was cut, by those that it had before."""
+        _, modules = read_modules(path)
+        known = {text: (kind, text) for kind, text in self.names}
+        return [known[text] for _, text in Design(modules, modules[self.sides[0].top.name]).inputs]
+
+    def tops(self):
+        return [f"--top-spec={self.sides[0].top.name}", f"--top-impl={self.sides[1].top.name}"]
+
+    def care_words(self):
+        return [f"--care={name}" for _, name in self.care]
+
+    def expand_words(self):
+        return ["--from=expand", *without(without([word for word in self.words.others
+                                                   if word != "--proof"], "from"), "to")]
+
+    def written(self, kept, vectors=None):
+        """The two texts with these outputs, and the one that is 1 at these vectors."""
         files = []
         for name, side in zip(("spec.v", "impl.v"), self.sides):
             is_spec = side is self.sides[0]
@@ -88,12 +108,13 @@ class Restricted:
             with open(files[-1], "w", encoding="latin-1") as file:
                 file.write(side.with_outputs({*kept, *self.care} if is_spec and vectors is None
                                              else set(kept), extra))
-        words = [f"--top-spec={self.tops[0].name}", f"--top-impl={self.tops[1].name}"]
-        words += ([f"--care={name}" for _, name in self.care] if vectors is None
-                  else [f"--care={CARE}"])
-        words += self.words.others if vectors is None else ["--from=expand", *without(
-            without(self.words.others, "from"), "to")]
-        lines = self.report(words, files)
+        return files
+
+    def verdict(self, kept, vectors=None):
+        """The verdict on these outputs and next states, at these vectors or at all."""
+        words = [*self.tops(), *(self.care_words() if vectors is None else [f"--care={CARE}"]),
+                 *(self.words.others if vectors is None else self.expand_words())]
+        lines = self.report(words, self.written(kept, vectors))
         found = next((line for line in lines if is_verdict(line)), None)
         if not found:
             raise Fault(f"bbeq says `{lines[-1]}` of the texts with {len(kept)} outputs")
@@ -115,11 +136,11 @@ class Restricted:
                      for at in range(0, len(self.names), MOST_BITS)] or ["1'b1"]
             lines.append(f"wire {written(f'{AT}.{number}')}= {' & '.join(parts)};")
         is_one = " | ".join(written(f"{AT}.{number}") for number in range(len(vectors)))
-        care = [f"{own_bit(self.tops[0], name)} & " for _, name in self.care]
+        care = [f"{own_bit(self.sides[0].top, name)} & " for _, name in self.care]
         return written(CARE), [*lines, f"assign {written(CARE)}= {''.join(care)}({is_one});"]
 
     def is_at(self, vector, names):
-        bits = ", ".join(own_bit(self.tops[0], text) for _, text in names)
+        bits = ", ".join(own_bit(self.sides[0].top, text) for _, text in names)
         digits = "".join(vector[name] for name in names)
         return f"({{{bits}}} == {len(names)}'b{digits})"
 

@@ -11,14 +11,13 @@ import tempfile
 
 from bbeq_tools.cli import Fault, Output, Words, run_script
 from bbeq_tools.program import find_program
-from bbeq_tools.report.alike import boxes_seen, sight, telling, told_answers
+from bbeq_tools.report.alike import pin_texts, remedies, sight, told_answers
 from bbeq_tools.report.buses import shown
 from bbeq_tools.report.least import least
+from bbeq_tools.report.possible import Possible, TooMany
 from bbeq_tools.report.reports import (add_report_words, read_report, vectors as shown_vectors,
                                        verdict)
 from bbeq_tools.report.restricted import Restricted
-
-MOST_NAMED = 8
 
 
 def parse_words():
@@ -53,44 +52,66 @@ class Explained:
     """Outputs and vectors of which none can be left out."""
 
     def __init__(self, runs, lines):
-        self.runs, self.kept = runs, runs.all()
-        self.vectors = vectors_in(lines, runs.names)
-        if not self.vectors:
-            self.vectors = vectors_in(runs.whole("--from=expand", "--proof"), runs.names)
+        self.runs, self.kept, self.trials = runs, runs.all(), 0
+        self.possible = Possible(runs.designs, "--shared" in runs.words.others, runs.care)
+        self.vectors = vectors_in(lines, runs.names) or runs.proof(self.kept)
         if self.vectors and self.is_wrong(self.kept, self.vectors):
             self.leave_out()
         else:
-            self.vectors = []
             self.by_outputs()
 
     def is_wrong(self, kept, vectors=None):
+        """Whether no contents are right: by trial where the pins are few, else by a run."""
+        if vectors is not None and self.possible.can_try(kept):
+            self.trials += 1
+            self.runs.tell(f"{self.trials} trials, {len(kept)} outputs, {len(vectors)} vectors")
+            try:
+                return not self.possible.fits(kept, vectors)
+            except TooMany:
+                pass
         return self.runs.verdict(kept, vectors) == "error"
 
     def by_outputs(self):
-        """Where no vectors are known: outputs are left out, and then `expand` may find some."""
+        """Where no vectors are known: with fewer outputs `expand` may find some."""
         if not self.is_wrong(self.kept):
             raise Fault("the verdict is no error of these texts; the report is of others, or "
                         "of other words")
         self.kept = least(self.kept, self.is_wrong)
+        self.vectors = self.runs.proof(self.kept)
+        if self.vectors and self.is_wrong(self.kept, self.vectors):
+            self.leave_out()
+        else:
+            self.vectors = []
 
     def leave_out(self):
-        self.vectors = least(self.vectors, lambda left: self.is_wrong(self.kept, left))
-        self.kept = least(self.kept, lambda left: self.is_wrong(left, self.vectors))
-        self.vectors = least(self.vectors, lambda left: self.is_wrong(self.kept, left))
+        if not self.possible.can_try(self.kept):
+            self.fewer_outputs()
+        self.fewer_vectors()
+        self.fewer_outputs()
+        self.fewer_vectors()
         for at in range(1, len(self.vectors)):
             self.draw_near(at)
+        self.fewer_vectors()
+        self.fewer_outputs()
+        if self.runs.verdict(self.kept, self.vectors) == "repairable":
+            raise Fault("bbeq finds contents that are right at vectors at which none are by trial; "
+                        "please report this fault with both texts")
+
+    def fewer_vectors(self):
         self.vectors = least(self.vectors, lambda left: self.is_wrong(self.kept, left))
+
+    def fewer_outputs(self):
         self.kept = least(self.kept, lambda left: self.is_wrong(left, self.vectors))
 
     def draw_near(self, at):
         """Makes a vector as like the first as it can be."""
-        first, own = self.vectors[0], self.vectors[at]
+        first, own, counts = self.vectors[0], self.vectors[at], self.possible.names(self.kept)
 
         def with_own(names):
             return [*self.vectors[:at], first | {name: own[name] for name in names},
                     *self.vectors[at + 1:]]
 
-        apart = least([name for name in own if own[name] != first[name]],
+        apart = least([name for name in own if own[name] != first[name] and name in counts],
                       lambda names: self.is_wrong(self.kept, with_own(names)))
         self.vectors = with_own(apart)
 
@@ -101,27 +122,23 @@ def told_name(name):
 
 
 def tell(explained):
-    runs, kept, found = explained.runs, explained.kept, explained.vectors
+    possible, kept, found = explained.possible, explained.kept, explained.vectors
     for name in kept:
         print(told_name(name))
-    boxes = boxes_seen(runs.designs[1], kept, found or [{name: "0" for name in runs.names}])
+    boxes = possible.boxes(kept)
     print(f"boxes {' '.join(box.path for box in boxes)}" if boxes else "no box is seen")
-    sights = [sight(*runs.designs, boxes, kept, vector) for vector in found]
+    sights = [sight(possible, kept, vector) for vector in found]
     for number, (vector, seen) in enumerate(zip(found, sights), 1):
         print(f"vector {number}: {shown({text: bit for (_, text), bit in vector.items()})}")
         for path, row in seen.rows.items():
             print(f"  {path} sees {shown(row) or 'nothing'}")
-        answer = told_answers(boxes, seen.right)
+        answer = told_answers(pin_texts(possible, kept), seen.right)
         if answer and boxes:
             forced = ", ".join(map(told_name, seen.forced))
             print(f"  {answer}" + (f", for {forced}" if forced else ""))
-    for path, names in telling(boxes, sights, found):
-        listed = ", ".join(text for _, text in names[:MOST_NAMED])
-        print(f"give {path} a pin on {' or '.join(listed.rsplit(', ', 1))}"
-              + (" or .." if len(names) > MOST_NAMED else "")
-              + ", which is different at vectors at which it sees the same")
-    if not found:
-        print("`expand` finds no vectors within its clauses; --clauses after `--` gives it more")
+    for line in remedies(possible, kept, found, sights) if found else (
+            ["`expand` finds no vectors within its clauses; --clauses after `--` gives it more"]):
+        print(line)
 
 
 def as_report(found):

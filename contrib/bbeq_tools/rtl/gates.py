@@ -178,6 +178,17 @@ def obstacles(modules, boxes, asynchronous):
     return found
 
 
+def memories(modules, name, path=""):
+    """The memories of a module and of those below it: the path, and the place and the first and
+    last word."""
+    for memory, shape in modules[name].get("memories", {}).items():
+        first = shape.get("start_offset", 0)
+        yield path + memory, (place(shape["attributes"]), first, first + shape["size"] - 1)
+    for inner, cell in modules[name]["cells"].items():
+        if cell["type"] in modules:
+            yield from memories(modules, cell["type"], f"{path}{inner}.")
+
+
 def first_net_place(module, cell):
     bits = {bit for port in cell["connections"].values() for bit in port}
     places = [place(net["attributes"], None)
@@ -276,7 +287,7 @@ def translate(words, folder):
     rename(mapped[top], words.rename)
     if words.undef == "care":
         add_care(top, mapped, words)
-    writer = Writer(Netlist(top, mapped, words), words.keep_order)
+    writer = Writer(Netlist(top, mapped, words), words.keep_order, dict(memories(modules, top)))
     lines = list(writer.text(words.files))
     for warning in writer.too_many(MOST_INPUTS):
         print(f"gates: {warning}", file=sys.stderr)

@@ -32,10 +32,12 @@ def spoken(name):
 
 
 class Writer:
-    """Writes the text of a netlist."""
+    """Writes the text of a netlist. `memories` has for each memory of the source, by its path, its
+    place and its first and last word."""
 
-    def __init__(self, netlist, keep_order):
+    def __init__(self, netlist, keep_order, memories=None):
         self.net, self.declared, self.fresh = netlist, {}, {}
+        self.memories = memories or {}
         self.names = set(netlist.nets) | set(netlist.boxes)
         self.placed = Arrangement(netlist, keep_order)
         self.registers, self.split, self.index = (self.placed.registers, self.placed.split,
@@ -91,10 +93,19 @@ class Writer:
             raise Fault(f"{source}: a value is undefined (x) here{what}; --undef 0 or --undef 1 "
                         "chooses a bit for it")
         name = self.net.describe(bit)
+        read = re.fullmatch(r"\$memory\\(.+)\$rdmux\[.*", name)
+        if read and read.group(1) in self.memories:
+            raise Fault(self.no_word(read.group(1)))
         source = place(self.net.nets[name]["attributes"], source)
         raise Fault(f"{source}: {spoken(name)} is read and has no driver; where it is still to be "
                     "written, an empty module in its "
                     "place is a box; else --undef 0 or --undef 1 chooses a bit for it")
+
+    def no_word(self, name):
+        source, first, last = self.memories[name]
+        return (f"{source}: memory {name} has words {first} to {last}, and its address can name "
+                f"others; declare it as [0:{(1 << last.bit_length()) - 1}], or --undef 0 or "
+                "--undef 1 chooses the bits that the others read")
 
     def target(self, bit):
         """A bit as it is written or read, once it is known to be driven."""

@@ -3,6 +3,7 @@ is made twice."""
 import hashlib
 import os
 import tempfile
+from signal import strsignal
 from typing import NamedTuple, Optional
 
 from bbeq_tools.cli import Fault
@@ -11,6 +12,7 @@ from bbeq_tools.report.reports import is_verdict
 from bbeq_tools.runs.timed import OVER
 
 KEPT_STATUSES = (0, 1, 3)
+SHELL_SIGNALS = 128  # A shell adds this to the signal that ended its command.
 HEADER = "bbeq-kept"
 
 
@@ -41,7 +43,17 @@ class Answer(NamedTuple):
             return found.split()[1]
         if self.status is None:
             return f"no answer in {self.seconds:.1f} s"
+        if self.signal:
+            return f"ended by signal {self.signal} ({strsignal(self.signal) or 'unknown'})"
         return lines[0] if lines else f"status {self.status}"
+
+    @property
+    def signal(self):
+        """The number of the signal that ended the run, or None; of a shell that ran the program it
+        is in the status."""
+        if self.status is None or 0 <= self.status <= SHELL_SIGNALS:
+            return None
+        return -self.status if self.status < 0 else self.status - SHELL_SIGNALS
 
     @property
     def is_decided(self):

@@ -126,8 +126,11 @@ class Portfolio:
 
     def take(self, turn):
         answer = turn.close(self.guard)
-        if not turn.attempt.is_quiet:
-            turn.note(answer)
+        if answer.signal:
+            print(f"solve: {turn.attempt.label}: {answer.verdict}, which is no answer",
+                  file=sys.stderr, flush=True)
+        if answer.signal or not turn.attempt.is_quiet:
+            turn.note(answer, answer.verdict if answer.signal else None)
         turn.take(answer)
 
     def choose(self, left):

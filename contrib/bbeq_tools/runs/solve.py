@@ -10,20 +10,18 @@ import shutil
 import sys
 import tempfile
 import time
-from collections import Counter
 
 from bbeq_tools.cli import Fault, Words, run_script
 from bbeq_tools.program import find_program
 from bbeq_tools.report.reports import print_report
 from bbeq_tools.runs.climbs import MOST_CLAUSES, MOST_NODES
 from bbeq_tools.runs.guard import Guard
-from bbeq_tools.runs.joined import advice_on, last_rung
 from bbeq_tools.runs.kept import Answer
 from bbeq_tools.runs.portfolio import Portfolio, available_memory, told_bytes, told_found
 from bbeq_tools.runs.program_words import add_program_words, program_words
 from bbeq_tools.runs.timed import Started
+from bbeq_tools.runs.untried import untried
 from bbeq_tools.runs.ways import BY_ORDER, BY_PARTS, Request, first_run, ways_of
-from bbeq_tools.verilog.language import read_modules
 
 TOO_LONG = 7  # The seconds of --limit were over.
 HELPS = {"nodes": f"at most so many nodes in a check by diagrams (default {MOST_NODES})",
@@ -33,7 +31,8 @@ HELPS = {"nodes": f"at most so many nodes in a check by diagrams (default {MOST_
 def parse_words():
     parser = Words(prog="solve", description=__doc__.split("\n\n")[0], allow_abbrev=False,
                    epilog="The status is that of the run whose report is printed, or 7 where the "
-                   "seconds of --limit were over. All runs together take at most half of the "
+                   "seconds of --limit were over. A run that a signal ends gives no answer; where "
+                   "all end so, the status is 125. All runs together take at most half of the "
                    "memory that is free. The program is $BBEQ, or bbeq on the PATH, or the one "
                    "that was built in this repository.")
     parser.add_argument("specification", metavar="SPEC", help="the specification")
@@ -108,7 +107,7 @@ def cause(report, files):
 def finish(answer):
     """Prints a report, and ends with its status."""
     print_report(answer.report)
-    sys.exit(answer.status if answer.status >= 0 else 128 - answer.status)
+    sys.exit(answer.status)
 
 
 def told_way(turn, request):
@@ -124,28 +123,13 @@ def told_way(turn, request):
     return f"bbeq {shlex.join(words)}{source}"
 
 
-def may_share(path):
-    """Whether boxes may be instances of one module, which --shared is for."""
-    try:
-        modules = read_modules(path)[1].values()
-    except Fault:
-        return True
-    used = Counter(instance.module for module in modules for instance in module.instances)
-    return max(used.values(), default=0) > 1
-
-
-def tell_open(portfolio, why, implementation):
-    """What the runs found that decided nothing, and what to try."""
+def tell_open(portfolio, request, why):
+    """What the runs found that decided nothing, and what none of them tried."""
     say(f"nothing decided{why}")
     for found in portfolio.found():
         say(f"  {told_found(found)}")
-    left = [answer for _, answer, _ in portfolio.found() if answer.status == 3]
-    rungs = dict.fromkeys(last_rung(answer) for answer in left)
-    for rung in rungs:
-        # A check that had no more to look for says nothing of what to try.
-        for advice in advice_on(rung) if rung and not rung.endswith(" none") else ():
-            if "`--shared`" not in advice or may_share(implementation):
-                say(f"  try ({rung}): {advice}")
+    for line in untried(request, portfolio):
+        say(f"  try {line}")
 
 
 def farthest(portfolio, first):
@@ -153,7 +137,26 @@ def farthest(portfolio, first):
     whole = [(attempt.memory, answer) for turn in portfolio.turns
              if turn.name not in (BY_PARTS, BY_ORDER)
              for attempt, answer, _ in turn.found if answer.status == 3]
+    if not whole and any(answer.signal for _, answer, _ in portfolio.found()):
+        raise Fault("no answer: signals ended the runs, as the kernel's where memory is short")
     return max(whole, key=lambda found: found[0], default=(0, first))[1]
+
+
+def read_pair(words, request, guard, until):
+    """The answer of the first run, which is open; any other ends the command."""
+    first = ask_first(request, guard, until)
+    if first is None:
+        say(f"nothing decided in {words.limit:g} s, in which the pair was not read; --limit more")
+        sys.exit(TOO_LONG)
+    if first.signal:
+        raise Fault(f"no answer: the run that reads the pair was {first.verdict}")
+    why = (first.status in (2, 4)
+           and cause(first.report, (words.specification, words.implementation)))
+    if why:
+        say(why)
+    if first.status != 3:
+        finish(first)
+    return first
 
 
 def solve(words, program, folder, guard):
@@ -162,16 +165,7 @@ def solve(words, program, folder, guard):
     files = [lasting(path, folder) for path in (words.specification, words.implementation)]
     request = Request(program, tuple(words.others), *files, folder,
                       int(words.nodes or MOST_NODES), int(words.clauses or MOST_CLAUSES))
-    first = ask_first(request, guard, until)
-    if first is None:
-        say(f"nothing decided in {words.limit:g} s, in which the pair was not read; --limit more")
-        sys.exit(TOO_LONG)
-    why = (first.status in (2, 4)
-           and cause(first.report, (words.specification, words.implementation)))
-    if why:
-        say(why)
-    if first.status != 3:
-        finish(first)
+    first = read_pair(words, request, guard, until)
     request = request._replace(memory=first.memory)
     budget = available_memory() // 2
     portfolio = Portfolio(ways_of(request, words.fill or words.proof), words.jobs, budget, guard,
@@ -180,16 +174,16 @@ def solve(words, program, folder, guard):
         turn = portfolio.solve(until)
     finally:
         portfolio.close()
-    seconds = time.monotonic() - began
     if turn:
+        seconds = time.monotonic() - began
         say(f"{turn.answer.verdict} after {seconds:.1f} s by {told_way(turn, request)}")
         finish(turn.answer)
     if until is not None and time.monotonic() >= until:
-        tell_open(portfolio, f" in {words.limit:g} s; a larger --limit gives the runs more time",
-                  files[1])
+        tell_open(portfolio, request,
+                  f" in {words.limit:g} s; a larger --limit gives the runs more time")
         sys.exit(TOO_LONG)
-    tell_open(portfolio, f": each run has ended, with at most {told_bytes(budget)} of memory",
-              files[1])
+    tell_open(portfolio, request,
+              f": each run has ended, with at most {told_bytes(budget)} of memory")
     finish(farthest(portfolio, first))
 
 

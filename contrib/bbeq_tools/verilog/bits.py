@@ -101,9 +101,14 @@ def numbers(bits: List[Bit], count: int) -> List[int]:
     return [int("".join(digits), 2) for digits in zip(*columns)]
 
 
-def by_numbers(every: int, operator: str, first: List[Bit], second: List[Bit], place: int) -> Bit:
+def by_gates(every: int, operator: str, first: List[Bit], second: List[Bit], place: int) -> Bit:
     """The bit at a place of an operator on two words, the rightmost bit of each first."""
-    made = circuit(Gates(every), operator, first[::-1], second[::-1])[::-1][place]
+    return circuit(Gates(every), operator, first[::-1], second[::-1])[::-1][place]
+
+
+def by_numbers(every: int, operator: str, first: List[Bit], second: List[Bit], place: int) -> Bit:
+    """The same, as the numbers say."""
+    made = by_gates(every, operator, first, second, place)
     return told(every, made, [first, second], lambda left, right: meaning(operator, left, right,
                                                                           len(first)) >> place & 1)
 

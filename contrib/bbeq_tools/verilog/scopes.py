@@ -1,12 +1,12 @@
 """What the expressions of an instance mean, bit by bit: their widths and contexts
 (docs/LANGUAGE.md; IEEE 1364-2005, clause 5)."""
 from functools import reduce
-from typing import List, Tuple
+from typing import Any, Dict, List, Tuple
 
 from bbeq_tools.cli import Fault
-from bbeq_tools.verilog.bits import (OPERATORS, Bit, Gates, by_numbers, chosen, either, inverted,
-                                     needed, told)
-from bbeq_tools.verilog.language import Expression, Module
+from bbeq_tools.verilog.bits import (OPERATORS, Bit, Gates, by_gates, by_numbers, chosen, either,
+                                     inverted, needed, told)
+from bbeq_tools.verilog.language import Bounds, Expression, Index, Module
 from bbeq_tools.verilog.words import SHIFTS, SUMS, contexts, reduced, reduction, result_width
 from bbeq_tools.verilog.world import Key, World
 
@@ -18,6 +18,7 @@ class Scope:
 
     def __init__(self, module: Module, path: str, level: int) -> None:
         self.module, self.path, self.level = module, path, level
+        self.places: Dict[Any, List[Index]] = {}
         if level > MOST_LEVELS:
             raise Fault(f"{path[:-1]} stands deeper than {MOST_LEVELS} levels")
 
@@ -26,11 +27,18 @@ class Scope:
         index."""
         return [(self.path, name, index) for name, index in self.module.left_bits(left)]
 
+    def selected(self, name: str, select: Bounds) -> List[Index]:
+        """The indices that a select takes, leftmost first."""
+        found = self.places.get((name, select))
+        if found is None:
+            found = self.places[name, select] = self.module.selected(name, select)
+        return found
+
     def width(self, expression: Expression) -> int:
         """The width of an expression by itself (5.4.1)."""
         kind, first = expression[:2]
         if kind == "net":
-            return len(self.module.selected(first, expression[2]))
+            return len(self.selected(first, expression[2]))
         if kind == "bits":
             return first
         if kind == "not":
@@ -51,7 +59,7 @@ class Scope:
         is wider than an operand is filled with zeros before the operators are applied (5.5.2)."""
         kind, first = expression[:2]
         if kind == "net":
-            indices = self.module.selected(first, expression[2])
+            indices = self.selected(first, expression[2])
             return (world.bit((self.path, first, indices[-1 - place])) if place < len(indices)
                     else world.constant(False))
         if kind == "bits":
@@ -89,13 +97,16 @@ class Scope:
             first = [self.word(world, parts, width, steps[:-1], at) for at in range(low, high)]
             second = [self.bit(world, parts[len(steps)], at, beside)
                       for at in range(place + 1 if operator in SUMS else beside)]
-            world.words[key] = by_numbers(world.every, operator, first, second, place - low)
+            make = by_numbers if world.has_numbers else by_gates
+            world.words[key] = make(world.every, operator, first, second, place - low)
         return world.words[key]
 
     def fold(self, world: World, operand: Expression, operator: str) -> Bit:
         bits = [self.bit(world, operand, place, self.width(operand))
                 for place in range(self.width(operand))]
         made = reduced(Gates(world.every), operator, bits[::-1])
+        if not world.has_numbers:
+            return made
         return told(world.every, made, [bits],
                     lambda number: reduction(operator, number, len(bits)))
 

@@ -29,10 +29,13 @@ class Box(NamedTuple):
 
 class World:
     """The bits of a design where inputs and registers have those of a vector, and the outputs of
-    each box are as `contents` says."""
+    each box are as `contents` says. Operators on words are what their numbers say, vector by
+    vector, or what their gates make of all vectors at once."""
 
-    def __init__(self, design: Design, vector: Dict[Any, Bit], contents: Any) -> None:
+    def __init__(self, design: Design, vector: Dict[Any, Bit], contents: Any,
+                 has_numbers: bool = True) -> None:
         self.design, self.vector, self.contents = design, vector, contents
+        self.has_numbers = has_numbers
         self.made: Dict[Any, Any] = {}
         self.words: Dict[Any, Bit] = {}
         self.every = next((bit.one | bit.zero for bit in vector.values()), 1)
