@@ -20,10 +20,11 @@ use Rattle.bb_implements.specs.Implements.{IsCopyOf}
 use Rattle.bb_net.specs.Flats.{FlatNet}
 use Rattle.bb_net.specs.Kinds.{representatives}
 use Rattle.bb_match.specs.Refusals.{Box as SpecBox, Care, SpecInput, SpecOutput, ImpInput, ImpOutput, SpecRegister, ImpRegister, SpecClock, ImpClock, Clocks}
-use Rattle.bb_equiv.specs.Comparable.{AreSettled, FittingDesignsAreComparable, IsClockedByInput}
-use Rattle.bb_equiv.specs.DesignEquivalence.{TablesSpellContents}
+use Rattle.bb_equiv.specs.Comparable.{AreSettled, IsClockedByInput}
 use Rattle.bb_equiv.specs.DesignFit.{HasClock, IsClockedBy}
 use Rattle.bb_equiv.specs.Inside.LowerLaws.{LowerLaws}
+use Rattle.bb_equiv.specs.Laws.Comparable.{FittingDesignsAreComparable}
+use Rattle.bb_equiv.specs.Laws.DesignEquivalence.{TablesSpellContents}
 use Rattle.bb_equiv.specs.Laws.DesignRefusals.{FittingDesignsHavePairs}
 use Rattle.bb_equiv.proofs.Mistakes.{zero_of, zeros_fit}
 use Rattle.bb_equiv.proofs.SeenDesigns.{imp_filled, pair_seen, spec_filled}

@@ -15,8 +15,9 @@ use Rattle.bb_net.specs.Values.{flat_with, tabled_bit}
 use Rattle.bb_implements.specs.Laws.ContentTables.{AreTablesOf}
 use Rattle.bb_design.specs.Hierarchy.{Design}
 use Rattle.bb_design.specs.Worlds.{World, Vector, HasVector, IsWorld, FitDesign, outputs_in}
-use Rattle.bb_equiv.specs.DesignEquivalence.{HaveSameBits, ContentsMakeEquivalent, TablesMakeEquivalentAsContents, DesignsAreEquivalentToThemselves}
+use Rattle.bb_equiv.specs.DesignEquivalence.{HaveSameBits, ContentsMakeEquivalent}
 use Rattle.bb_equiv.specs.Inside.LowerLaws.{LowerLaws}
+use Rattle.bb_equiv.specs.Laws.DesignEquivalence.{TablesMakeEquivalentAsContents, DesignsAreEquivalentToThemselves}
 use Rattle.bb_equiv.proofs.NamedVectors.{vector_of, vector_is}
 use Rattle.bb_equiv.proofs.WorldOutputs.{IsFilled, bit_out, output_at, output_there, some_world}
 use Rattle.bb_equiv.proofs.SeenDesigns.{IsSeen, requested_is, imp_filled, in_count, in_spec, other_place, out_count, out_is, pair_seen, spec_filled, wanted_is}

@@ -11,8 +11,9 @@ use Rattle.bb_design.specs.Reading.{copied_bits}
 use Rattle.bb_design.specs.Refusals.{input_texts, output_texts, register_texts}
 use Rattle.bb_design.specs.Registers.{RegisterBit, registers}
 use Rattle.bb_design.specs.Texts.{bit_text, path_text}
-use Rattle.bb_implements.specs.BoxOrders.{DependsOnBox, BoxesHaveHeights}
+use Rattle.bb_implements.specs.BoxOrders.{DependsOnBox}
 use Rattle.bb_implements.specs.Implements.{IsCopyOf}
+use Rattle.bb_implements.specs.Laws.BoxOrders.{BoxesHaveHeights}
 use Rattle.bb_match.specs.declared.fault.MatchFault.{MatchFault}
 use Rattle.bb_match.specs.Laws.{CausesAreRanked}
 use Rattle.bb_match.specs.Refusals.{PairCause, Box, Care, SpecInput, SpecOutput, ImpInput, ImpOutput, SpecRegister, ImpRegister, SpecClock, ImpClock, Clocks, Pins, AreAmong, IsFirstMissing, IsMissing, compared, match_fault_of, most_pins, pair_cause_rank}

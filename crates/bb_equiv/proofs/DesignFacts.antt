@@ -21,7 +21,7 @@ use Rattle.bb_design.specs.Reading.{copied_bits}
 use Rattle.bb_design.specs.Refusals.{TwoDrivers, register_texts}
 use Rattle.bb_design.specs.Registers.{RegisterBit, registers, cut_bits}
 use Rattle.bb_design.specs.Texts.{bit_text, pin_text}
-use Rattle.bb_implements.specs.BoxOrders.{MayBeTakenNext, IsBoxOrder, ImplementingNetsHaveBoxOrders}
+use Rattle.bb_implements.specs.Laws.BoxOrders.{MayBeTakenNext, IsBoxOrder, ImplementingNetsHaveBoxOrders}
 use Rattle.bb_implements.specs.Laws.NamingLaws.{FollowedInputsAreOne, ImplementingNetsAreNamed}
 use Rattle.bb_implements.specs.Implements.{Implements, IsRegister, IsClockInput, box_texts}
 use Rattle.bb_match.specs.Refusals as net

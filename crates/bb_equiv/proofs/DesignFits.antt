@@ -14,7 +14,7 @@ use Rattle.bb_design.specs.NetBits.{Bit}
 use Rattle.bb_design.specs.Refusals.{register_texts}
 use Rattle.bb_design.specs.Registers.{RegisterBit, registers}
 use Rattle.bb_design.specs.Texts.{bit_text}
-use Rattle.bb_implements.specs.BoxOrders.{ImplementingNetsHaveBoxOrders}
+use Rattle.bb_implements.specs.Laws.BoxOrders.{ImplementingNetsHaveBoxOrders}
 use Rattle.bb_implements.specs.Laws.NamingLaws.{FollowedInputsAreOne, ImplementingNetsAreNamed}
 use Rattle.bb_implements.specs.Implements.{Implements, IsRegister, box_texts}
 use Rattle.bb_match.specs.declared.fault.MatchFault.{MatchFault}

@@ -9,9 +9,10 @@ use Rattle.bb_net.specs.Kinds.{AreNumberedInOrder, AreKinds, FitKinds, first_pla
 use Rattle.bb_net.specs.Netlists.{Pins}
 use Rattle.bb_net.specs.Pairs.{BoxTexts, NamesPins, box_key}
 use Rattle.bb_net.specs.Values.{FitBoxes}
-use Rattle.bb_implements.specs.BoxOrders.{ImplementingNetsHaveBoxOrders}
+use Rattle.bb_implements.specs.Laws.BoxOrders.{ImplementingNetsHaveBoxOrders}
 use Rattle.bb_lemmas.proofs.Zips.{zip_at}
-use Rattle.bb_equiv.specs.DesignEquivalence.{IsTableOf, FittingTablesAreOfBoxes, PairsHaveBoxOrders}
+use Rattle.bb_equiv.specs.DesignEquivalence.{IsTableOf}
+use Rattle.bb_equiv.specs.Laws.DesignEquivalence.{FittingTablesAreOfBoxes, PairsHaveBoxOrders}
 use Rattle.bb_equiv.proofs.PairBoxes.{has_boxes}
 
 pub pairs_have_box_orders : ImplementingNetsHaveBoxOrders → PairsHaveBoxOrders

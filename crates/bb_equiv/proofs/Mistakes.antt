@@ -20,7 +20,8 @@ use Rattle.bb_design.specs.Inside.Allowed.{IsAllowed}
 use Rattle.bb_design.specs.Hierarchy.{Design}
 use Rattle.bb_design.specs.Refusals.{BoxTexts}
 use Rattle.bb_design.specs.Worlds.{World, Vector, HasVector, IsWorld, FitDesign, outputs_in}
-use Rattle.bb_equiv.specs.Mistakes.{inputs_of, outputs_of, DifferAt, DifferAtReported, DifferWith, FailingVectorsAreMistakes, HasWorld, IsMistakeAt, WrongOutputsAreMistakes, WrongVectorsAreMistakes}
+use Rattle.bb_equiv.specs.Laws.Mistakes.{outputs_of, FailingVectorsAreMistakes, WrongOutputsAreMistakes, WrongVectorsAreMistakes}
+use Rattle.bb_equiv.specs.Mistakes.{inputs_of, DifferAt, DifferAtReported, DifferWith, HasWorld, IsMistakeAt}
 use Rattle.bb_equiv.proofs.SeenDesigns.{IsSeen, requested_is, imp_filled, in_count, in_spec, other_place, out_count, out_is, pair_seen, spec_filled, wanted_is}
 use Rattle.bb_equiv.proofs.FreeOutputs.{free_outputs}
 use Rattle.bb_equiv.specs.Inside.LowerLaws.{LowerLaws}

@@ -8,7 +8,8 @@ use Rattle.bb_design.specs.Hierarchy.{Design}
 use Rattle.bb_match.specs.Laws.{ComparedAreTheOthers}
 use Rattle.bb_match.specs.Pairing.{IsPairOf, input_text, output_name}
 use Rattle.bb_match.specs.Refusals.{compared}
-use Rattle.bb_equiv.specs.Mistakes.{PairsAreNamed, inputs_of, outputs_of}
+use Rattle.bb_equiv.specs.Laws.Mistakes.{PairsAreNamed, outputs_of}
+use Rattle.bb_equiv.specs.Mistakes.{inputs_of}
 use Rattle.bb_equiv.proofs.NamedVectors.{registers_are}
 use Rattle.bb_equiv.proofs.SeenPairs.{compared_outputs, less_outputs}
 

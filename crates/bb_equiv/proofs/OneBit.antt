@@ -13,7 +13,8 @@ use Rattle.bb_design.specs.Texts.{bit_text}
 use Rattle.bb_design.specs.Inside.Allowed.{IsAllowed}
 use Rattle.bb_design.specs.Worlds.{World, Vector, bit_in, next_bit, outputs_in}
 use Rattle.bb_equiv.specs.DesignEquivalence.{ContentsMakeEquivalent}
-use Rattle.bb_equiv.specs.Mistakes.{CounterexamplesRefute, DifferAt, DifferAtReported, DifferWith, MistakesAmongRefute, MistakesRefute}
+use Rattle.bb_equiv.specs.Laws.Mistakes.{CounterexamplesRefute, MistakesAmongRefute, MistakesRefute}
+use Rattle.bb_equiv.specs.Mistakes.{DifferAt, DifferAtReported, DifferWith}
 
 pub called : {a b : CutOutput × Bool} → a ≡ b → a.0 ≡ b.0
 called same = ap (λ (u : CutOutput × Bool). u.0) same

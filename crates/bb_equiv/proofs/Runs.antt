@@ -18,7 +18,8 @@ use Rattle.bb_design.specs.Worlds.{World, Vector, HasVector, IsWorld, FitDesign,
 use Rattle.bb_net.specs.CutPoints.{CutOutput, NextState, State, TopInput, TopOutput}
 use Rattle.bb_equiv.specs.Comparable.{AreComparable, AreSettled, IsClockedByInput}
 use Rattle.bb_equiv.specs.DesignEquivalence.{ContentsMakeEquivalent, HaveSameBits, IsRequired, IsCompared}
-use Rattle.bb_equiv.specs.Runs.{EquivalentDesignsRunTheSame, ComparableDesignsHaveRuns, Event, HaveSameStates, IsEvent, NoEvent, OneMore, Runs, Observation, ShowTheSame, States, Stores, seen_at}
+use Rattle.bb_equiv.specs.Laws.Runs.{EquivalentDesignsRunTheSame, ComparableDesignsHaveRuns}
+use Rattle.bb_equiv.specs.Runs.{Event, HaveSameStates, IsEvent, NoEvent, OneMore, Runs, Observation, ShowTheSame, States, Stores, seen_at}
 use Rattle.bb_equiv.proofs.OneBit.{one_bit, place}
 
 some_one : (a b : Bool) → Some a ≡ Some b → a ≡ b

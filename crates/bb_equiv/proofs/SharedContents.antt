@@ -13,14 +13,15 @@ use Rattle.bb_net.specs.Kinds.{FitKinds, NoSharedTablesMakeEquivalent, represent
 use Rattle.bb_net.specs.Netlists.{Pins}
 use Rattle.bb_net.specs.Pairs.{NetPair, BoxTexts, NamesPins, box_key}
 use Rattle.bb_net.specs.Values.{table_at, FitBoxes}
-use Rattle.bb_implements.specs.BoxOrders.{IsBoxOrder, ImplementingNetsHaveBoxOrders}
+use Rattle.bb_implements.specs.Laws.BoxOrders.{IsBoxOrder, ImplementingNetsHaveBoxOrders}
 use Rattle.bb_implements.specs.Laws.ContentTables.{AreTablesOf}
 use Rattle.bb_implements.specs.Implements.{box_texts}
 use Rattle.bb_design.specs.Hierarchy.{Design, Scope, root, boxes}
 use Rattle.bb_design.specs.Inside.Allowed.{IsAllowed}
 use Rattle.bb_design.specs.Refusals.{BoxTexts as BoxCause}
 use Rattle.bb_design.specs.Worlds.{FitDesign}
-use Rattle.bb_equiv.specs.DesignEquivalence.{AreShared, MayFill, NoContentsMakeEquivalent, IsPairFor, NoTablesNoContents}
+use Rattle.bb_equiv.specs.DesignEquivalence.{AreShared, MayFill, NoContentsMakeEquivalent, IsPairFor}
+use Rattle.bb_equiv.specs.Laws.DesignEquivalence.{NoTablesNoContents}
 use Rattle.bb_equiv.proofs.DesignAgreements.{contents_to_tables, tables_to_contents}
 use Rattle.bb_equiv.specs.Inside.LowerLaws.{LowerLaws}
 use Rattle.bb_equiv.proofs.PairBoxes.{HasBoxesOf, box_count, from_pair, has_boxes, to_pair}

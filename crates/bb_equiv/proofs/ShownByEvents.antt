@@ -15,8 +15,9 @@ use Rattle.bb_design.specs.Worlds.{World, Vector, HasVector, FitDesign, next_bit
 use Rattle.bb_net.specs.CutPoints.{CutOutput, NextState, State, TopInput, TopOutput}
 use Rattle.bb_equiv.specs.Comparable.{AreComparable}
 use Rattle.bb_equiv.specs.DesignEquivalence.{IsRequired, IsCompared}
+use Rattle.bb_equiv.specs.Laws.Runs.{AreObservedTheSame, EventsShowCounterexamples}
 use Rattle.bb_equiv.specs.Mistakes.{DifferAt, DifferWith}
-use Rattle.bb_equiv.specs.Runs.{AreObservedTheSame, Event, EventsShowCounterexamples, IsEvent, NoEvent, OneMore, Runs, Observation, States, Stores, seen_at}
+use Rattle.bb_equiv.specs.Runs.{Event, IsEvent, NoEvent, OneMore, Runs, Observation, States, Stores, seen_at}
 use Rattle.bb_equiv.proofs.OneBit.{apart, called, one_bit, one_next, place, turned, valued}
 use Rattle.bb_equiv.proofs.Runs.{comparable_designs_have_runs, stores_too}
 

@@ -19,7 +19,8 @@ use Rattle.bb_match.specs.Refusals.{compared}
 use Rattle.bb_net.specs.CutPoints.{CutInput, TopInput, State, CutOutput, TopOutput, NextState}
 use Rattle.bb_equiv.specs.Comparable.{AreComparable}
 use Rattle.bb_equiv.specs.DesignEquivalence.{HaveSameBits, IsRequired, IsCompared}
-use Rattle.bb_equiv.specs.Mistakes.{CounterexamplesExist, DifferAt, HaveCounterexample, inputs_of}
+use Rattle.bb_equiv.specs.Laws.Mistakes.{CounterexamplesExist, HaveCounterexample}
+use Rattle.bb_equiv.specs.Mistakes.{DifferAt, inputs_of}
 use Rattle.bb_equiv.proofs.BitDecisions.{decide_bool, decide_name, decide_not, decide_some}
 use Rattle.bb_equiv.proofs.Mistakes.{other_bit}
 use Rattle.bb_equiv.proofs.OneBit.{apart, called, one_next, one_top, valued}

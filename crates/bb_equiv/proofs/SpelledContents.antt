@@ -14,7 +14,8 @@ use Rattle.bb_implements.specs.Laws.ContentTables.{AreTablesOf}
 use Rattle.bb_design.specs.Hierarchy.{Design}
 use Rattle.bb_design.specs.Inside.Allowed.{IsAllowed}
 use Rattle.bb_design.specs.Worlds.{FitDesign}
-use Rattle.bb_equiv.specs.DesignEquivalence.{AreSpelled, ContentsMakeEquivalent, IsPairFor, MayFill, SpelledContentsMakeEquivalent, SpelledContentsHaveTables, TablesSpellContents}
+use Rattle.bb_equiv.specs.DesignEquivalence.{AreSpelled, ContentsMakeEquivalent, IsPairFor, MayFill}
+use Rattle.bb_equiv.specs.Laws.DesignEquivalence.{SpelledContentsMakeEquivalent, SpelledContentsHaveTables, TablesSpellContents}
 use Rattle.bb_equiv.proofs.DesignAgreements.{tables_to_contents}
 use Rattle.bb_equiv.proofs.PairBoxes.{HasBoxesOf, box_count, from_pair}
 use Rattle.bb_equiv.proofs.SharedContents.{SharedLaws, boxes_of, found, no_texts, pair_is_seen, rows_by_kind, spread_fit}

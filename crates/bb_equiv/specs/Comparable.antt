@@ -10,7 +10,6 @@
 use Rattle.std.specs.Prelude.{◌≡◌, ℕ, Bool, List, [], ◌∷◌, map, Contains, IfSome, Option}
 use Rattle.bb_bits.specs.Contents.{Contents}
 use Rattle.bb_design.specs.Hierarchy.{Design, boxes}
-use Rattle.bb_design.specs.Inside.Allowed.{IsAllowed}
 use Rattle.bb_design.specs.NetBits.{Bit, top_inputs, written_bits}
 use Rattle.bb_design.specs.Refusals.{input_texts, output_texts, register_texts}
 use Rattle.bb_design.specs.Registers.{RegisterBit, registers}
@@ -18,8 +17,6 @@ use Rattle.bb_design.specs.Texts.{bit_text}
 use Rattle.bb_design.specs.Worlds.{World, Vector, IsWorld, HasVector, FitDesign, bit_in, bits_in, outputs_in}
 use Rattle.bb_match.specs.Refusals.{AreAmong, compared}
 use Rattle.bb_net.specs.CutPoints.{CutOutput}
-use Rattle.bb_equiv.specs.DesignEquivalence.{MayFill}
-use Rattle.bb_equiv.specs.DesignFit.{DesignsFit}
 
 -- the bits that a world has at all outputs and next states, in their order
 abbrev pub output_values : Design → World → List Bool
@@ -56,9 +53,3 @@ pub record AreComparable (care : Option (List ℕ)) (spec imp : Design) : Type 0
   pub clocks : (r q : RegisterBit) → Contains (registers spec) r → Contains (registers imp) q
       → bit_text imp q.bit ≡ bit_text spec r.bit → AreClockedTheSame spec imp r q
   pub settled : (contents : Contents) → FitDesign imp contents → AreSettled spec contents × AreSettled imp contents
-
--- the law of it: two sound designs that fit can be compared, and some contents may fill the boxes
-abbrev pub FittingDesignsAreComparable : Type 0
-FittingDesignsAreComparable = (care : Option (List ℕ)) (shared : Bool) (spec imp : Design) → IsAllowed spec
-    → IsAllowed imp → DesignsFit care spec imp → AreComparable care spec imp
-    × ((contents : Contents) × MayFill shared imp contents)

@@ -1,3 +1,7 @@
 -- Laws, and the words that laws alone need.
-pub mod IsomorphicPairs
+pub mod Comparable
+pub mod DesignEquivalence
 pub mod DesignRefusals
+pub mod IsomorphicPairs
+pub mod Mistakes
+pub mod Runs

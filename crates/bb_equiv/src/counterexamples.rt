@@ -1,9 +1,9 @@
 //! Laws that vectors at which two designs differ are counterexamples, so that a verdict may be believed by simulating
 //! them. Each function has a law as its contract and does nothing.
 
-ghost use Rattle.bb_equiv.specs.Mistakes.{CounterexamplesExist, CounterexamplesRefute};
-ghost use Rattle.bb_equiv.specs.Mistakes.{MistakesAmongRefute, MistakesRefute};
-ghost use Rattle.bb_equiv.specs.Runs.{EventsShowCounterexamples};
+ghost use Rattle.bb_equiv.specs.Laws.Mistakes.{CounterexamplesExist, CounterexamplesRefute, MistakesAmongRefute};
+ghost use Rattle.bb_equiv.specs.Laws.Mistakes.{MistakesRefute};
+ghost use Rattle.bb_equiv.specs.Laws.Runs.{EventsShowCounterexamples};
 
 /// Where no contents make two comparable designs equivalent, each contents has a counterexample: vectors are finitely
 /// many, and at each of them the designs have the same bits or differ.

@@ -2,19 +2,19 @@
 //! is called in a proof to have the law.
 
 ghost use Rattle.bb_equiv.specs.Inside.LowerLaws.{LowerLaws};
-ghost use Rattle.bb_equiv.specs.Laws.IsomorphicPairs.{PairsForDesignsAreIsomorphic};
-ghost use Rattle.bb_equiv.specs.Comparable.{FittingDesignsAreComparable};
-ghost use Rattle.bb_equiv.specs.DesignEquivalence.{CareOutputsRequireLess, DesignsAreEquivalentToThemselves};
-ghost use Rattle.bb_equiv.specs.DesignEquivalence.{SharingNarrows};
-ghost use Rattle.bb_equiv.specs.DesignEquivalence.{FittingTablesAreOfBoxes, NoTablesNoContents, PairsHaveBoxOrders};
-ghost use Rattle.bb_equiv.specs.DesignEquivalence.{SpelledContentsMakeEquivalent, SpelledContentsHaveTables};
-ghost use Rattle.bb_equiv.specs.DesignEquivalence.{TablesMakeEquivalentAsContents, TablesSpellContents};
+ghost use Rattle.bb_equiv.specs.Laws.Comparable.{FittingDesignsAreComparable};
+ghost use Rattle.bb_equiv.specs.Laws.DesignEquivalence.{CareOutputsRequireLess, DesignsAreEquivalentToThemselves};
+ghost use Rattle.bb_equiv.specs.Laws.DesignEquivalence.{FittingTablesAreOfBoxes, NoTablesNoContents};
+ghost use Rattle.bb_equiv.specs.Laws.DesignEquivalence.{PairsHaveBoxOrders, SharingNarrows, SpelledContentsHaveTables};
+ghost use Rattle.bb_equiv.specs.Laws.DesignEquivalence.{SpelledContentsMakeEquivalent, TablesMakeEquivalentAsContents};
+ghost use Rattle.bb_equiv.specs.Laws.DesignEquivalence.{TablesSpellContents};
 ghost use Rattle.bb_equiv.specs.Laws.DesignRefusals.{DesignRefusalsAreOne, FitOrRefused, FittingDesignsHavePairs};
 ghost use Rattle.bb_equiv.specs.Laws.DesignRefusals.{NetsAreTakenAsDesigns, NotFitAndRefused};
 ghost use Rattle.bb_equiv.specs.Laws.DesignRefusals.{PairsImplementExactlyFitting};
-ghost use Rattle.bb_equiv.specs.Mistakes.{FailingVectorsAreMistakes, PairsAreNamed};
-ghost use Rattle.bb_equiv.specs.Mistakes.{WrongOutputsAreMistakes, WrongVectorsAreMistakes};
-ghost use Rattle.bb_equiv.specs.Runs.{EquivalentDesignsRunTheSame, ComparableDesignsHaveRuns};
+ghost use Rattle.bb_equiv.specs.Laws.IsomorphicPairs.{PairsForDesignsAreIsomorphic};
+ghost use Rattle.bb_equiv.specs.Laws.Mistakes.{FailingVectorsAreMistakes, PairsAreNamed, WrongOutputsAreMistakes};
+ghost use Rattle.bb_equiv.specs.Laws.Mistakes.{WrongVectorsAreMistakes};
+ghost use Rattle.bb_equiv.specs.Laws.Runs.{ComparableDesignsHaveRuns, EquivalentDesignsRunTheSame};
 
 use bb_bits::rows_are_tables;
 use bb_care::laws::{constrained_pairs_are_right, constrained_pairs_stay_isomorphic};

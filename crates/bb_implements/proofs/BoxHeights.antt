@@ -12,7 +12,8 @@ use Rattle.bb_design.specs.Drivers.{Box, Drive, driven, drives}
 use Rattle.bb_design.specs.Hierarchy.{Design, Scope, boxes}
 use Rattle.bb_design.specs.NetBits.{Bit, input_bits, output_bits}
 use Rattle.bb_design.specs.Refusals.{Cycle}
-use Rattle.bb_implements.specs.BoxOrders.{DependsOnBox, BoxesHaveHeights}
+use Rattle.bb_implements.specs.BoxOrders.{DependsOnBox}
+use Rattle.bb_implements.specs.Laws.BoxOrders.{BoxesHaveHeights}
 use Rattle.bb_lemmas.proofs.Members.{contains-map, contains_cases, into_flat, none_in_nil}
 use Rattle.bb_lemmas.proofs.Numbered.{numbered_there}
 use Rattle.bb_implements.proofs.GivenDrives.{box_part, part_driven}

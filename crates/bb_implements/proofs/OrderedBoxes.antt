@@ -12,7 +12,8 @@ use Rattle.bb_design.specs.Inside.Allowed.{IsAllowed}
 use Rattle.bb_design.specs.Laws.DesignLaws.{DesignLaws}
 use Rattle.bb_design.specs.Hierarchy.{Design, Scope, root, boxes}
 use Rattle.bb_design.specs.Refusals.{AreDrivenOnce, box_paths, TwoDrivers, BoxTexts as TwiceBoxes}
-use Rattle.bb_implements.specs.BoxOrders.{DependsOnBox, MayBeTakenNext, IsBoxOrder, ImplementingNetsHaveBoxOrders}
+use Rattle.bb_implements.specs.BoxOrders.{DependsOnBox}
+use Rattle.bb_implements.specs.Laws.BoxOrders.{MayBeTakenNext, IsBoxOrder, ImplementingNetsHaveBoxOrders}
 use Rattle.bb_implements.specs.Places.{pins_of}
 use Rattle.bb_implements.specs.Implements.{Implements, box_number, box_texts}
 use Rattle.bb_lemmas.proofs.Firsts.{at_place, place_within}

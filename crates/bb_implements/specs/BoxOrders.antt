@@ -1,13 +1,10 @@
--- The order in which the boxes of a design are taken: each after those on which it depends, and of those that are ready
--- the first in elaboration order.
-use Rattle.std.specs.Prelude.{◌≡◌, ◌⊎◌, ℕ, ◌<◌, List, ◌∷◌, ◌++◌, map, Contains, IsPermutation}
-use Rattle.bb_bits.specs.Closures.{IsFirst, Leads}
-use Rattle.bb_design.specs.Inside.Allowed.{IsAllowed}
+-- When a box of a design depends on another. Boxes are taken in an order in which each comes after those on which it
+-- depends.
+use Rattle.std.specs.Prelude.{◌≡◌, ◌⊎◌, Contains}
+use Rattle.bb_bits.specs.Closures.{Leads}
 use Rattle.bb_design.specs.Dependence.{dependences}
-use Rattle.bb_design.specs.Hierarchy.{Design, Scope, boxes}
+use Rattle.bb_design.specs.Hierarchy.{Design, Scope}
 use Rattle.bb_design.specs.NetBits.{Bit, input_bits, output_bits}
-use Rattle.bb_net.specs.Flats.{FlatNet}
-use Rattle.bb_implements.specs.Implements.{Implements, box_texts}
 
 -- a box depends on another: a bit of one of its inputs is a bit of an output of that, or depends on one
 pub record DependsOnBox (d : Design) (s t : Scope) : Type 0 where
@@ -16,22 +13,3 @@ pub record DependsOnBox (d : Design) (s t : Scope) : Type 0 where
   pub of_one : Contains (input_bits s) input
   pub of_other : Contains (output_bits t) output
   pub depends : (input ≡ output) ⊎ Leads (dependences d) input output
-
--- a box may be taken after these: it is none of them, and depends on them alone
-pub record MayBeTakenNext (d : Design) (taken : List Scope) (s : Scope) : Type 0 where
-  pub new : Contains taken s → ⊥
-  pub ready : (t : Scope) → Contains (boxes d) t → DependsOnBox d s t → Contains taken t
-
--- all boxes of the design, each the first that may be taken after those before it
-pub record IsBoxOrder (d : Design) (order : List Scope) : Type 0 where
-  pub all : IsPermutation order (boxes d)
-  pub next : (before : List Scope) (s : Scope) (after : List Scope) → order ≡ before ++ s ∷ after → IsFirst (MayBeTakenNext d before) (boxes d) s
-
--- a netlist that implements a sound design has its boxes in this order
-abbrev pub ImplementingNetsHaveBoxOrders : Type 0
-ImplementingNetsHaveBoxOrders = (d : Design) (f : FlatNet) → IsAllowed d → Implements d f
-    → (order : List Scope) × IsBoxOrder d order × (f.boxes ≡ map (box_texts d) order)
-
--- in a sound design each box has a greater height than those on which it depends
-abbrev pub BoxesHaveHeights : Type 0
-BoxesHaveHeights = (d : Design) → IsAllowed d → (height : Scope → ℕ) × ((s t : Scope) → Contains (boxes d) t → DependsOnBox d s t → height t < height s)

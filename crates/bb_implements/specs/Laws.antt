@@ -1,4 +1,5 @@
 -- Laws, and the words that laws alone need.
+pub mod BoxOrders
 pub mod IsomorphicNets
 pub mod CellLaws
 pub mod ContentTables

@@ -3,7 +3,7 @@
 
 ghost use Rattle.bb_implements.specs.Laws.NamingLaws.{BoxNeedsAreOne, FollowedInputsAreOne, ImplementingNetsAreNamed};
 ghost use Rattle.bb_implements.specs.Laws.NamingLaws.{ImplementingNetsAreNamedTheSame};
-ghost use Rattle.bb_implements.specs.BoxOrders.{BoxesHaveHeights, ImplementingNetsHaveBoxOrders};
+ghost use Rattle.bb_implements.specs.Laws.BoxOrders.{BoxesHaveHeights, ImplementingNetsHaveBoxOrders};
 ghost use Rattle.bb_implements.specs.Laws.IsomorphicNets.{ImplementingNetsAreIsomorphic};
 
 use bb_design::laws::laws_of_designs;

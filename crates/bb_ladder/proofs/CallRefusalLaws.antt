@@ -14,8 +14,10 @@ use Rattle.bb_ladder.specs.CallRefusals.{IsCallRefusal, OfWords, OfComparison, O
 use Rattle.bb_frontend.specs.RefusalLines.{refusal_line}
 use Rattle.bb_ladder.specs.Refutations.{CheckLaws, Checks, Faulty, IsCheckRefusal}
 use Rattle.bb_ladder.specs.Sources.{AreBytes, IsFirstFile, MayHaveFailed, TextSource}
-use Rattle.bb_verdict.specs.TextAnswers.{Judges, JudgedRefusalsAreFirst, RefusedAreAnsweredOnce}
-use Rattle.bb_verdict.specs.TextPairs.{IsPairRefusal, RefusalsAreOne}
+use Rattle.bb_verdict.specs.Laws.TextAnswers.{JudgedRefusalsAreFirst, RefusedAreAnsweredOnce}
+use Rattle.bb_verdict.specs.Laws.TextPairs.{RefusalsAreOne}
+use Rattle.bb_verdict.specs.TextAnswers.{Judges}
+use Rattle.bb_verdict.specs.TextPairs.{IsPairRefusal}
 use Rattle.bb_ladder.proofs.HeadlineLemmas.{alone_at_two, requests_no_comparison, requests_no_pair, requests_no_refutation, never_both, never_files_and_made, same_pair, same_question, same_refutation}
 use Rattle.bb_ladder.proofs.SourceLemmas.{both_whole, failed_alone, failed_second, first_of_both, first_once, given_alone, given_first, given_long, given_never_long, given_never_short, given_second, given_whole, second_once}
 

@@ -14,7 +14,8 @@ use Rattle.bb_ladder.specs.Answers.{PairRequest, AfterSpec, ImpUnread, ImpLong, 
 use Rattle.bb_ladder.specs.MadePairs.{JudgesMade, request_for}
 use Rattle.bb_ladder.specs.Refutations.{AreRead, CheckLaws, Checks, ReportsWhether}
 use Rattle.bb_ladder.specs.Sources.{AreBytes, MayHaveFailed, TextSource}
-use Rattle.bb_verdict.specs.TextAnswers.{Judges, DecidedAreAnswered, StayingOpenAreAnswered}
+use Rattle.bb_verdict.specs.Laws.TextAnswers.{DecidedAreAnswered, StayingOpenAreAnswered}
+use Rattle.bb_verdict.specs.TextAnswers.{Judges}
 use Rattle.bb_verdict.specs.TextPairs.{AreStayingOpen, AreDecided}
 use Rattle.bb_ladder.proofs.SourceLemmas.{both_whole, failed_alone, failed_second, first_of_both, given_alone, given_never_long, given_second}
 use Rattle.bb_ladder.proofs.HeadlineLemmas.{requests_no_comparison, requests_no_pair, requests_no_refutation, never_both, never_files_and_made, same_pair, same_question, same_refutation}

@@ -14,10 +14,11 @@ use Rattle.bb_ladder.specs.Answers.{AnswersSpeakOfTexts, PairRequest, AfterSpec,
 use Rattle.bb_ladder.specs.Calls.{Call}
 use Rattle.bb_ladder.specs.MadePairs.{JudgesMade, request_for, head_by, head_of, made_head, made_text}
 use Rattle.bb_ladder.specs.Refutations.{CheckLaws, Checks, FailsAt, Refutes, no_line}
-use Rattle.bb_verdict.specs.OpenReports.{IsOpenReport, OpenAnswersAreReports}
-use Rattle.bb_verdict.specs.ShownMistakes.{AreShown, ErrorsAreShown}
+use Rattle.bb_verdict.specs.Laws.TextAnswers.{OpenAnswersAreReports, ErrorsAreShown, AnsweredFit, ErrorsRefute, RepairsFinish, OpenAnswersLeaveOpen}
+use Rattle.bb_verdict.specs.OpenReports.{IsOpenReport}
+use Rattle.bb_verdict.specs.ShownMistakes.{AreShown}
 use Rattle.bb_ladder.specs.Sources.{AreBytes, TextSource}
-use Rattle.bb_verdict.specs.TextAnswers.{Judges, Refused, Judged, AnsweredFit, ErrorsRefute, RepairsFinish, OpenAnswersLeaveOpen}
+use Rattle.bb_verdict.specs.TextAnswers.{Judges, Refused, Judged}
 use Rattle.bb_verdict.specs.TextPairs.{AreRefuted, AreLeftOpen, DoFit, IsFinishedReport}
 use Rattle.bb_ladder.proofs.SourceLemmas.{both_whole}
 

@@ -2,12 +2,13 @@
 use Rattle.std.proofs.Common.{◌≡◌, ◌⊎◌, ℕ, Bool, true, false, if◌then◌else◌, List, ◌++◌, map, refl, sym, ap, subst, ◌∙◌, arith, inl, inr}
 use Rattle.std.specs.List.{AllZip, list_any}
 use Rattle.std.proofs.lemmas.List.Elements.{All-weaker}
-use Rattle.bb_equiv.specs.Comparable.{FittingDesignsAreComparable}
-use Rattle.bb_equiv.specs.DesignEquivalence.{AreSpelled, FittingTablesAreOfBoxes, IsPairFor, IsTableOf, NoTablesNoContents, PairsHaveBoxOrders, SpelledContentsMakeEquivalent, TablesSpellContents}
+use Rattle.bb_equiv.specs.DesignEquivalence.{AreSpelled, IsPairFor, IsTableOf}
+use Rattle.bb_equiv.specs.Laws.Comparable.{FittingDesignsAreComparable}
+use Rattle.bb_equiv.specs.Laws.DesignEquivalence.{FittingTablesAreOfBoxes, NoTablesNoContents, PairsHaveBoxOrders, SpelledContentsMakeEquivalent, TablesSpellContents}
 use Rattle.bb_equiv.specs.Laws.DesignRefusals.{PairsImplementExactlyFitting}
 use Rattle.bb_bits.specs.Tables.{TableBits}
-use Rattle.bb_implements.specs.BoxOrders.{IsBoxOrder}
 use Rattle.bb_implements.specs.Implements.{box_texts}
+use Rattle.bb_implements.specs.Laws.BoxOrders.{IsBoxOrder}
 use Rattle.bb_design.specs.Hierarchy.{Design, Scope}
 use Rattle.bb_design.specs.Inside.Allowed.{IsAllowed}
 use Rattle.bb_net.specs.Kinds.{AreKinds, AreSharedCompletion, representatives}
@@ -24,8 +25,10 @@ use Rattle.bb_checks.specs.Rungs.{is_error, is_repair}
 use Rattle.bb_verdict.specs.declared.requested.TextComparison.{TextComparison}
 use Rattle.bb_verdict.specs.FilledTexts.{MayFollowVerdict, NoTablesFollow}
 use Rattle.bb_frontend.specs.RefusalLines.{refusal_line}
-use Rattle.bb_verdict.specs.TextAnswers.{Refused, Judged, AnsweredFit, ErrorsRefute, OpenAnswersLeaveOpen, DecidedAreAnswered, StayingOpenAreAnswered, JudgedRefusalsAreFirst, RefusedAreAnsweredOnce}
-use Rattle.bb_verdict.specs.TextPairs.{AreDesignsOf, AreFinished, ImplementsTexts, DesignsAreAllowed, RefusalsAreOne, NotPairAndRefusal, TextPairsAreIsomorphic}
+use Rattle.bb_verdict.specs.Laws.TextAnswers.{AnsweredFit, ErrorsRefute, OpenAnswersLeaveOpen, DecidedAreAnswered, StayingOpenAreAnswered, JudgedRefusalsAreFirst, RefusedAreAnsweredOnce}
+use Rattle.bb_verdict.specs.Laws.TextPairs.{DesignsAreAllowed, RefusalsAreOne, NotPairAndRefusal, TextPairsAreIsomorphic}
+use Rattle.bb_verdict.specs.TextAnswers.{Refused, Judged}
+use Rattle.bb_verdict.specs.TextPairs.{AreDesignsOf, AreFinished, ImplementsTexts}
 use Rattle.bb_verdict.proofs.FollowLaws.{nothing_unasked}
 use Rattle.bb_verdict.proofs.TextPairLaws.{are_read_as}
 

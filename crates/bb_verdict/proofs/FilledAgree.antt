@@ -19,7 +19,8 @@ use Rattle.bb_design.specs.Worlds.{World, Vector, HasVector, IsWorld, FitDesign,
 use Rattle.bb_implements.specs.Laws.ContentTables.{AreTablesOf, TablesGiveOutputs, TablesHaveContents}
 use Rattle.bb_implements.specs.Laws.ListLaws.{ImplementingNetsGiveOutputs}
 use Rattle.bb_implements.specs.Implements.{Implements}
-use Rattle.bb_equiv.specs.DesignEquivalence.{AreEquivalentEverywhere, ContentsMakeEquivalent, HaveSameBits, IsRequired, IsPairFor, TablesMakeEquivalentAsContents}
+use Rattle.bb_equiv.specs.DesignEquivalence.{AreEquivalentEverywhere, ContentsMakeEquivalent, HaveSameBits, IsRequired, IsPairFor}
+use Rattle.bb_equiv.specs.Laws.DesignEquivalence.{TablesMakeEquivalentAsContents}
 use Rattle.bb_readback.specs.Laws.Designs.{outputs_by}
 use Rattle.bb_verdict.proofs.FilledNames.{outputs_named, vector_bits_are}
 

@@ -2,10 +2,11 @@
 -- adds to an answer.
 use Rattle.std.proofs.Common.{◌≡◌, ◌∙◌, ℕ, Bool, true, false, List, [], ◌++◌, map, refl, sym, ap, subst, arith, true≢false}
 use Rattle.std.proofs.lemmas.List.{append-nil}
-use Rattle.bb_equiv.specs.Comparable.{FittingDesignsAreComparable}
-use Rattle.bb_equiv.specs.DesignEquivalence.{AreSpelled, FittingTablesAreOfBoxes, PairsHaveBoxOrders, SpelledContentsMakeEquivalent, TablesSpellContents}
+use Rattle.bb_equiv.specs.DesignEquivalence.{AreSpelled}
+use Rattle.bb_equiv.specs.Laws.Comparable.{FittingDesignsAreComparable}
+use Rattle.bb_equiv.specs.Laws.DesignEquivalence.{FittingTablesAreOfBoxes, PairsHaveBoxOrders, SpelledContentsMakeEquivalent, TablesSpellContents}
 use Rattle.bb_equiv.specs.Laws.DesignRefusals.{PairsImplementExactlyFitting}
-use Rattle.bb_equiv.specs.Runs.{EquivalentDesignsRunTheSame}
+use Rattle.bb_equiv.specs.Laws.Runs.{EquivalentDesignsRunTheSame}
 use Rattle.bb_bits.specs.Tables.{TableBits}
 use Rattle.bb_implements.specs.Implements.{box_texts}
 use Rattle.bb_design.specs.Hierarchy.{Design}
@@ -27,8 +28,10 @@ use Rattle.bb_frontend.specs.declared.refusal.Refusal.TheVariants.{Spec, Imp, Pa
 use Rattle.bb_verdict.specs.declared.requested.TextComparison.{TextComparison}
 use Rattle.bb_verdict.specs.FilledSizes.{IsTooLargeToFill}
 use Rattle.bb_verdict.specs.FilledTexts.{Clashes, Finished, Follows, FollowsVerdict, IsFinishedText, IsLarge, IsTwice, MayFollowVerdict, NoTablesFollow, NotRequested, NotFinished, answer_text}
-use Rattle.bb_verdict.specs.TextAnswers.{FillingOnlyAdds, Judged, Judges, Refused, RepairsFinish}
-use Rattle.bb_verdict.specs.TextPairs.{DesignsAreAllowed, FilledTextsFinish, IsFilledText, IsRefusal, LargeTextsAreOfLargeDesigns}
+use Rattle.bb_verdict.specs.Laws.TextAnswers.{FillingOnlyAdds, RepairsFinish}
+use Rattle.bb_verdict.specs.Laws.TextPairs.{DesignsAreAllowed, FilledTextsFinish, LargeTextsAreOfLargeDesigns}
+use Rattle.bb_verdict.specs.TextAnswers.{Judged, Judges, Refused}
+use Rattle.bb_verdict.specs.TextPairs.{IsFilledText, IsRefusal}
 use Rattle.bb_verdict.proofs.AnswerLaws.{finished, is_repairable, order}
 use Rattle.bb_verdict.proofs.FilledNames.{clash_is_twice}
 use Rattle.bb_verdict.proofs.FollowLaws.{something_follows}

@@ -2,10 +2,10 @@
 -- design is sound, has no box, fits the specification and agrees with it, and with the filled implementation.
 use Rattle.std.proofs.Common.{◌≡◌, ℕ, List, None, Option, Some, sym, subst}
 use Rattle.std.specs.Prelude.{codes}
-use Rattle.bb_equiv.specs.Comparable.{FittingDesignsAreComparable}
-use Rattle.bb_equiv.specs.DesignEquivalence.{SpelledContentsHaveTables, TablesMakeEquivalentAsContents}
+use Rattle.bb_equiv.specs.Laws.Comparable.{FittingDesignsAreComparable}
+use Rattle.bb_equiv.specs.Laws.DesignEquivalence.{SpelledContentsHaveTables, TablesMakeEquivalentAsContents}
 use Rattle.bb_equiv.specs.Laws.DesignRefusals.{PairsImplementExactlyFitting}
-use Rattle.bb_equiv.specs.Runs.{EquivalentDesignsRunTheSame}
+use Rattle.bb_equiv.specs.Laws.Runs.{EquivalentDesignsRunTheSame}
 use Rattle.bb_bits.specs.Tables.{TableBits}
 use Rattle.bb_implements.specs.Laws.ContentTables.{TablesGiveOutputs, TablesHaveContents}
 use Rattle.bb_implements.specs.Laws.ListLaws.{ImplementingNetsGiveOutputs}
@@ -24,7 +24,7 @@ use Rattle.bb_readback.specs.Laws.Designs.{filled_design}
 use Rattle.bb_readback.specs.Laws.{FilledDesignsAreNamedTheSame, FilledDesignsAreSound, FilledDesignsHaveBits, FilledModulesAreSound, FilledModulesAreTops}
 use Rattle.bb_frontend.specs.TextDesigns.{IsDesignOf}
 use Rattle.bb_readback.specs.Laws.{FilledTextsAreRead}
-use Rattle.bb_verdict.specs.TextPairs.{DesignsAreAllowed, FilledTextsFinish}
+use Rattle.bb_verdict.specs.Laws.TextPairs.{DesignsAreAllowed, FilledTextsFinish}
 use Rattle.bb_verdict.proofs.FilledAgree.{filled_agrees, filled_same, fits_none}
 use Rattle.bb_verdict.proofs.FilledFit.{filled_fits}
 use Rattle.bb_verdict.proofs.KeptNets.{TablesAreSpread, kept_nets}

@@ -23,8 +23,8 @@ use Rattle.bb_fill.specs.Laws as netlist
 use Rattle.bb_fill.specs.Sizes.{IsTooLargeText, filled_cell_count, makes_cell, most_bytes, most_nets, net_count, plain_outputs}
 use Rattle.bb_fill.specs.Clashes.{AreNamesApart}
 use Rattle.bb_fill.specs.Words.{maximum, texts_of}
-use Rattle.bb_implements.specs.BoxOrders.{ImplementingNetsHaveBoxOrders}
 use Rattle.bb_implements.specs.Implements.{Implements, IsRegister, box_texts}
+use Rattle.bb_implements.specs.Laws.BoxOrders.{ImplementingNetsHaveBoxOrders}
 use Rattle.bb_implements.specs.Laws.ListLaws.{NetsAreNoLarger}
 use Rattle.bb_lemmas.proofs.Orders.{less_or_not}
 use Rattle.bb_lemmas.proofs.Zips.{zip_length}
@@ -34,7 +34,7 @@ use Rattle.bb_net.specs.Kinds.{per_box}
 use Rattle.bb_net.specs.Netlists.{Pins}
 use Rattle.bb_net.specs.Pairs.{BoxTexts, NamesPins}
 use Rattle.bb_verdict.specs.FilledSizes.{IsTooLargeToFill, filled_bytes, filled_nets, longest_name, tree_nodes}
-use Rattle.bb_verdict.specs.TextPairs.{DesignsAreAllowed, LargeTextsAreOfLargeDesigns}
+use Rattle.bb_verdict.specs.Laws.TextPairs.{DesignsAreAllowed, LargeTextsAreOfLargeDesigns}
 use Rattle.bb_verdict.proofs.FilledNames.{registers_are}
 use Rattle.bb_verdict.proofs.KeptNets.{TablesAreSpread, kept_nets}
 

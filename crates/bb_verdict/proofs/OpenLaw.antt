@@ -14,7 +14,8 @@ use Rattle.bb_checks.specs.declared.line.CheckResult.TheVariants.{Error, Nothing
 use Rattle.bb_checks.specs.declared.verdict.Verdict.TheVariants as verdicts
 use Rattle.bb_checks.specs.Reports.{check_line_text, report_text, status_of, verdict_line, verdict_of}
 use Rattle.bb_checks.specs.Rungs.{Climbs, End, Step, Top, is_error, is_repair}
-use Rattle.bb_verdict.specs.OpenReports.{IsOpenLine, OpenAnswersAreReports}
+use Rattle.bb_verdict.specs.Laws.TextAnswers.{OpenAnswersAreReports}
+use Rattle.bb_verdict.specs.OpenReports.{IsOpenLine}
 use Rattle.bb_verdict.specs.ShownMistakes.{check_line, no_verdict}
 use Rattle.bb_verdict.specs.TextAnswers.{Refused, Judged}
 use Rattle.bb_verdict.proofs.AnswerLaws.{is_open}

@@ -7,7 +7,8 @@ use Rattle.std.proofs.lemmas.List.Elements.{All-cons, All-head, All-nil, All-tai
 use Rattle.bb_lemmas.proofs.Members.{any_there, contains-map}
 use Rattle.std.proofs.lemmas.Option.{get_or_from_slice_get, slice_get_within}
 use Rattle.bb_equiv.specs.DesignEquivalence.{IsPairFor}
-use Rattle.bb_equiv.specs.Mistakes.{FailingVectorsAreMistakes, inputs_of, outputs_of, IsMistakeAt, PairsAreNamed, WrongOutputsAreMistakes, WrongVectorsAreMistakes}
+use Rattle.bb_equiv.specs.Laws.Mistakes.{FailingVectorsAreMistakes, outputs_of, PairsAreNamed, WrongOutputsAreMistakes, WrongVectorsAreMistakes}
+use Rattle.bb_equiv.specs.Mistakes.{inputs_of, IsMistakeAt}
 use Rattle.bb_bits.specs.Tables.{TableBits}
 use Rattle.bb_bits.specs.Truth.{Truth}
 use Rattle.bb_design.specs.Inside.Allowed.{IsAllowed}
@@ -38,9 +39,10 @@ use Rattle.bb_checks.specs.Rungs.{Answered, ChoicesTooMany, ClausesTooMany, Clim
 use Rattle.bb_checks.specs.Laws.ShownVectors.{FoundVectorsAreMistakes, IsWrongAt, CheckResultIsMistake}
 use Rattle.bb_sym.specs.declared.found.Found.{Found}
 use Rattle.bb_verdict.specs.declared.requested.TextComparison.{TextComparison}
-use Rattle.bb_verdict.specs.ShownMistakes.{AtVector, ByChoices, ByRefutation, ErrorsAreShown, NoError, ShowsError, check_line, no_verdict, vector_text}
+use Rattle.bb_verdict.specs.Laws.TextAnswers.{ErrorsAreShown}
+use Rattle.bb_verdict.specs.Laws.TextPairs.{DesignsAreAllowed}
+use Rattle.bb_verdict.specs.ShownMistakes.{AtVector, ByChoices, ByRefutation, NoError, ShowsError, check_line, no_verdict, vector_text}
 use Rattle.bb_verdict.specs.TextAnswers.{Refused, Judged}
-use Rattle.bb_verdict.specs.TextPairs.{DesignsAreAllowed}
 use Rattle.bb_verdict.proofs.AnswerLaws.{status_error}
 use Rattle.bb_verdict.proofs.FollowLaws.{nothing_follows}
 use Rattle.bb_verdict.proofs.TextPairLaws.{are_read_as}

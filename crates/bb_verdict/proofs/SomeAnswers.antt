@@ -9,8 +9,9 @@ use Rattle.bb_frontend.specs.declared.refusal.Refusal.TheVariants.{Spec, Imp, Pa
 use Rattle.bb_frontend.specs.RefusalLines.{refusal_line}
 use Rattle.bb_frontend.specs.TextDesigns.{DesignOrFault}
 use Rattle.bb_verdict.specs.Laws.SomeAnswers.{TextsAreJudged}
+use Rattle.bb_verdict.specs.Laws.TextPairs.{DesignsAreAllowed}
 use Rattle.bb_verdict.specs.TextAnswers.{Judges, Refused, Judged}
-use Rattle.bb_verdict.specs.TextPairs.{IsRefusal, ImplementsTexts, AreDesignsOf, DesignsAreAllowed}
+use Rattle.bb_verdict.specs.TextPairs.{IsRefusal, ImplementsTexts, AreDesignsOf}
 use Rattle.bb_verdict.proofs.FollowLaws.{something_follows}
 
 pub texts_are_judged : DesignsAreAllowed → DesignOrFault → FitOrRefused → FittingDesignsHavePairs → ClimbsExist → AnswersExist → TextsAreJudged

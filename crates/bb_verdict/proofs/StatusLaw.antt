@@ -3,8 +3,8 @@
 use Rattle.std.proofs.Common.{◌≡◌, ℕ, List, refl, sym, ◌∙◌, subst}
 use Rattle.bb_equiv.specs.Comparable.{AreComparable}
 use Rattle.bb_equiv.specs.DesignEquivalence.{ContentsMakeEquivalent, MayFill, NoContentsMakeEquivalent}
-use Rattle.bb_equiv.specs.Mistakes.{AllHaveCounterexamples, CounterexamplesExist}
-use Rattle.bb_equiv.specs.Runs.{EventsShowCounterexamples}
+use Rattle.bb_equiv.specs.Laws.Mistakes.{AllHaveCounterexamples, CounterexamplesExist}
+use Rattle.bb_equiv.specs.Laws.Runs.{EventsShowCounterexamples}
 use Rattle.bb_design.specs.Hierarchy.{Design}
 use Rattle.bb_checks.specs.Laws.IsomorphicPairs.{IsomorphicPairsHaveOneReport, IsomorphicPairsHaveOneBeginning}
 use Rattle.bb_checks.specs.Laws.{LeftOpenStaysOpen}
@@ -12,9 +12,11 @@ use Rattle.bb_checks.specs.declared.verdict.Verdict.{Verdict}
 use Rattle.bb_checks.specs.declared.verdict.Verdict.TheVariants as verdicts
 use Rattle.bb_checks.specs.Reports.{status_of, verdict_of}
 use Rattle.bb_verdict.specs.declared.requested.TextComparison.{TextComparison}
-use Rattle.bb_verdict.specs.TextAnswers.{Judges, Refused, Judged, ErrorsRefute, RepairsFinish, OpenAnswersLeaveOpen, StayingOpenAreAnswered, AnswersMayDependOnSearch, StatusesAreOne, StatusesNeverClash, ReportsAreOne, ReportsBeginAsOne}
+use Rattle.bb_verdict.specs.Laws.TextAnswers.{ErrorsRefute, RepairsFinish, OpenAnswersLeaveOpen, StayingOpenAreAnswered, AnswersMayDependOnSearch, StatusesAreOne, StatusesNeverClash, ReportsAreOne, ReportsBeginAsOne}
+use Rattle.bb_verdict.specs.TextAnswers.{Judges, Refused, Judged}
 use Rattle.bb_frontend.specs.TextDesigns.{IsReadAs, TextsReadAsOne}
-use Rattle.bb_verdict.specs.TextPairs.{AreLeftOpen, AreRefuted, AreStayingOpen, RequestTheSamePair, DesignsAreAllowed, FittingAreRefutedByDesigns, NotFinishedAndRefuted, NotPairAndRefusal, RefutedAreSeen, RefutedHaveCounterexamples, TextPairsAreIsomorphic}
+use Rattle.bb_verdict.specs.Laws.TextPairs.{RequestTheSamePair, DesignsAreAllowed, FittingAreRefutedByDesigns, NotFinishedAndRefuted, NotPairAndRefusal, RefutedAreSeen, RefutedHaveCounterexamples, TextPairsAreIsomorphic}
+use Rattle.bb_verdict.specs.TextPairs.{AreLeftOpen, AreRefuted, AreStayingOpen}
 use Rattle.bb_verdict.proofs.AnswerLaws.{is_pair}
 use Rattle.bb_verdict.proofs.TextPairLaws.{reads_as}
 

@@ -30,7 +30,8 @@ use Rattle.bb_verdict.specs.Inside.Made.{IsChecked, IsMade, KeptFollows}
 use Rattle.bb_verdict.specs.OwnTexts.{HasOwnTexts}
 use Rattle.bb_verdict.specs.TextAnswers.{Judges, Refused, Judged}
 use Rattle.bb_frontend.specs.TextDesigns.{IsDesignOf, IsReadAs, IsSideFault, TextDesignsAreOne, SideFaultsAreOne, NotDesignAndFault}
-use Rattle.bb_verdict.specs.TextPairs.{AreDesignsOf, AreReadAs, IsRefusal, ImplementsTexts, DesignsAreAllowed, RefusalsAreOne, NotPairAndRefusal, TextPairsAreIsomorphic}
+use Rattle.bb_verdict.specs.Laws.TextPairs.{DesignsAreAllowed, RefusalsAreOne, NotPairAndRefusal, TextPairsAreIsomorphic}
+use Rattle.bb_verdict.specs.TextPairs.{AreDesignsOf, AreReadAs, IsRefusal, ImplementsTexts}
 use Rattle.bb_frontend.specs.Inside.TextRefusals.{of_spec, of_imp, of_pair}
 
 pub designs_are_allowed : SourcesAreFormed → SoundTextsAreAllowed → DesignsAreAllowed

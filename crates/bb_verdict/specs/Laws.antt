@@ -1,3 +1,5 @@
 -- Laws, and the definitions that laws alone need.
-pub mod SomeAnswers
 pub mod FilledNets
+pub mod SomeAnswers
+pub mod TextAnswers
+pub mod TextPairs

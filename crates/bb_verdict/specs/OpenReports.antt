@@ -6,7 +6,6 @@ use Rattle.bb_options.specs.declared.rung.Rung.{Rung}
 use Rattle.bb_options.specs.Rungs.{requested_rungs}
 use Rattle.bb_verdict.specs.declared.requested.TextComparison.{TextComparison}
 use Rattle.bb_verdict.specs.ShownMistakes.{check_line, no_verdict}
-use Rattle.bb_verdict.specs.TextAnswers.{OfAnswers}
 
 -- the line of a check with a result that is no verdict
 abbrev pub IsOpenLine : Rung → List ℕ → Type 0
@@ -16,7 +15,3 @@ pub record IsOpenReport (requested : TextComparison) (spec imp text : List ℕ) 
   pub lines : List (List ℕ)
   pub each : AllZip IsOpenLine (requested_rungs requested.options) lines
   pub whole : text ≡ flat_map (λ line. line) lines ++ codes "verdict open\n"
-
--- The law of it: status 3 comes with such a report.
-abbrev pub OpenAnswersAreReports : Type 0
-OpenAnswersAreReports = OfAnswers (λ requested spec imp status text. status ≡ 3 → IsOpenReport requested spec imp text)

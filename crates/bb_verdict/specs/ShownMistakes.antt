@@ -19,7 +19,6 @@ use Rattle.bb_options.specs.Rungs.{rung_name}
 use Rattle.bb_checks.specs.declared.line.Proof.{Proof}
 use Rattle.bb_checks.specs.Reports.{input_line, output_line, proof_text}
 use Rattle.bb_verdict.specs.declared.requested.TextComparison.{TextComparison}
-use Rattle.bb_verdict.specs.TextAnswers.{OfAnswers}
 use Rattle.bb_verdict.specs.TextPairs.{AreReadAs}
 
 -- the line of a check with its result
@@ -61,7 +60,3 @@ pub record AreShown (requested : TextComparison) (spec imp text : List ℕ) : Ty
   pub whole : text ≡ flat_map (λ check. check) checks ++ codes "verdict error\n"
   pub found : (rung : Rung) × (rest : List ℕ) × Contains checks (check_line rung (codes "error") ++ rest)
   pub shown : All (ShowsError requested s i) checks
-
--- The law of it: with status 1 the report shows the errors that it names.
-abbrev pub ErrorsAreShown : Type 0
-ErrorsAreShown = OfAnswers (λ requested spec imp status text. status ≡ 1 → AreShown requested spec imp text)

@@ -5,14 +5,13 @@
 ghost use Rattle.bb_verdict.specs.FilledTexts.{NoTablesFollow};
 ghost use Rattle.bb_verdict.specs.Inside.Made.{MadeCanBeFilled};
 ghost use Rattle.bb_verdict.specs.Laws.FilledNets.{FilledNetsImplement};
-ghost use Rattle.bb_verdict.specs.OpenReports.{OpenAnswersAreReports};
-ghost use Rattle.bb_verdict.specs.ShownMistakes.{ErrorsAreShown};
-ghost use Rattle.bb_verdict.specs.TextAnswers.{AnsweredFit, ErrorsRefute, FillingOnlyAdds, RepairsFinish};
-ghost use Rattle.bb_verdict.specs.TextAnswers.{OpenAnswersLeaveOpen, DecidedAreAnswered, StayingOpenAreAnswered};
-ghost use Rattle.bb_verdict.specs.TextAnswers.{JudgedRefusalsAreFirst, RefusedAreAnsweredOnce, ReportsAreOne};
-ghost use Rattle.bb_verdict.specs.TextAnswers.{ReportsBeginAsOne, StatusesAreOne, StatusesNeverClash};
-ghost use Rattle.bb_verdict.specs.TextPairs.{DesignsAreAllowed, FilledTextsFinish, LargeTextsAreOfLargeDesigns};
-ghost use Rattle.bb_verdict.specs.TextPairs.{NotPairAndRefusal, RefusalsAreOne, TextPairsAreIsomorphic};
+ghost use Rattle.bb_verdict.specs.Laws.TextAnswers.{AnsweredFit, DecidedAreAnswered, ErrorsAreShown, ErrorsRefute};
+ghost use Rattle.bb_verdict.specs.Laws.TextAnswers.{FillingOnlyAdds, JudgedRefusalsAreFirst, OpenAnswersAreReports};
+ghost use Rattle.bb_verdict.specs.Laws.TextAnswers.{OpenAnswersLeaveOpen, RefusedAreAnsweredOnce, RepairsFinish};
+ghost use Rattle.bb_verdict.specs.Laws.TextAnswers.{ReportsAreOne, ReportsBeginAsOne, StatusesAreOne};
+ghost use Rattle.bb_verdict.specs.Laws.TextAnswers.{StatusesNeverClash, StayingOpenAreAnswered};
+ghost use Rattle.bb_verdict.specs.Laws.TextPairs.{DesignsAreAllowed, FilledTextsFinish, LargeTextsAreOfLargeDesigns};
+ghost use Rattle.bb_verdict.specs.Laws.TextPairs.{NotPairAndRefusal, RefusalsAreOne, TextPairsAreIsomorphic};
 
 use bb_checks::{
     climbs_leave_open, deciders_decide, errors_exclude_tables, found_vectors_are_mistakes,

@@ -3,8 +3,8 @@
 //! vector must have a world in both designs, with one bit at each output, and something must fit. Each function has a
 //! law as its contract and does nothing.
 
-ghost use Rattle.bb_verdict.specs.TextPairs.{FittingAreRefutedByDesigns, NotFinishedAndRefuted};
-ghost use Rattle.bb_verdict.specs.TextPairs.{RefutedAreSeen, RefutedHaveCounterexamples};
+ghost use Rattle.bb_verdict.specs.Laws.TextPairs.{FittingAreRefutedByDesigns, NotFinishedAndRefuted, RefutedAreSeen};
+ghost use Rattle.bb_verdict.specs.Laws.TextPairs.{RefutedHaveCounterexamples};
 
 use crate::text_laws::designs_are_allowed;
 use bb_equiv::counterexamples::{counterexamples_exist, events_show_counterexamples};
