@@ -4,12 +4,12 @@
 //! sixteen boxes needs few of its 2^129.
 #![tactic(auto)]
 
-mod candidates;
+mod cegis;
 mod cells;
 mod clauses;
 mod cones;
+mod counterexamples;
 mod counting;
-mod decision;
 mod enumeration;
 mod expanded;
 mod free;
@@ -19,6 +19,7 @@ mod free_counting;
 mod free_laws;
 mod iterations;
 mod laws;
+mod merge_candidates;
 mod merging;
 mod numbers;
 mod outputs;
@@ -26,12 +27,11 @@ mod rows;
 mod samples;
 mod sampling;
 mod search_result;
-mod searching;
 mod tables;
 mod vectors;
 
+pub use cegis::expand;
 pub use counting::clause_count;
-pub use decision::expand;
 pub use expanded::{ExpandFault, Expanded};
 pub use free_laws::models_are_differences;
 pub use laws::{answers_exist, expansions_and_tables, refutations_show_vectors};

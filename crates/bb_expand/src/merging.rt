@@ -6,8 +6,8 @@ ghost use Rattle.std.specs.Prelude.{◌≡◌, ◌+◌, ◌<◌, ◌≤◌, ◌^
 ghost use Rattle.bb_expand.specs.Inside.Cones.{IfOne, IfZero};
 ghost use Rattle.bb_strash.specs.Inside.Extensions.{bit, Extends, Gives};
 
-use crate::candidates::{Candidate, Classes};
 use crate::cones::{Effort, search_cell};
+use crate::merge_candidates::{Candidate, Classes};
 use crate::search_result::SearchResult;
 use bb_bits::NoMemory;
 use bb_net::{Cell, Net};

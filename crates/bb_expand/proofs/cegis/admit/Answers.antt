@@ -3,7 +3,7 @@ use Rattle.bb_net.specs.Completions.{table_bits}
 use Rattle.bb_net.specs.Kinds.{representatives}
 use Rattle.bb_net.specs.Netlists.{Netlist}
 use Rattle.bb_expand.proofs.IterationLemmas.{large_tables}
-use Rattle.bb_expand.proofs.decision.admit.Goals as goal
+use Rattle.bb_expand.proofs.cegis.admit.Goals as goal
 
 pub returns-then-not-is_within_budget-clause-clauses : goal.returns-then-not-is_within_budget-clause-clauses
 returns-then-not-is_within_budget-clause-clauses c e =

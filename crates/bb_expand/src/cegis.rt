@@ -12,12 +12,12 @@ ghost use Rattle.bb_expand.specs.declared.expanded.ExpandFault.TheVariants as fa
 ghost use Rattle.bb_expand.specs.Expanded.{IsExpanded};
 ghost use Rattle.bb_expand.specs.GivenUp.{NeedsMoreClauses};
 
+use crate::counterexamples::{failing_vectors, may_be_filled};
 use crate::counting::{is_within_budget, per_vector};
 use crate::expanded::{ExpandFault, Expanded};
 use crate::iterations::{refuted, tables_of, zero_tables};
 use crate::samples::{SampleSet, no_samples};
 use crate::sampling::hold_failures;
-use crate::searching::{failing_vectors, may_be_filled};
 use bb_cdcl::Solved;
 use bb_net::Pair;
 use bb_subst::laws::{distinguishing_vectors_are_distinct, vectors_are_few};

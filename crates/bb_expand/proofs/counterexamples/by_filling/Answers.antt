@@ -7,7 +7,7 @@ use Rattle.bb_net.specs.Equivalence.{TablesMakeEquivalent}
 use Rattle.bb_net.specs.Kinds.{per_box}
 use Rattle.bb_expand.specs.Inside.Failures.{AreDistinctWith, FailsAt}
 use Rattle.bb_expand.proofs.FilledFailures.{agree_if_equivalent, distinct_with, fails_where_differs, filled_comparable}
-use Rattle.bb_expand.proofs.searching.by_filling.Goals as goal
+use Rattle.bb_expand.proofs.counterexamples.by_filling.Goals as goal
 
 pub find_counterexample-requires-clause-comparable : goal.find_counterexample-requires-clause-comparable
 find_counterexample-requires-clause-comparable c =

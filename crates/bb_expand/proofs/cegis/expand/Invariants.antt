@@ -3,7 +3,7 @@ use Rattle.bb_subst.specs.Distinguishing.{AreEquivalentAt}
 use Rattle.bb_net.specs.Kinds.{representatives, per_box}
 use Rattle.bb_net.specs.Values.{FitBoxes}
 use Rattle.bb_expand.specs.Inside.Sampling.{IsSampleSet, distinguishing_vectors, sample_vectors}
-use Rattle.bb_expand.proofs.decision.expand.Given as goal
+use Rattle.bb_expand.proofs.cegis.expand.Given as goal
 
 abbrev pub invariant-loop-tables : goal.invariant-loop-tables
 invariant-loop-tables l = record {

@@ -13,7 +13,7 @@ use Rattle.bb_expand.specs.GivenUp.{FillTooLarge}
 use Rattle.bb_expand.specs.Inside.Sampling.{sample_vectors}
 use Rattle.bb_expand.proofs.DistinguishingAmong.{with_distinguishing}
 use Rattle.bb_expand.proofs.IterationLemmas.{fewer_left, large_fill, no_samples}
-use Rattle.bb_expand.proofs.decision.expand.Goals as goal
+use Rattle.bb_expand.proofs.cegis.expand.Goals as goal
 
 is_zero : (n : ℕ) (b : Bool) → b ≡ (n == 0) → b ≡ true → n ≡ 0
 is_zero n b e f = grind (arith, e, f)
