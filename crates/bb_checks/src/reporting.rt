@@ -3,10 +3,10 @@
 //! a proof is printed is an option like the bounds: the details of a line are then a function of the result and the
 //! options.
 
-ghost use Rattle.std.specs.Prelude.{◌≡◌, ◌++◌, ◌<◌, length, zip, option_map, Option, Some, All, IfOk, IfSome, OnOk};
+ghost use Rattle.std.specs.Prelude.{◌≡◌, ◌++◌, ◌<◌, length, zip, All, IfOk, IfSome, OnOk};
 ghost use Rattle.std.specs.List.{flat_map};
 ghost use Rattle.bb_checks.specs.Reports.{result_name, output_line, reported_output, printed_input, input_line};
-ghost use Rattle.bb_checks.specs.Reports.{evidence_text, details, rung_line, check_line_text, verdict_line, verdict_of};
+ghost use Rattle.bb_checks.specs.Reports.{evidence_text, details, rung_line, check_line_text, verdict_line};
 ghost use Rattle.bb_checks.specs.Reports.{report_text};
 ghost use Rattle.bb_checks.specs.Rungs.{CanBeReported, EvidenceCanBeReported, ResultCanBeReported};
 

@@ -2,13 +2,12 @@
 //! where boxes of one module share their contents, by the module; the pins are those of the first box of the class.
 //! BITS has row 0 first, and the first pin is the most significant bit of a row's number.
 
-ghost use Rattle.std.specs.Prelude.{◌≡◌, ◌≤◌, ◌<◌, ◌++◌, ℕ, All, length, map, zip, OnOk};
+ghost use Rattle.std.specs.Prelude.{◌≡◌, ◌<◌, ◌++◌, ℕ, All, length, map, OnOk};
 ghost use Rattle.std.specs.List.{flat_map};
-ghost use Rattle.bb_bits.specs.Tables.{IsTable};
 ghost use Rattle.bb_net.specs.Kinds.{representatives};
 ghost use Rattle.bb_net.specs.Values.{table_at};
 ghost use Rattle.bb_checks.specs.Rungs.{TablesCanBeReported, texts_at};
-ghost use Rattle.bb_checks.specs.TableLines.{printed_bit, pin_column, table_line, printed_pin, box_lines, table_lines};
+ghost use Rattle.bb_checks.specs.TableLines.{printed_bit, pin_column, table_line, box_lines, table_lines};
 
 use crate::bits::push_bit;
 use crate::kind_laws::kind_laws;

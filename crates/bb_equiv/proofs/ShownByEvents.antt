@@ -1,6 +1,6 @@
 -- A counterexample is observed in a run of one event: this gives the inputs the bits of the vector, from states with its bits, and each
 -- clock the edge at which the register stores that differs, if one does.
-use Rattle.std.proofs.Common.{◌≡◌, ◌⊎◌, ◌∷◌, ◌∙◌, ℕ, Bool, false, not, List, [], Contains, Option, Some, refl, sym, ap, subst, inl, inr}
+use Rattle.std.proofs.Common.{◌≡◌, ◌∷◌, ◌∙◌, ℕ, Bool, false, not, List, [], Contains, Option, Some, refl, sym, ap, subst, inl, inr}
 use Rattle.std.specs.Prelude.{All}
 use Rattle.std.specs.List.{AllZip}
 use Rattle.bb_bits.specs.Contents.{Contents}

@@ -1,10 +1,10 @@
 //! Tseitin clauses of the implementation at one sample. Inputs are constants there and become unit clauses, which the
 //! solver propagates; folding them into the gates would save clauses, but then their count would depend on the sample.
 
-ghost use Rattle.std.specs.Prelude.{◌≡◌, ◌+◌, ◌^◌, ◌<◌, ◌++◌, ℕ, length, slice_index, take, OnOk};
+ghost use Rattle.std.specs.Prelude.{◌≡◌, ◌+◌, ◌^◌, ◌<◌, ◌++◌, ℕ, length, OnOk};
 ghost use Rattle.std.specs.List.{flat_map, range_with_len};
 ghost use Rattle.bb_cnf.specs.Clauses.{lists_of};
-ghost use Rattle.bb_net.specs.Completions.{table_bits, HaveSmallTables};
+ghost use Rattle.bb_net.specs.Completions.{HaveSmallTables};
 ghost use Rattle.bb_net.specs.Kinds.{FitKinds, representatives};
 ghost use Rattle.bb_net.specs.Netlists.{ReadsBefore, box_at, cell_at};
 ghost use Rattle.bb_expand.specs.Inside.TableStarts.{AreStarts};

@@ -2,7 +2,7 @@
 //! the count of clauses is part of the contract and must not depend on who reads a cell. An or is an and of negations,
 //! so the two share their clauses.
 
-ghost use Rattle.std.specs.Prelude.{◌≡◌, ◌+◌, ◌<◌, ◌∷◌, ◌++◌, [], not, OnOk};
+ghost use Rattle.std.specs.Prelude.{◌≡◌, ◌+◌, ◌∷◌, ◌++◌, [], not, OnOk};
 ghost use Rattle.bb_cnf.specs.Clauses.{positive, negated, lists_of};
 ghost use Rattle.bb_expand.specs.Expansions.{having};
 

@@ -1,7 +1,7 @@
 //! The number of clauses before any is made, so the budget is checked without memory. A box with many inputs has more
 //! rows than 64 bits hold, so all counts saturate at 2^64 - 1, which no budget reaches.
 
-ghost use Rattle.std.specs.Prelude.{◌≡◌, ◌+◌, ◌-◌, ◌*◌, ◌^◌, ◌<◌, ◌≤◌, ℕ, true, false, min, length, sum_by};
+ghost use Rattle.std.specs.Prelude.{◌≡◌, ◌-◌, ◌*◌, ◌^◌, ◌<◌, ◌≤◌, ℕ, true, false, min, length, sum_by};
 ghost use Rattle.bb_net.specs.Netlists.{cell_at};
 ghost use Rattle.bb_expand.specs.ClauseCounts.{cell_clause_count, clauses_per_vector, clause_total};
 

@@ -1,7 +1,7 @@
 //! The last resort of the counterexample search: all vectors in rising order. It runs only where the clauses over all
 //! vectors are within the budget, so there are few of them, and it never gives up.
 
-ghost use Rattle.std.specs.Prelude.{◌≡◌, ◌^◌, ◌<◌, ◌≤◌, All, length, IfOk, IfSome, IfNone, true, false};
+ghost use Rattle.std.specs.Prelude.{◌≡◌, ◌<◌, ◌≤◌, All, length, IfOk, IfSome, IfNone, true, false};
 ghost use Rattle.bb_net.specs.Equivalence.{TablesMakeEquivalent};
 ghost use Rattle.bb_net.specs.Kinds.{per_box};
 ghost use Rattle.bb_net.specs.Values.{FitBoxes};

@@ -1,7 +1,7 @@
 //! Tseitin clauses of a netlist without boxes whose inputs are variables. An input cell gets its own variable, made
 //! equal to that of the input, so that cells of both netlists are numbered by place alone.
 
-ghost use Rattle.std.specs.Prelude.{◌≡◌, ◌+◌, ◌^◌, ◌<◌, ◌≤◌, ◌∷◌, ◌++◌, [], ℕ, length, OnOk};
+ghost use Rattle.std.specs.Prelude.{◌≡◌, ◌+◌, ◌^◌, ◌<◌, ◌≤◌, ◌++◌, [], ℕ, length, OnOk};
 ghost use Rattle.bb_cnf.specs.Clauses.{lists_of};
 ghost use Rattle.bb_net.specs.Netlists.{ReadsBefore};
 ghost use Rattle.bb_expand.specs.Inside.FreeClauses.{equal_clauses, free_cell_clauses, cells_after};

@@ -1,7 +1,7 @@
 //! The number of clauses of the miter, so the limit is tested before memory is taken. It is exact, and so it is also
 //! the capacity of the list, which never grows.
 
-ghost use Rattle.std.specs.Prelude.{◌≡◌, ◌+◌, ◌-◌, ◌^◌, ◌<◌, ◌≤◌, [], ℕ, length, min};
+ghost use Rattle.std.specs.Prelude.{◌≡◌, ◌-◌, ◌^◌, ◌<◌, ◌≤◌, [], ℕ, length, min};
 ghost use Rattle.bb_miter.specs.Inside.Equivalence.{AreComparable};
 ghost use Rattle.bb_expand.specs.Inside.FreeClauses.{free_cell_clauses, cells_after, free_clauses};
 

@@ -1,6 +1,5 @@
 //! The law of the miter's clauses, as the contract of an empty function.
 
-ghost use Rattle.bb_expand.specs.Laws.{CellClausesSayGate};
 ghost use Rattle.bb_expand.specs.Inside.FreeClauses.{ModelsDiffer, ModelsAreDifferences, FreeVariablesAreWithin};
 
 use crate::laws::{expansions_and_tables, laws_below};

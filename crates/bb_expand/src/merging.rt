@@ -2,7 +2,7 @@
 //! that they differ. Candidates come from simulation and windows are guesses; only the refutation counts, and it goes
 //! into no printed proof, since equivalence here only ends the search for a counterexample.
 
-ghost use Rattle.std.specs.Prelude.{◌≡◌, ◌+◌, ◌<◌, ◌≤◌, ◌^◌, [], true, length, IfOk, IfSome, OnOk};
+ghost use Rattle.std.specs.Prelude.{◌≡◌, ◌+◌, ◌<◌, ◌≤◌, ◌^◌, [], length, IfOk, IfSome, OnOk};
 ghost use Rattle.bb_expand.specs.Inside.Cones.{IfOne, IfZero};
 ghost use Rattle.bb_strash.specs.Inside.Extensions.{bit, Extends, Gives};
 

@@ -1,6 +1,6 @@
 //! Vectors as numbers, the first bit most significant: this is the order in which all vectors are enumerated.
 
-ghost use Rattle.std.specs.Prelude.{◌≡◌, ◌+◌, ◌^◌, ◌<◌, ◌≤◌, length};
+ghost use Rattle.std.specs.Prelude.{◌≡◌, ◌≤◌, length};
 ghost use Rattle.bb_bits.specs.Numbers.{bits_of};
 
 pub(crate) fn spell(number: u32, bits: &mut [bool])

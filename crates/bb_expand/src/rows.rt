@@ -2,12 +2,11 @@
 //! the table bits are selected by position and need no multiplexer tree. Boxes of one sharing class use the same table
 //! variables.
 
-ghost use Rattle.std.specs.Prelude.{◌≡◌, ◌+◌, ◌*◌, ◌^◌, ◌<◌, ◌≤◌, ◌∷◌, ◌++◌, [], ℕ, All, length, map, slice_index};
-ghost use Rattle.std.specs.Prelude.{take, IfOk, OnOk};
+ghost use Rattle.std.specs.Prelude.{◌≡◌, ◌+◌, ◌*◌, ◌^◌, ◌<◌, ◌≤◌, ◌∷◌, ◌++◌, [], All, length, map, IfOk, OnOk};
 ghost use Rattle.std.specs.List.{flat_map, range_with_len};
 ghost use Rattle.bb_bits.specs.Numbers.{bits_of};
 ghost use Rattle.bb_cnf.specs.Clauses.{lists_of};
-ghost use Rattle.bb_net.specs.Completions.{table_bits, HaveSmallTables};
+ghost use Rattle.bb_net.specs.Completions.{HaveSmallTables};
 ghost use Rattle.bb_net.specs.Kinds.{representatives};
 ghost use Rattle.bb_net.specs.Netlists.{box_at};
 ghost use Rattle.bb_expand.specs.Inside.TableStarts.{AreStarts};

@@ -1,7 +1,7 @@
 //! The sample set and its incremental solver. The clauses of a sample are pushed after the others, so an iteration
 //! builds those of its own samples only, and the solver keeps what it learned.
 
-ghost use Rattle.std.specs.Prelude.{◌≡◌, ◌+◌, ◌<◌, ◌≤◌, ◌^◌, ◌++◌, ◌∷◌, [], ℕ, length, map, vec_items, IfOk, OnOk};
+ghost use Rattle.std.specs.Prelude.{◌≡◌, ◌+◌, ◌<◌, ◌^◌, ◌++◌, ◌∷◌, [], length, map, vec_items, IfOk, OnOk};
 ghost use Rattle.bb_cnf.specs.Clauses.{HasVariablesWithin, lists_of};
 ghost use Rattle.bb_net.specs.Completions.{table_bits, HaveSmallTables};
 ghost use Rattle.bb_net.specs.Kinds.{representatives};

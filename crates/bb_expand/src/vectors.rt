@@ -1,15 +1,12 @@
 //! The clauses of one sample: implementation cells with constant inputs, then unit clauses for the outputs. The
 //! specification is simulated and not encoded, since its inputs are known at a sample.
 
-ghost use Rattle.std.specs.Prelude.{◌≡◌, ◌+◌, ◌*◌, ◌^◌, ◌<◌, ◌≤◌, ◌∷◌, ◌++◌, [], ℕ, All, length, slice_index, map};
-ghost use Rattle.std.specs.Prelude.{take, OnOk};
-ghost use Rattle.std.specs.List.{flat_map, range_with_len};
-ghost use Rattle.bb_bits.specs.Numbers.{bits_of};
+ghost use Rattle.std.specs.Prelude.{◌≡◌, ◌+◌, ◌*◌, ◌^◌, ◌<◌, ◌∷◌, ◌++◌, [], ℕ, All, length, slice_index, map, OnOk};
+ghost use Rattle.std.specs.List.{range_with_len};
 ghost use Rattle.bb_cnf.specs.Clauses.{lists_of};
 ghost use Rattle.bb_net.specs.Completions.{table_bits, HaveSmallTables};
 ghost use Rattle.bb_net.specs.Kinds.{representatives};
 ghost use Rattle.bb_net.specs.Values.{bit_of};
-ghost use Rattle.bb_expand.specs.ClauseCounts.{clause_total};
 ghost use Rattle.bb_expand.specs.Inside.TableStarts.{AreStarts};
 ghost use Rattle.bb_expand.specs.Expansions.{having, vector_clauses};
 

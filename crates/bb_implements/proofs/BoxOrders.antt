@@ -5,7 +5,6 @@ use Rattle.std.specs.List.{enumerate_from}
 use Rattle.std.specs.Option.{option_map_or}
 use Rattle.std.proofs.lemmas.List.{get_or-map, length-map}
 use Rattle.std.proofs.lemmas.List.Elements.{All-contains, Contains-append_cases, Contains-append_right}
-use Rattle.bb_net.specs.declared.loose.LooseCell.TheVariants as cell
 use Rattle.bb_net.specs.Loose.{LooseList, Reaches, NeedsBox}
 use Rattle.bb_bits.specs.Closures.{Leads}
 use Rattle.bb_design.specs.Inside.Allowed.{IsBounded}

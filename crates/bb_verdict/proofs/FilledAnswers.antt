@@ -1,6 +1,6 @@
 -- With status 0 a report says that the design is finished: by its tables, and where it is asked for by the filled implementation. This only
 -- adds to an answer.
-use Rattle.std.proofs.Common.{◌≡◌, ◌∙◌, ℕ, Bool, true, false, List, [], ◌++◌, map, refl, sym, ap, subst, arith, true≢false}
+use Rattle.std.proofs.Common.{◌≡◌, ◌∙◌, ℕ, Bool, true, false, List, [], ◌++◌, refl, sym, ap, subst, arith, true≢false}
 use Rattle.std.proofs.lemmas.List.{append-nil}
 use Rattle.bb_equiv.specs.DesignEquivalence.{AreSpelled}
 use Rattle.bb_equiv.specs.Laws.Comparable.{FittingDesignsAreComparable}
@@ -8,7 +8,6 @@ use Rattle.bb_equiv.specs.Laws.DesignEquivalence.{FittingTablesAreOfBoxes, Pairs
 use Rattle.bb_equiv.specs.Laws.DesignRefusals.{PairsImplementExactlyFitting}
 use Rattle.bb_equiv.specs.Laws.Runs.{EquivalentDesignsRunTheSame}
 use Rattle.bb_bits.specs.Tables.{TableBits}
-use Rattle.bb_implements.specs.Implements.{box_texts}
 use Rattle.bb_design.specs.Hierarchy.{Design}
 use Rattle.bb_design.specs.Worlds.{FitDesign}
 use Rattle.bb_fill.specs.Answers.{Answer, Clash, TooLarge, Text, IsFillAnswer}

@@ -1,6 +1,6 @@
 -- A filled text that is too large is one of a large design: its nets are no more than those of the design, since the netlist has no more cells
 -- and the same boxes, and its bytes are no more than four words for each of them.
-use Rattle.std.proofs.Common.{◌≡◌, ◌∙◌, ◌⊎◌, inl, inr, ℕ, ◌+◌, ◌-◌, ◌*◌, ◌^◌, ◌<◌, ◌≤◌, Bool, true, false, not, List, [], ◌∷◌, ◌++◌, length, length-append, map, filter, refl, sym, ap, ap₂, arith}
+use Rattle.std.proofs.Common.{◌≡◌, ◌∙◌, ◌⊎◌, inl, inr, ℕ, ◌+◌, ◌-◌, ◌*◌, ◌^◌, ◌<◌, ◌≤◌, Bool, not, List, [], ◌∷◌, ◌++◌, length, length-append, map, filter, refl, sym, ap, ap₂, arith}
 use Rattle.std.specs.Prelude.{sum_by}
 use Rattle.std.specs.List.{AllZip}
 use Rattle.std.proofs.lemmas.List.{length-map}
@@ -9,20 +9,18 @@ use Rattle.std.proofs.lemmas.List.Sums.{count_by-le-length, length-filter, sum_b
 use Rattle.std.proofs.lemmas.Nat.{mul-le}
 use Rattle.bb_bits.specs.Earlier.{has_name}
 use Rattle.bb_bits.specs.Tables.{TableBits}
-use Rattle.bb_design.specs.Constructs.{parts}
 use Rattle.bb_design.specs.Hierarchy.{Design, Scope, boxes}
 use Rattle.bb_design.specs.Inside.Allowed.{IsAllowed}
-use Rattle.bb_design.specs.NetBits.{Bit, input_bits, output_bits, top_inputs, top_outputs}
+use Rattle.bb_design.specs.NetBits.{input_bits, output_bits, top_inputs, top_outputs}
 use Rattle.bb_design.specs.Registers.{RegisterBit, cut_bits, registers}
-use Rattle.bb_design.specs.Sizes.{cell_count_at, cells_in}
 use Rattle.bb_design.specs.Texts.{bit_text, pin_text}
 use Rattle.bb_fill.specs.Answers as fill
 use Rattle.bb_fill.specs.Filled.{filled_text, lines_of_cells}
 use Rattle.bb_fill.specs.Laws.{IsReady, LinesAreFew, TextsAreShort, tree_choices}
 use Rattle.bb_fill.specs.Laws as netlist
-use Rattle.bb_fill.specs.Sizes.{IsTooLargeText, filled_cell_count, makes_cell, most_bytes, most_nets, net_count, plain_outputs}
+use Rattle.bb_fill.specs.Sizes.{IsTooLargeText, filled_cell_count, makes_cell, most_nets, net_count}
 use Rattle.bb_fill.specs.Clashes.{AreNamesApart}
-use Rattle.bb_fill.specs.Words.{maximum, texts_of}
+use Rattle.bb_fill.specs.Words.{maximum}
 use Rattle.bb_implements.specs.Implements.{Implements, IsRegister, box_texts}
 use Rattle.bb_implements.specs.Laws.BoxOrders.{ImplementingNetsHaveBoxOrders}
 use Rattle.bb_implements.specs.Laws.ListLaws.{NetsAreNoLarger}
@@ -33,7 +31,7 @@ use Rattle.bb_net.specs.Flats.{FlatNet, HaveClocks}
 use Rattle.bb_net.specs.Kinds.{per_box}
 use Rattle.bb_net.specs.Netlists.{Pins}
 use Rattle.bb_net.specs.Pairs.{BoxTexts, NamesPins}
-use Rattle.bb_verdict.specs.FilledSizes.{IsTooLargeToFill, filled_bytes, filled_nets, longest_name, tree_nodes}
+use Rattle.bb_verdict.specs.FilledSizes.{IsTooLargeToFill, filled_nets, longest_name, tree_nodes}
 use Rattle.bb_verdict.specs.Laws.TextPairs.{DesignsAreAllowed, LargeTextsAreOfLargeDesigns}
 use Rattle.bb_verdict.proofs.FilledNames.{registers_are}
 use Rattle.bb_verdict.proofs.KeptNets.{TablesAreSpread, kept_nets}

@@ -11,7 +11,6 @@ ghost use Rattle.bb_implements.specs.Implements.{Implements};
 ghost use Rattle.bb_equiv.specs.DesignEquivalence.{IsPairFor};
 ghost use Rattle.bb_net.specs.Pairs.{NetPair, IsPair};
 ghost use Rattle.bb_frontend.specs.declared.limit.TheConstants.{READ_LIMIT};
-ghost use Rattle.bb_verdict.specs.declared.requested.TextComparison.{TextComparison};
 ghost use Rattle.bb_frontend.specs.declared.refusal.Refusal.{Refusal};
 ghost use Rattle.bb_frontend.specs.TextDesigns.{IsDesignOf};
 ghost use Rattle.bb_verdict.specs.Inside.Made.{IsMade};
