@@ -23,9 +23,10 @@ class Misuse(Fault):
 
 def python_call(module: str) -> List[str]:
     """The words that run the command of a module of this package in a process of its own."""
-    above = os.path.dirname(os.path.dirname(os.path.realpath(__file__)))
-    text = f"import sys; sys.path[0] = {above!r}; from bbeq_tools.{module} import main; main()"
-    return [sys.executable, "-B", "-c", text]
+    start = os.path.join(os.path.dirname(os.path.realpath(__file__)), "start.py")
+    cache = (["-X", f"pycache_prefix={sys.pycache_prefix}"] if sys.pycache_prefix
+             else ["-B"] * sys.dont_write_bytecode)
+    return [sys.executable, "-I", "-S", *cache, start, f"bbeq_tools.{module}", sys.argv[0]]
 
 
 class Words(argparse.ArgumentParser):

@@ -109,7 +109,7 @@ def run_here(name, tests):
 def run_apart(name):
     """Runs a part in a process of its own, and prints what it printed when it ends."""
     start = time.monotonic()
-    done = subprocess.run([sys.executable, "-B", os.path.join(HERE, "check"), name],
+    done = subprocess.run([os.path.join(HERE, "check"), name],
                           stdout=subprocess.PIPE, text=True, errors="replace", check=False)
     lines = done.stdout.splitlines()
     counts = re.fullmatch(r"(\d+) passed, (\d+) failed", lines[-1] if lines else "")

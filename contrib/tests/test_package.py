@@ -18,12 +18,12 @@ def entry_points():
 
 
 def commands():
-    """The commands in Python of this folder, with the modules of which they take `main`."""
+    """The commands of this folder, with the modules of which they run `main`."""
     found = {}
     for name in os.listdir(HERE):
         path = os.path.join(HERE, name)
-        if os.path.isfile(path) and os.access(path, os.X_OK) and "python3" in read(path)[:40]:
-            found[name] = re.search(r"^from (\S+) import main$", read(path), re.MULTILINE).group(1)
+        if os.path.isfile(path) and os.access(path, os.X_OK):
+            found[name] = re.search(r"^module=(\S+)$", read(path), re.MULTILINE).group(1)
     return found
 
 
@@ -103,7 +103,7 @@ class Style(Tries):
     needs_program = False
 
     def test_style(self):
-        files = ["bbeq_tools", "gate_tools", "tests", *sorted(commands())]
+        files = ["bbeq_tools", "gate_tools", "tests"]
         linters = ([["ruff", "check", *files]] if shutil.which("ruff") else
                    [["pycodestyle", "--max-line-length=100", *files], ["pyflakes3", *files]])
         for words in [*linters, ["mypy", "--no-incremental", "-p", "bbeq_tools"]]:

@@ -142,7 +142,7 @@ class Pages(Tries):
         pair = made(self.folder, "ternary")
         tools = os.path.join(self.folder, "bin")
         os.makedirs(tools)
-        for name in ("python3", "env"):
+        for name in ("python3", "readlink"):
             os.symlink(shutil.which(name), os.path.join(tools, name))
         done = run([script("page"), *pair.words], env={**os.environ, "PATH": tools})
         self.note("without graphviz the page says so", "graphviz" in done.out

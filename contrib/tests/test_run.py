@@ -231,7 +231,8 @@ def engine_try(tally, folder):
     made = lanes_in(folder)[2]
     place = os.path.join(folder, "bin")
     os.mkdir(place)
-    os.symlink(shutil.which("python3"), os.path.join(place, "python3"))
+    for name in ("python3", "readlink"):
+        os.symlink(shutil.which(name), os.path.join(place, name))
     env = {**os.environ, "PATH": place}
     done = run([script("run"), made, "--kept", os.path.join(folder, "alone")], env=env)
     tally.note("without parallel", done.status == 0 and counts(done) == "0 kept, 4 run", done.why())

@@ -1,7 +1,7 @@
 """The tries of `fill`, `wave`, `order`, `drat`, `lrat` and `refuse`."""
 import os
 import re
-import sys
+import shutil
 
 from bbeq_tools.report.buses import shown
 from bbeq_tools.report.filler import STYLES
@@ -325,8 +325,9 @@ class Refuse(Tries):
                              "a program that is not there"), ([BBEQ, "a"], "words without --")):
             done = run([script("refuse"), *words])
             self.note(f"refuse refuses {what}", is_told(done, "refuse"), done.why())
-        done = run([sys.executable, script("refuse"), BBEQ, "--", "a"],
-                   env={**os.environ, "PATH": self.folder})
+        for name in ("python3", "readlink"):
+            os.symlink(shutil.which(name), os.path.join(self.folder, name))
+        done = run([script("refuse"), BBEQ, "--", "a"], env={**os.environ, "PATH": self.folder})
         self.note("refuse without cc",
                   is_told(done, "refuse") and "cc is not installed" in done.err, done.why())
         done = run([script("fuzz"), "--no-such-word"])
