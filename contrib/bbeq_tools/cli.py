@@ -1,14 +1,17 @@
-"""How a script of this folder runs: its words, what it cannot work with, and the text that it
-writes."""
-import argparse
+"""How a script of this folder runs, what it cannot work with, and the text that it writes.
+
+A start of `solve` takes longer than many runs of bbeq, so the modules that it needs at first import
+at the top only what loads in no time, here and elsewhere; the rest they import where it is used."""
+from __future__ import annotations
+
 import errno
 import os
 import signal
 import sys
-import tempfile
-import traceback
-from typing import Callable, Iterable, List, NoReturn, Optional, TextIO
 
+TYPE_CHECKING = False
+if TYPE_CHECKING:
+    from typing import Callable, Iterable, NoReturn, TextIO
 
 WRONG_WORDS, FAILED = 64, 125  # Statuses; 0 to 6 are the program's own.
 
@@ -21,20 +24,12 @@ class Misuse(Fault):
     """Words that a script does not take."""
 
 
-def python_call(module: str) -> List[str]:
+def python_call(module: str) -> list[str]:
     """The words that run the command of a module of this package in a process of its own."""
     start = os.path.join(os.path.dirname(os.path.realpath(__file__)), "start.py")
     cache = (["-X", f"pycache_prefix={sys.pycache_prefix}"] if sys.pycache_prefix
              else ["-B"] * sys.dont_write_bytecode)
     return [sys.executable, "-I", "-S", *cache, start, f"bbeq_tools.{module}", sys.argv[0]]
-
-
-class Words(argparse.ArgumentParser):
-    """The words of a script; wrong ones are told in one line."""
-
-    def error(self, message: str) -> NoReturn:
-        print(f"{self.prog}: {message} ({self.prog} --help lists the words)", file=sys.stderr)
-        sys.exit(WRONG_WORDS)
 
 
 class Closed:
@@ -79,6 +74,7 @@ def run_script(name: str, main: Callable[[], None]) -> None:
             print(f"{name}: {line}", file=sys.stderr)
         end(WRONG_WORDS if isinstance(fault, Misuse) else FAILED)
     except Exception:  # pylint: disable=broad-except
+        import traceback
         traceback.print_exc()
         end(FAILED)
 
@@ -108,9 +104,9 @@ class Output:
     a file of that name that was there gets `~` behind its name, unless the script reads it, so that
     no older text is taken for the one that was asked for."""
 
-    begun: "List[Output]" = []
+    begun: list[Output] = []
 
-    def __init__(self, path: Optional[str], inputs: Iterable[str] = (),
+    def __init__(self, path: str | None, inputs: Iterable[str] = (),
                  encoding: str = "latin-1") -> None:
         self.path, self.encoding = path, encoding
         is_older = path is not None and os.path.isfile(path) and not any(
@@ -138,6 +134,7 @@ class Output:
             file.write(text)
 
     def replace(self, path: str, text: str) -> None:
+        import tempfile
         handle, beside = tempfile.mkstemp(prefix=".", suffix=".part", dir=os.path.dirname(path))
         try:
             self.fill(open(handle, "w", encoding=self.encoding, errors="backslashreplace"), text)

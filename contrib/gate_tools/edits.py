@@ -15,7 +15,8 @@ import subprocess
 import sys
 import tempfile
 
-from bbeq_tools.cli import Fault, Words, run_script
+from bbeq_tools.cli import Fault, run_script
+from bbeq_tools.words import Words
 from gate_tools.kinds import EDITS, SEED, by_work
 from gate_tools.processes import watched
 from gate_tools.tried import Tried, crates_with_edits, edits_of, read_tried, sum_of, write_tried

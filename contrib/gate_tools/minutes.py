@@ -11,7 +11,8 @@ import resource
 import sys
 import time
 
-from bbeq_tools.cli import Fault, Words, run_script
+from bbeq_tools.cli import Fault, run_script
+from bbeq_tools.words import Words
 from gate_tools.gate_log import lines_of, longest_chain, read_gate
 from gate_tools.kinds import EDITS, KINDS, PROOF, RUN, SEED, TESTS, by_work
 from gate_tools.processes import watched

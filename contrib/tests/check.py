@@ -12,8 +12,9 @@ import time
 import unittest
 from concurrent.futures import ThreadPoolExecutor
 
-from bbeq_tools.cli import WRONG_WORDS, Fault, Words, run_script
+from bbeq_tools.cli import WRONG_WORDS, Fault, run_script
 from bbeq_tools.program import kind_of
+from bbeq_tools.words import Words
 from tests.tries import BBEQ, HERE, WAS_TOLD, Tries
 
 TEXT = """

@@ -88,10 +88,10 @@ class Package(unittest.TestCase):
 
 
 LIBRARY = set("""
-__future__ argparse base64 bbeq_tools bisect collections concurrent contextlib ctypes difflib errno
-fcntl functools gc hashlib heapq html itertools json math mmap operator os pathlib random re
-resource select shlex shutil signal struct subprocess sys tempfile threading time traceback typing
-zlib
+__future__ _ctypes argparse base64 bbeq_tools bisect collections concurrent contextlib ctypes
+difflib errno fcntl functools gc hashlib heapq html itertools json math mmap operator os pathlib
+random re resource select shlex shutil signal struct subprocess sys tempfile threading time
+traceback typing zlib
 """.split())
 
 

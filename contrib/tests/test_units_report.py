@@ -9,8 +9,9 @@ from bbeq_tools.report import lrat
 from bbeq_tools.report.contents import assign_lines, case_lines, casez_lines, decided, tree
 from bbeq_tools.report.sums import expression
 from bbeq_tools.report.drat import proof_lines, resolve
-from bbeq_tools.report.reports import (OTHER, on_terminal, other_texts, read_filled, read_report,
-                                       tables, vectors, verdict)
+from bbeq_tools.report.printed import on_terminal
+from bbeq_tools.report.reports import (OTHER, other_texts, read_filled, read_report, tables,
+                                       vectors, verdict)
 from bbeq_tools.verilog.language import Reader
 from tests.tries import SMALL_PROOF
 

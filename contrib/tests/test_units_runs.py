@@ -9,14 +9,16 @@ import tempfile
 import time
 import unittest
 
-from bbeq_tools.cli import Fault, Output, Words, python_call
+from bbeq_tools.cli import Fault, Output, python_call
 from bbeq_tools.runs import timed
+from bbeq_tools.runs.answers import Answer
 from bbeq_tools.runs.climbs import budgets, more_nodes, value_of, with_value
 from bbeq_tools.runs.guard import Guard
 from bbeq_tools.runs.joined import joined, padded
-from bbeq_tools.runs.kept import Answer, Job, Kept, answer_of, digest
+from bbeq_tools.runs.kept import Job, Kept, answer_of, digest
 from bbeq_tools.runs.portfolio import Portfolio
-from bbeq_tools.runs.ways import Attempt, clause_budgets
+from bbeq_tools.runs.ways import Attempt, Request
+from bbeq_tools.words import Words
 
 PAIR = {"inputs": ["a", "b"], "words": [],
         "boxes": [{"path": "u", "module": "m", "inputs": 1, "outputs": ["o"], "is_read": True},
@@ -196,6 +198,12 @@ class Portfolios(Place):
     def test_budgets(self):
         self.assertEqual(list(budgets(20, 100)), [20, 80, 100])
         self.assertEqual(list(budgets(20, 10)), [10])
-        for most, wanted in ((5_000_000, [20_000, 2_000_000, 5_000_000]), (1_000, [1_000]),
-                             (30_000, [20_000, 30_000])):
-            self.assertEqual(clause_budgets(most), wanted)
+        for memory, most, clauses in ((0, 8_000_000, [20_000, 2_000_000, 8_000_000]),
+                                      (0, 1_000, [1_000]), (0, 30_000, [30_000]),
+                                      (10**10, 8_000_000, [8_000_000]),
+                                      (10**9, 8_000_000, [1_250_000, 8_000_000])):
+            request = Request("p", (), "s", "i", "f", memory, most_clauses=most)
+            self.assertEqual(request.clause_budgets(), clauses)
+        request = Request("p", (), "s", "i", "f", 10**10)
+        self.assertEqual([request.node_budgets(is_one) for is_one in (True, False)],
+                         [[50_000_000], [100_000, 1_600_000, 50_000_000]])

@@ -15,8 +15,9 @@ from typing import Dict, List, Tuple
 from bbeq_tools.benchmark.folders import LIST, Listed, read_pairs, write_pairs
 from bbeq_tools.benchmark.measures import ABCS, DECIDED, LATE, Limits, Measure, ways_of
 from bbeq_tools.benchmark.pairs import holed_plans, plain_plans, small_plans
-from bbeq_tools.cli import Fault, Words, python_call, run_script
+from bbeq_tools.cli import Fault, python_call, run_script
 from bbeq_tools.program import is_program
+from bbeq_tools.words import Words
 
 WRONG = 1  # The status where an answer is wrong.
 HEAD = (f"{'pair':34} {'due':10} {'gates':>13} {'boxes':>5} {'way':6}",

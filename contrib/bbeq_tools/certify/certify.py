@@ -17,9 +17,10 @@ from bbeq_tools.certify.formula import FALSE, TRUE, Formula
 from bbeq_tools.certify.netlists import Design, check_fit, known_as, read_designs
 from bbeq_tools.certify.refuted import refute
 from bbeq_tools.certify.simulated import Bits, Unread, simulate
-from bbeq_tools.cli import Fault, Words, run_script
+from bbeq_tools.cli import Fault, run_script
 from bbeq_tools.report.reports import (OTHER, Vector, add_report_words, read_report, vectors,
                                        verdict)
+from bbeq_tools.words import Words
 
 NOT_SO, NOTHING_SHOWN = 1, 3  # Statuses.
 MOST_SIMULATED = 10  # Bits that the boxes give, of which all values are simulated.

@@ -10,8 +10,9 @@ proves nothing."""
 import re
 from collections import defaultdict
 
-from bbeq_tools.cli import Fault, Words, run_script
+from bbeq_tools.cli import Fault, run_script
 from bbeq_tools.developing.definitions import CRATES, Size, Top, Walk, size_of, uses
+from bbeq_tools.words import Words
 
 TOP = CRATES / "bb_ladder" / "src" / "running.rt"
 OUTSIDE = CRATES / "bb_outside" / "src"

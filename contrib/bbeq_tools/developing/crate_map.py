@@ -8,8 +8,9 @@ import subprocess
 from pathlib import Path
 from typing import Dict, List, NamedTuple, Optional, Set
 
-from bbeq_tools.cli import Fault, Output, Words, run_script
+from bbeq_tools.cli import Fault, Output, run_script
 from bbeq_tools.developing.definitions import CRATES
+from bbeq_tools.words import Words
 
 MAP = CRATES.parent / "docs" / "crates.svg"
 COLOURS = ("#f2f2f2", "#e3eefa", "#e6f4e6", "#fdf1dc", "#f1e6f7", "#fbe6e6", "#e2f3f3", "#f5f0e1")

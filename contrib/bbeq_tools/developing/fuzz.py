@@ -14,11 +14,12 @@ import tempfile
 import time
 from collections import Counter
 
-from bbeq_tools.cli import Fault, Words, run_script
+from bbeq_tools.cli import Fault, run_script
 from bbeq_tools.developing.allocations import Runs
 from bbeq_tools.developing.drawn import drawn_pair
 from bbeq_tools.developing.propagation import drawn_clauses, formula, spelt
 from bbeq_tools.program import find_program
+from bbeq_tools.words import Words
 
 FORMS = {0: rb"(?s).*(verdict repairable\n(fill\nmodule filled\(.*endmodule\n|fill clash [!-~]+\n"
             rb"|fill toolarge\n)?|rup yes\n)",

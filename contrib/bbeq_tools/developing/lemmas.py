@@ -8,8 +8,9 @@ import re
 from collections import defaultdict
 from pathlib import Path
 
-from bbeq_tools.cli import Words, run_script
+from bbeq_tools.cli import run_script
 from bbeq_tools.developing.definitions import CRATES, uses
+from bbeq_tools.words import Words
 
 HEAD = re.compile(r"^(?:pub )?([^\s:(){}]+) : ?(.*)$")
 WORD = re.compile(r"[^\s(){}\[\],.:;]+|[(){}\[\],.:;]")

@@ -5,8 +5,9 @@ the next. In the implementation the one in the middle is an instance of a module
 Scripts that need the texts of a report which begins with `make N` are given these."""
 import os
 
-from bbeq_tools.cli import Fault, Words, run_script
+from bbeq_tools.cli import Fault, run_script
 from bbeq_tools.developing.adders import WIDEST, made_texts
+from bbeq_tools.words import Words
 
 
 def command():

@@ -5,8 +5,9 @@ own. A law takes nothing and gives nothing: its contract is all that there is. `
 comments whole, and signatures and contracts as they stand in the code."""
 import re
 
-from bbeq_tools.cli import Words, run_script
+from bbeq_tools.cli import run_script
 from bbeq_tools.developing.definitions import CRATES
+from bbeq_tools.words import Words
 
 CALL = re.compile(r"^(?: {4})?(pub )?fn (\w+)")
 CLAUSE = re.compile(r"^\s+(ensures|requires)\b\*?\s*(\w*) ?\{")

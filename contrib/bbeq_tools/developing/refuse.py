@@ -9,8 +9,9 @@ import subprocess
 import sys
 import tempfile
 
-from bbeq_tools.cli import Fault, Words, run_script
+from bbeq_tools.cli import Fault, run_script
 from bbeq_tools.developing.allocations import Runs
+from bbeq_tools.words import Words
 
 MOST = 1000  # Runs, where not all are asked for.
 PAGE = 4096

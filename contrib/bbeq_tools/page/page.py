@@ -8,7 +8,7 @@ import tempfile
 from argparse import Namespace
 from typing import Dict, List, Optional, Set, Tuple
 
-from bbeq_tools.cli import Fault, Output, Words, run_script
+from bbeq_tools.cli import Fault, Output, run_script
 from bbeq_tools.page.account import Account, read_account
 from bbeq_tools.page.advice import Words as Said
 from bbeq_tools.page.browser import Browser
@@ -18,6 +18,7 @@ from bbeq_tools.page.sides import Side, check_fit
 from bbeq_tools.report.filler import Filler
 from bbeq_tools.report.reports import add_report_words, other_texts
 from bbeq_tools.report.unused import with_unused
+from bbeq_tools.words import Words
 
 WIDTH = 1000  # Of a picture, in pixels.
 

@@ -6,11 +6,12 @@ program, neither the reading of a text nor the netlist that is made of it, so th
 can be compared; and it is slow, so the texts have to be small."""
 import sys
 
-from bbeq_tools.cli import Fault, Words, run_script
+from bbeq_tools.cli import Fault, run_script
 from bbeq_tools.reference.truths import (CHECKS, MOST_CONTENTS, MOST_INPUTS, MOST_PINS, climb,
                                          pair_of)
 from bbeq_tools.report.reports import other_texts, read_report, tables
 from bbeq_tools.verilog.language import read_modules, top_of
+from bbeq_tools.words import Words
 
 
 def parse_words():

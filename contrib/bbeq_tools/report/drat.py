@@ -7,8 +7,9 @@ its number there."""
 import argparse
 from typing import Any, Dict, FrozenSet, List, Tuple
 
-from bbeq_tools.cli import Fault, Output, Words, run_script
+from bbeq_tools.cli import Fault, Output, run_script
 from bbeq_tools.report.reports import read_report
+from bbeq_tools.words import Words
 
 Clause = FrozenSet[int]
 Step = Tuple[int, List[Tuple[int, int]]]  # The first clause, and pairs of clause and variable.

@@ -13,12 +13,13 @@ puts it into a module with the name and the ports of the implementation."""
 import re
 import sys
 
-from bbeq_tools.cli import Fault, Output, Words, run_script
+from bbeq_tools.cli import Fault, Output, run_script
 from bbeq_tools.report.filler import STYLES, Filler
 from bbeq_tools.report.ports import around
 from bbeq_tools.report.reports import other_texts, read_filled, read_report, tables, verdict
 from bbeq_tools.report.unused import with_unused
 from bbeq_tools.verilog.language import read_modules, top_of
+from bbeq_tools.words import Words
 
 
 def parse_words():

@@ -1,16 +1,17 @@
 """What the scripts of this folder read from a report of bbeq (docs/REPORT.md): its lines, its
-tables, its vectors, and the filled implementation behind its verdict; and how they print one."""
+tables, its vectors, and the filled implementation behind its verdict."""
 import sys
 from typing import Dict, List, Optional, Tuple
 
-from bbeq_tools.cli import Fault, Words, write_bytes
+from bbeq_tools.cli import Fault
+from bbeq_tools.report.printed import is_verdict
+from bbeq_tools.words import Words
 
 Lines = List[str]
 Tables = Dict[str, List[Tuple[str, str]]]
 # The check, what is wrong as its kind and name, and the bits of the inputs.
 Vector = Tuple[Optional[str], Optional[Tuple[str, str]], Dict[str, str]]
 OTHER = "the report is of other texts: run bbeq on these and give its report"
-MOST_BITS = 4_096  # Of a table on a terminal.
 
 
 def add_report_words(parser: Words) -> None:
@@ -21,24 +22,6 @@ def add_report_words(parser: Words) -> None:
     parser.add_argument("implementation", metavar="IMPL", help="the implementation that bbeq read")
     parser.add_argument("--top-spec", help="the top module, as for bbeq")
     parser.add_argument("--top-impl", help="the top module, as for bbeq")
-
-
-def print_report(report: str) -> None:
-    """Prints a report byte for byte, on a terminal without the bits of long tables."""
-    if sys.stdout.isatty():
-        report = "".join(map(on_terminal, report.splitlines(keepends=True)))
-    write_bytes(report.encode("latin-1", "backslashreplace"))
-
-
-def on_terminal(line: str) -> str:
-    front, _, bits = line.rstrip("\n").rpartition(" ")
-    if not line.startswith("table ") or len(bits) <= MOST_BITS:
-        return line
-    return f"{front} .. ({len(bits):,} bits, which a report in a file has)\n"
-
-
-def is_verdict(line: str) -> bool:
-    return line in ("verdict error", "verdict open", "verdict repairable")
 
 
 def all_lines(path: str) -> Tuple[Lines, bool]:

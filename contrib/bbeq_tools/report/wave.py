@@ -10,10 +10,11 @@ import shutil
 import subprocess
 import tempfile
 
-from bbeq_tools.cli import Fault, Output, Words, run_script
+from bbeq_tools.cli import Fault, Output, run_script
 from bbeq_tools.report.buses import grouped, hexadecimal, shown
 from bbeq_tools.report.reports import OTHER, add_report_words, read_report, vectors, verdict
 from bbeq_tools.verilog.language import bit_text, read_modules, top_of, written
+from bbeq_tools.words import Words
 
 NARROW = 4  # Buses of fewer bits are shown bit by bit.
 

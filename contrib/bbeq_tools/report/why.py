@@ -9,7 +9,7 @@ must give, and at last which inputs and registers would tell the vectors apart. 
 their registers in the top, as those of `gates` have."""
 import tempfile
 
-from bbeq_tools.cli import Fault, Output, Words, run_script
+from bbeq_tools.cli import Fault, Output, run_script
 from bbeq_tools.program import find_program
 from bbeq_tools.report.alike import pin_texts, remedies, sight, told_answers
 from bbeq_tools.report.buses import shown
@@ -18,6 +18,7 @@ from bbeq_tools.report.possible import Possible, TooMany
 from bbeq_tools.report.reports import (add_report_words, read_report, vectors as shown_vectors,
                                        verdict)
 from bbeq_tools.report.restricted import Restricted
+from bbeq_tools.words import Words
 
 
 def parse_words():

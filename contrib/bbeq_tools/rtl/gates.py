@@ -10,13 +10,14 @@ import shutil
 import sys
 import tempfile
 
-from bbeq_tools.cli import Fault, Output, Words, run_script
+from bbeq_tools.cli import Fault, Output, run_script
 from bbeq_tools.rtl.marks import (mark_modules, mark_undefined, mark_words, name_stored,
                                   register_ports)
 from bbeq_tools.rtl.netlist import Netlist
 from bbeq_tools.rtl.sources import UNKNOWN, Sources, load, natural, place, run_yosys
 from bbeq_tools.rtl.undefined import add_care
 from bbeq_tools.rtl.writer import Writer
+from bbeq_tools.words import Words
 
 LATCHES = ("$dlatch", "$adlatch", "$dlatchsr", "$sr", "$_DLATCH", "$_SR_")
 RESETS = ("$adff", "$adffe", "$aldff", "$aldffe", "$dffsr", "$dffsre")

@@ -12,11 +12,12 @@ import subprocess
 import sys
 import tempfile
 
-from bbeq_tools.cli import Fault, Output, Words, run_script
+from bbeq_tools.cli import Fault, Output, run_script
 from bbeq_tools.program import find_program
 from bbeq_tools.rtl.ordering import best_order, runs
 from bbeq_tools.verilog.fan_in import FanIn
 from bbeq_tools.verilog.language import bit_text, read_modules, top_of, written
+from bbeq_tools.words import Words
 
 MOST_NODES = 50_000_000
 

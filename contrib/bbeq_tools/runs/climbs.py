@@ -1,7 +1,6 @@
 """What is tried of a pair that is open, what pays most first (docs/REPORT.md, "Where the verdict is
 open")."""
 import os
-import subprocess
 
 from bbeq_tools.cli import Fault, python_call
 
@@ -53,6 +52,7 @@ def order_command(specification, top, path):
 
 def ordered(job, folder):
     """The job with its specification's ports in the order of `order`."""
+    import subprocess
     path = os.path.join(folder, f"{job.name}.v")
     done = subprocess.run(order_command(job.specification, value_of(job.words, "top-spec", None),
                                         path), stderr=subprocess.DEVNULL, check=False)

@@ -1,12 +1,12 @@
 """A process that ends runs, and removes their folder, where the command that started them is
 killed: it reads a pipe whose other end the command alone has."""
 import os
-import shutil
 import signal
 
 
 class Guard:
     def __init__(self, folder):
+        self.folder = folder
         read, self.pipe = os.pipe()
         self.process = os.fork()
         if not self.process:
@@ -24,6 +24,10 @@ class Guard:
         os.write(self.pipe, b"-%d\n" % group)
 
     def close(self):
+        try:
+            os.rmdir(self.folder)  # An empty one does not have to wait for the other process.
+        except OSError:
+            pass
         os.close(self.pipe)
         os.waitpid(self.process, 0)
 
@@ -46,4 +50,6 @@ def watch(pipe, folder):
             os.killpg(group, signal.SIGKILL)
         except ProcessLookupError:
             pass
-    shutil.rmtree(folder, ignore_errors=True)
+    if os.path.exists(folder):
+        import shutil
+        shutil.rmtree(folder, ignore_errors=True)

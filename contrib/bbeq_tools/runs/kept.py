@@ -3,16 +3,13 @@ is made twice."""
 import hashlib
 import os
 import tempfile
-from signal import strsignal
-from typing import NamedTuple, Optional
+from typing import NamedTuple
 
 from bbeq_tools.cli import Fault
 from bbeq_tools.program import kind_of
-from bbeq_tools.report.reports import is_verdict
+from bbeq_tools.runs.answers import KEPT_STATUSES, Answer
 from bbeq_tools.runs.timed import OVER
 
-KEPT_STATUSES = (0, 1, 3)
-SHELL_SIGNALS = 128  # A shell adds this to the signal that ended its command.
 HEADER = "bbeq-kept"
 
 
@@ -23,41 +20,6 @@ class Job(NamedTuple):
     specification: str
     implementation: str
     words: tuple
-
-
-class Answer(NamedTuple):
-    """What came of a run; the status is None where its time was over."""
-
-    status: Optional[int]
-    seconds: float
-    memory: int
-    report: str
-    is_kept: bool = False
-
-    @property
-    def verdict(self):
-        """The verdict, or what ended the run without one."""
-        lines = self.report.splitlines()
-        found = next((line for line in lines if is_verdict(line)), None)
-        if self.status in KEPT_STATUSES and found:
-            return found.split()[1]
-        if self.status is None:
-            return f"no answer in {self.seconds:.1f} s"
-        if self.signal:
-            return f"ended by signal {self.signal} ({strsignal(self.signal) or 'unknown'})"
-        return lines[0] if lines else f"status {self.status}"
-
-    @property
-    def signal(self):
-        """The number of the signal that ended the run, or None; of a shell that ran the program it
-        is in the status."""
-        if self.status is None or 0 <= self.status <= SHELL_SIGNALS:
-            return None
-        return -self.status if self.status < 0 else self.status - SHELL_SIGNALS
-
-    @property
-    def is_decided(self):
-        return self.verdict in ("error", "repairable")
 
 
 def answer_of(words, report):

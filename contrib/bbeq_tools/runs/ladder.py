@@ -9,11 +9,12 @@ import json
 import sys
 import time
 
-from bbeq_tools.cli import Fault, Output, Words, run_script
+from bbeq_tools.cli import Fault, Output, run_script
 from bbeq_tools.program import find_program
-from bbeq_tools.report.reports import print_report
+from bbeq_tools.report.printed import print_report
 from bbeq_tools.runs.program_words import CHECKS, add_program_words, program_words
 from bbeq_tools.runs.timed import finished
+from bbeq_tools.words import Words
 
 LEFT_OUT = 7  # A check was ended at its limit, and those before it leave the question open.
 STATUSES = {"repairable": 0, "error": 1, "open": 3}

@@ -10,11 +10,12 @@ import os
 import subprocess
 import sys
 
-from bbeq_tools.cli import Fault, Words, run_script
+from bbeq_tools.cli import Fault, run_script
 from bbeq_tools.program import find_program
 from bbeq_tools.runs.folders import COLUMNS, check_folder, hashes, locked, rows, write_parts
 from bbeq_tools.runs.parting import pair_of
 from bbeq_tools.verilog.language import bit_text
+from bbeq_tools.words import Words
 
 
 def parse_words():

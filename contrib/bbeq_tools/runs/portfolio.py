@@ -5,19 +5,20 @@ import signal
 import sys
 import time
 
-from bbeq_tools.runs.kept import Answer
+from bbeq_tools.runs.answers import Answer
 from bbeq_tools.runs.timed import Started
 
 TOLD_EACH = 4  # Seconds between lines of progress.
-TICK, LEAST_SLICE = 0.02, 0.25  # Seconds.
-HANDICAP = 1.0  # Seconds that a way waits which has to make texts first.
+TICK, LEAST_SLICE = 0.1, 0.25  # Seconds.
+# A way that has to make texts first begins after so many seconds, and counts as having had more.
+DELAY, HANDICAP = 0.3, 1.0
 
 
 def available_memory():
     """The bytes that are free on this machine, or in the control group where that has fewer."""
-    with open("/proc/meminfo", encoding="ascii") as file:
-        lines = dict(line.split(":") for line in file)
-    free = int(lines["MemAvailable"].split()[0]) * 1024
+    with open("/proc/meminfo", "rb") as file:
+        lines = dict(line.split(b":") for line in file)
+    free = int(lines[b"MemAvailable"].split()[0]) * 1024
     most, used = group_memory("max"), group_memory("current")
     return free if most is None or used is None else min(free, max(most - used, 0))
 
@@ -25,7 +26,7 @@ def available_memory():
 def group_memory(name):
     """A number of bytes of the control group, or None where it has none."""
     try:
-        with open(f"/sys/fs/cgroup/memory.{name}", encoding="ascii") as file:
+        with open(f"/sys/fs/cgroup/memory.{name}", "rb") as file:
             return int(file.read())
     except (OSError, ValueError):
         return None
@@ -33,7 +34,7 @@ def group_memory(name):
 
 def resident(process):
     try:
-        with open(f"/proc/{process}/statm", encoding="ascii") as file:
+        with open(f"/proc/{process}/statm", "rb") as file:
             return int(file.read().split()[1]) * os.sysconf("SC_PAGE_SIZE")
     except (OSError, IndexError, ValueError):
         return 0
@@ -42,8 +43,9 @@ def resident(process):
 class Turn:
     """A way, the run that it wants or has, and the seconds that its runs had."""
 
-    def __init__(self, name, way, handicap):
-        self.name, self.way, self.seconds = name, way, handicap
+    def __init__(self, name, way, is_slow):
+        self.name, self.way, self.is_slow = name, way, is_slow
+        self.seconds = HANDICAP * is_slow
         self.run, self.is_running, self.attempt = None, False, None
         self.answer, self.found = None, []
         self.take(None)
@@ -64,6 +66,10 @@ class Turn:
         said = why or (", ".join(rung[5:] for rung in rungs) if rungs else answer.verdict)
         self.found.append((self.attempt, answer, said))
 
+    def told(self):
+        return [(attempt, answer, said) for attempt, answer, said in self.found
+                if attempt.is_told or answer.status != 3]
+
     def go_on(self, budget, guard):
         if self.run is None:
             self.run = Started(self.attempt.command, budget, self.attempt.is_quiet, guard)
@@ -75,6 +81,10 @@ class Turn:
         if self.run is not None and self.is_running:
             self.run.send(signal.SIGSTOP)
         self.is_running = False
+
+    def kill(self):
+        if self.run is not None:
+            self.run.send(signal.SIGKILL)
 
     def close(self, guard):
         """Ends its run, and gives what it printed."""
@@ -88,22 +98,30 @@ class Turn:
 
 class Portfolio:
     def __init__(self, ways, jobs, budget, guard, slow=()):
-        self.turns = [Turn(name, way, HANDICAP * (name in slow)) for name, way in ways.items()]
+        self.turns = [Turn(name, way, name in slow) for name, way in ways.items()]
         self.jobs, self.budget, self.guard = jobs, budget, guard
         self.began = self.told = self.chosen = self.looked = time.monotonic()
         self.known = ""
 
     def solve(self, limit):
         """The turn that has the answer that decides, or None. `limit` is the time at which there
-        has to be one."""
+        has to be one. The signal that a run has ended is held back until it is waited for."""
+        signal.signal(signal.SIGCHLD, signal.SIG_DFL)
+        others = signal.pthread_sigmask(signal.SIG_BLOCK, {signal.SIGCHLD})
+        try:
+            return self.take_turns(limit)
+        finally:
+            signal.pthread_sigmask(signal.SIG_SETMASK, others)
+
+    def take_turns(self, limit):
         is_new = True
         while left := [turn for turn in self.turns if turn.is_left]:
             now = time.monotonic()
             if limit is not None and now >= limit:
                 return None
             self.account(now)
-            if is_new or now - self.chosen >= max(LEAST_SLICE, (now - self.began) / 20):
-                self.choose(left)
+            if is_new or now >= self.next_choice():
+                self.choose(left, now)
                 self.chosen = now
             self.tell(now)
             is_new = False
@@ -115,8 +133,25 @@ class Portfolio:
                         return turn
             is_new = self.bound_memory() or is_new
             if not is_new:
-                time.sleep(min(TICK, 0.002 + (now - self.began) / 20))
+                wakes = [now + TICK, self.next_choice(), self.told + TOLD_EACH,
+                         *([limit] if limit is not None else [])]
+                signal.sigtimedwait({signal.SIGCHLD}, max(min(wakes) - now, 0))
         return None
+
+    def next_choice(self):
+        """The time at which others may take their turn."""
+        begun = self.began + DELAY
+        return (begun if self.chosen < begun else
+                self.chosen + max(LEAST_SLICE, (self.chosen - self.began) / 20))
+
+    def decided_soon(self, name, seconds):
+        """The turn of this name, if its run decides within so many seconds."""
+        turn = next(turn for turn in self.turns if turn.name == name)
+        if turn.run is not None:
+            turn.go_on(self.budget, self.guard)
+            if turn.run.wait(seconds):
+                self.take(turn)
+        return turn if turn.answer else None
 
     def account(self, now):
         for turn in self.turns:
@@ -133,9 +168,11 @@ class Portfolio:
             turn.note(answer, answer.verdict if answer.signal else None)
         turn.take(answer)
 
-    def choose(self, left):
+    def choose(self, left, now):
         """Lets those go on that have had the least time, as far as there is memory for all that
         have begun."""
+        if now < self.began + DELAY:
+            left = [turn for turn in left if not turn.is_slow] or left
         begun = sum(turn.attempt.memory for turn in left if turn.run is not None)
         chosen = []
         for turn in sorted(left, key=lambda turn: turn.seconds):
@@ -172,22 +209,28 @@ class Portfolio:
         if now - self.told < TOLD_EACH:
             return
         self.told = now
-        runs = [f"{turn.attempt.label} ({now - turn.run.began:.0f} s, "
+        runs = [f"{turn.attempt.label} ({max(now - turn.run.began, 0):.0f} s, "
                 f"{told_bytes(resident(turn.run.group))}{'' if turn.is_running else ', waits'})"
                 for turn in self.turns if turn.run is not None]
         print(f"solve: {now - self.began:.0f} s: {'; '.join(runs)}", file=sys.stderr, flush=True)
-        known = "; ".join(told_found(found) for turn in self.turns for found in turn.found[-1:])
+        known = "; ".join(told_found(found) for turn in self.turns for found in turn.told()[-1:])
         if known and known != self.known:
             print(f"solve:   so far {known}", file=sys.stderr, flush=True)
             self.known = known
 
+    def kill(self):
+        for turn in self.turns:
+            turn.kill()
+
     def close(self):
+        self.kill()
         for turn in self.turns:
             if turn.run is not None:
                 turn.close(self.guard)
 
     def found(self):
-        return [found for turn in self.turns for found in turn.found]
+        """What is worth telling of what the runs found."""
+        return [found for turn in self.turns for found in turn.told()]
 
 
 def told_found(found):

@@ -11,13 +11,14 @@ import shlex
 import sys
 from fcntl import LOCK_SH
 
-from bbeq_tools.cli import Fault, Misuse, Words, run_script
-from bbeq_tools.report.reports import print_report
+from bbeq_tools.cli import Fault, Misuse, run_script
+from bbeq_tools.report.printed import print_report
 from bbeq_tools.runs.folders import SIDES, locked, read_parts
 from bbeq_tools.runs.joined import STATUSES, joined
 from bbeq_tools.runs.kept import Job
 from bbeq_tools.runs.program_words import unknown_word
 from bbeq_tools.runs.runs import CLIMB_SECONDS, Runs
+from bbeq_tools.words import Words
 
 REFUSED = ("fill", "make", "rup", "proof")
 NOT_AS_LISTED = 7

@@ -1,47 +1,52 @@
 """The ways in which `solve` asks the program: each is a generator that yields its runs one after
 another, is sent the answer of each, and returns the answer that decides, or None."""
 import os
-from typing import NamedTuple, Tuple
+from collections import namedtuple
 
 from bbeq_tools.cli import python_call
+from bbeq_tools.runs.answers import Answer
 from bbeq_tools.runs.climbs import (MOST_CLAUSES, MOST_NODES, budgets, order_command,
                                     wants_clauses)
-from bbeq_tools.runs.folders import read_parts
-from bbeq_tools.runs.joined import joined
-from bbeq_tools.runs.kept import Answer, contents
 
-FIRST_CLAUSES, USUAL_CLAUSES = 20_000, 2_000_000
+FIRST_CLAUSES = 20_000
 FIRST_NODES = 100_000
-CLAUSE_BYTES, NODE_BYTES, LEAST_BYTES = 400, 28, 50_000_000  # Of memory, as measured.
-BY_PARTS, BY_ORDER = "parts", "ordered"
+CLAUSE_BYTES, NODE_BYTES, TEXT_BYTES = 400, 24, 20  # Of memory, for each byte of the texts too.
+LEAST_BYTES = 50_000_000
+READING, BY_PARTS, BY_ORDER = "reading", "parts", "ordered"
+
+# A run: what it is called, its command, how much memory it may take, whether it is no run of the
+# program, so that what it says on standard error is of no use, and whether it is worth telling
+# where it was open.
+Attempt = namedtuple("Attempt", "label command memory is_quiet is_told",
+                     defaults=(LEAST_BYTES, False, True))
 
 
-class Attempt(NamedTuple):
-    """A run: what it is called, its command, how much memory it may take, and whether it is no run
-    of the program, so that what it says on standard error is of no use."""
-
-    label: str
-    command: Tuple[str, ...]
-    memory: int = LEAST_BYTES
-    is_quiet: bool = False
-
-
-class Request(NamedTuple):
+class Request(namedtuple("Request", """program words specification implementation folder memory
+                                       most_nodes most_clauses""",
+                         defaults=(MOST_NODES, MOST_CLAUSES))):
     """What is asked: the program, the words for all its runs, the two files, a folder for texts
-    that are made, the most nodes and clauses, and the memory that the first run took."""
-
-    program: str
-    words: Tuple[str, ...]
-    specification: str
-    implementation: str
-    folder: str
-    most_nodes: int = MOST_NODES
-    most_clauses: int = MOST_CLAUSES
-    memory: int = LEAST_BYTES
+    that are made, the memory for all runs together, and the most nodes and clauses."""
 
     def attempt(self, label, words, memory=0):
         command = (self.program, *self.words, *words, "--", self.specification, self.implementation)
-        return Attempt(label, command, self.memory + memory)
+        return Attempt(label, command, self.reading_memory() + memory)
+
+    def reading_memory(self):
+        """What the program takes to read the two files."""
+        return LEAST_BYTES + TEXT_BYTES * sum(
+            os.path.getsize(path) for path in (self.specification, self.implementation)
+            if os.path.exists(path))
+
+    def clause_budgets(self):
+        """At once as many clauses as half of the memory has room for: with fewer the run is the
+        same, but may end too early."""
+        return growing(max(FIRST_CLAUSES, self.memory // 2 // CLAUSE_BYTES), self.most_clauses, 100)
+
+    def node_budgets(self, is_one):
+        """The same where there is one check. Of several the earlier ones should give up soon, since
+        a later one may need fewer nodes."""
+        room = self.memory // 8 // NODE_BYTES if is_one else 0
+        return growing(max(FIRST_NODES, room), self.most_nodes, 16)
 
     def top(self, side):
         found = [word.partition("=")[2]
@@ -49,19 +54,20 @@ class Request(NamedTuple):
         return found[0] if found else None
 
 
-def first_run(request):
-    """The cheapest check, which reads the pair: what it refuses ends all."""
-    return request.attempt("ternary", ("--to=ternary",))
+def by_reading(request):
+    """The cheapest check: what it refuses ends all."""
+    answer = yield request.attempt("ternary", ("--to=ternary",))._replace(is_told=False)
+    return answer if answer.status != 3 and not answer.signal else None
 
 
-def clause_budgets(most):
-    """Few clauses, and then as many as bbeq has by itself: what lies between often took longer than
-    these, and decided nothing."""
-    return [FIRST_CLAUSES, *budgets(USUAL_CLAUSES, most)] if most > FIRST_CLAUSES else [most]
+def growing(first, most, factor):
+    """Budgets up to the most that there may be, without one that is nearly as large."""
+    return [budget for budget in budgets(min(first, most), most, factor)
+            if budget == most or 4 * budget <= most]
 
 
 def by_clauses(request):
-    for clauses in clause_budgets(request.most_clauses):
+    for clauses in request.clause_budgets():
         answer = yield request.attempt(f"expand with {clauses} clauses",
                                        ("--from=expand", f"--clauses={clauses}"),
                                        clauses * CLAUSE_BYTES)
@@ -71,14 +77,18 @@ def by_clauses(request):
 
 
 def by_nodes(request, first, last, note=""):
-    """The checks by diagrams from the first to the last."""
-    label = last if first == last else f"{first} to {last}"
-    for nodes in budgets(FIRST_NODES, request.most_nodes):
+    """The checks by diagrams from the first to the last. With more nodes they go on at the first
+    that had too few."""
+    for nodes in request.node_budgets(first == last):
+        label = last if first == last else f"{first} to {last}"
         answer = yield request.attempt(f"{label}{note} with {nodes} nodes",
                                        (f"--from={first}", f"--to={last}", f"--nodes={nodes}"),
                                        nodes * NODE_BYTES)
-        if answer.is_decided or f"rung {last} nodes" not in answer.report.splitlines():
+        lines = answer.report.splitlines()
+        if answer.is_decided or f"rung {last} nodes" not in lines:
             return answer if answer.is_decided else None
+        first = next(line.split()[1] for line in lines
+                     if line.startswith("rung ") and line.endswith(" nodes"))
     return None
 
 
@@ -87,6 +97,7 @@ def by_order(request):
     path = os.path.join(request.folder, "ordered.v")
     command = order_command(request.specification, request.top("spec"), path)
     answer = yield Attempt("order", tuple(command), is_quiet=True)
+    from bbeq_tools.runs.kept import contents
     if answer.status != 0 or contents(path) == contents(request.specification):
         return None
     ordered = request._replace(specification=path)
@@ -102,6 +113,8 @@ def by_parts(request):
     answer = yield Attempt("parts", (*python_call("runs.parts"), "-o", folder, *own, "--",
                                      request.specification, request.implementation),
                            is_quiet=True)
+    from bbeq_tools.runs.folders import read_parts
+    from bbeq_tools.runs.joined import joined
     pair = read_parts(folder) if answer.status == 0 else {"parts": 1}
     if pair["parts"] < 2:
         return None
@@ -116,11 +129,12 @@ def by_parts(request):
 
 
 def part_request(request, number):
-    """A part has a top of its own, and is called by its number."""
+    """A part has a top of its own, and is called by its number. Its budgets grow from the least,
+    since its checks take turns."""
     place = os.path.join(request.folder, "parts", str(number))
     words = tuple(word for word in request.words if not word.startswith("--top-"))
     return request._replace(words=words, specification=os.path.join(place, "spec.v"),
-                            implementation=os.path.join(place, "impl.v"))
+                            implementation=os.path.join(place, "impl.v"), memory=0)
 
 
 def in_turn(request, number):
@@ -166,7 +180,8 @@ def all_parts(ways):
 def ways_of(request, is_whole):
     """The ways by their names, those that promise most first. A report that is to have more than
     the lines on the pair is never joined of parts."""
-    found = {"expand": by_clauses(request), "input": by_nodes(request, "input", "input"),
+    found = {READING: by_reading(request), "expand": by_clauses(request),
+             "input": by_nodes(request, "input", "input"),
              "symbolic to output": by_nodes(request, "symbolic", "output"),
              BY_ORDER: by_order(request)}
     if not is_whole:

@@ -13,9 +13,10 @@ import difflib
 import re
 from typing import Any, Dict, Iterable, List, Optional, Set, Tuple
 
-from bbeq_tools.cli import Output, Words, run_script
+from bbeq_tools.cli import Output, run_script
 from bbeq_tools.verilog.fan_in import FanIn
 from bbeq_tools.verilog.language import Module, Net, read_modules, top_of
+from bbeq_tools.words import Words
 
 KINDS = ("input", "output", "register")
 
