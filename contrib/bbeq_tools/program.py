@@ -33,8 +33,12 @@ def built_here() -> tuple[str, str]:
         return "", ""
     if CACHE is None:
         return found_here()
-    here = os.stat(TOP)
-    path = os.path.join(CACHE, "found", f"{here.st_dev}-{here.st_ino}")
+    here, folder = os.stat(TOP), os.path.join(CACHE, "found")
+    try:
+        os.makedirs(folder, exist_ok=True)
+    except OSError:
+        return found_here()
+    path = os.path.join(folder, f"{here.st_dev}-{here.st_ino}")
     known = read_words(path)
     if len(known) == 3 and known[0] == str(state_here(CACHE)) and is_program(known[2]):
         return known[1], known[2]
@@ -96,7 +100,6 @@ def write_words(path: str, words: list[str]) -> None:
     """Writes them, where that can be done."""
     beside = f"{path}.{os.getpid()}"
     try:
-        os.makedirs(os.path.dirname(path), exist_ok=True)
         with open(beside, "w", encoding="utf-8", errors="surrogateescape") as file:
             file.write("\n".join(words))
         os.replace(beside, path)

@@ -133,6 +133,12 @@ class Solve(Tries):
         with subprocess.Popen(["cp", spec, pipe]):
             done = run([script("solve"), pipe, implementation])
         self.note("solve of a pipe", done.status == 0, done.why())
+        words = shlex.join([script("solve"), spec, implementation])
+        for closed, status in (("<&-", 0), ("2>&-", 0), ("<&- 2>&-", 0), (">&-", 125),
+                               ("<&- >&-", 125)):
+            done = run(["sh", "-c", f"{words} {closed}"])
+            self.note(f"solve {closed}", done.status == status and verdict(done.out)
+                      == ["verdict repairable"] * (not status), done.why())
 
     def program(self, text):
         """Where a script stands for the program, and a folder for what `solve` makes."""
@@ -156,8 +162,9 @@ class Solve(Tries):
                           done.status == 0 and is_gone(self.folder, place), done.why())
         env, place = self.slow("nothing")
         done = run([*words, "--limit", "6"], env=env)
-        self.note("solve --limit", done.status == 7 and not done.out and "nothing decided" in
-                  done.err and re.search(r" [45] s: ", done.err) and is_gone(self.folder, place), done.why())
+        self.note("solve --limit", done.status == 7 and not done.out
+                  and "nothing decided" in done.err and re.search(r" [45] s: ", done.err)
+                  and is_gone(self.folder, place), done.why())
 
     def test_open(self):
         """Where each run has ended the report is that of one that is open, and what none of them

@@ -8,7 +8,9 @@ import sys
 import tempfile
 import time
 import unittest
+from unittest import mock
 
+from bbeq_tools import program
 from bbeq_tools.cli import Fault, Output, python_call
 from bbeq_tools.runs import timed
 from bbeq_tools.runs.answers import Answer
@@ -141,6 +143,26 @@ class Reports(Place):
         self.assertEqual((lines[:2], lines[-1], status),
                          (["parts 2", "part 2 no answer"], "verdict open", 3))
         self.assertEqual(padded("rung local none", ["a"]), "rung local none")
+
+
+class Found(Place):
+    def test_kept(self):
+        """The search for the program is made again after a change of a source alone."""
+        os.makedirs(os.path.join(self.folder, "crates", "bb", "src"))
+        source = self.put(os.path.join("crates", "bb", "src", "lib.rt"), "one")
+        find = self.put("find", "#!/bin/sh\necho >>$0.log\necho proved /bin/sh\n")
+        os.chmod(find, 0o755)
+        log = f"{find}.log"
+        with mock.patch.multiple(program, TOP=self.folder, FIND=find,
+                                 CACHE=os.path.join(self.folder, "cache")):
+            for text, count in (("one", 1), ("two", 2), ("three", 3)):
+                self.put(source, text)
+                for _ in range(2):
+                    self.assertEqual(program.built_here(), ("proved", "/bin/sh"))
+                self.assertEqual(len(self.text(log)), count)
+            os.remove(source)
+            program.built_here()
+            self.assertEqual(len(self.text(log)), 4)
 
 
 class Options(unittest.TestCase):

@@ -7,6 +7,10 @@ import signal
 class Guard:
     def __init__(self, folder):
         self.folder = folder
+        # The pipe is no standard stream, where the caller has closed one.
+        while (nothing := os.open(os.devnull, os.O_RDWR)) < 3:
+            pass
+        os.close(nothing)
         read, self.pipe = os.pipe()
         self.process = os.fork()
         if not self.process:

@@ -11,7 +11,7 @@ from bbeq_tools.runs.timed import Started
 TOLD_EACH = 4  # Seconds between lines of progress.
 TICK, LEAST_SLICE = 0.1, 0.25  # Seconds.
 # A way that has to make texts first begins after so many seconds, and counts as having had more.
-DELAY, HANDICAP = 0.3, 1.0
+DELAY, HANDICAP = 0.1, 1.0
 
 
 def available_memory():

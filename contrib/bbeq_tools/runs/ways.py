@@ -182,8 +182,7 @@ def ways_of(request, is_whole):
     the lines on the pair is never joined of parts."""
     found = {READING: by_reading(request), "expand": by_clauses(request),
              "input": by_nodes(request, "input", "input"),
-             "symbolic to output": by_nodes(request, "symbolic", "output"),
-             BY_ORDER: by_order(request)}
+             "symbolic to output": by_nodes(request, "symbolic", "output")}
     if not is_whole:
         found[BY_PARTS] = by_parts(request)
-    return found
+    return {**found, BY_ORDER: by_order(request)}
