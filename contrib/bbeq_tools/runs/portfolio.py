@@ -10,8 +10,7 @@ from bbeq_tools.runs.timed import Started
 
 TOLD_EACH = 4  # Seconds between lines of progress.
 TICK, LEAST_SLICE = 0.1, 0.25  # Seconds.
-# A way that has to make texts first begins after so many seconds, and counts as having had more.
-DELAY, HANDICAP = 0.1, 1.0
+DELAY = 0.1  # Seconds after which a way begins that has to make texts first.
 
 
 def available_memory():
@@ -43,9 +42,9 @@ def resident(process):
 class Turn:
     """A way, the run that it wants or has, and the seconds that its runs had."""
 
-    def __init__(self, name, way, is_slow):
-        self.name, self.way, self.is_slow = name, way, is_slow
-        self.seconds = HANDICAP * is_slow
+    def __init__(self, name, way, handicap):
+        self.name, self.way, self.is_slow = name, way, handicap is not None
+        self.seconds = handicap or 0.0
         self.run, self.is_running, self.attempt = None, False, None
         self.answer, self.found = None, []
         self.take(None)
@@ -97,8 +96,11 @@ class Turn:
 
 
 class Portfolio:
-    def __init__(self, ways, jobs, budget, guard, slow=()):
-        self.turns = [Turn(name, way, name in slow) for name, way in ways.items()]
+    """The ways by their names. `slow` has those that have to make texts first, each with the
+    seconds that it counts as having had."""
+
+    def __init__(self, ways, jobs, budget, guard, slow=None):
+        self.turns = [Turn(name, way, (slow or {}).get(name)) for name, way in ways.items()]
         self.jobs, self.budget, self.guard = jobs, budget, guard
         self.began = self.told = self.chosen = self.looked = time.monotonic()
         self.known = ""

@@ -203,7 +203,7 @@ def solve(words, program, folder, guard):
     request = Request(program, tuple(words.others), *files, folder, budget,
                       int(words.nodes or MOST_NODES), int(words.clauses or MOST_CLAUSES))
     portfolio = Portfolio(ways_of(request, words.fill or words.proof), words.jobs, budget, guard,
-                          (BY_ORDER, BY_PARTS))
+                          {BY_PARTS: 0.5, BY_ORDER: 1.0})
     try:
         answer = answer_of(portfolio, request, began, until)
         if answer:
