@@ -9,7 +9,7 @@ from bbeq_tools.page.browser import Browser, find_browser
 from bbeq_tools.report.reports import tables
 from tests.pages import NAMES, PAIRS, made
 from tests.test_bad_input import NAMES as FILES
-from tests.tries import Tries, bbeq, is_told, read, run, script, write
+from tests.tries import Tries, bare_path, bbeq, is_told, read, run, script, write
 
 VOID = {"meta", "br", "path", "line", "rect", "circle", "polygon", "polyline"}
 MOST_BYTES, MOST_SECONDS, CELLS = 2_000_000, 2.0, 100_000
@@ -140,10 +140,7 @@ class Pages(Tries):
 
     def test_without_dot(self):
         pair = made(self.folder, "ternary")
-        tools = os.path.join(self.folder, "bin")
-        os.makedirs(tools)
-        for name in ("python3", "readlink"):
-            os.symlink(shutil.which(name), os.path.join(tools, name))
+        tools = bare_path(os.path.join(self.folder, "bin"))
         done = run([script("page"), *pair.words], env={**os.environ, "PATH": tools})
         self.note("without graphviz the page says so", "graphviz" in done.out
                   and "<svg" in done.out and 'class="gate"' not in done.out, done.why())

@@ -8,7 +8,8 @@ import subprocess
 import time
 
 from bbeq_tools.developing.lanes import lanes_pair
-from tests.tries import BBEQ, LIMIT, Tries, bbeq, example, is_told, read, run, script, write
+from tests.tries import (BBEQ, LIMIT, Tries, bare_path, bbeq, example, is_told, read, run, script,
+                         write)
 
 SLOW = ('#!/bin/sh\ncase "$*" in *clauses=0*) ;; *) echo $$ >> "$0.started"; sleep 1;; esac\nexec '
         + BBEQ + ' "$@"\n')
@@ -229,11 +230,7 @@ def ended_try(tally, folder):
 def engine_try(tally, folder):
     """Without GNU parallel one run goes after another; hosts are asked by it alone."""
     made = lanes_in(folder)[2]
-    place = os.path.join(folder, "bin")
-    os.mkdir(place)
-    for name in ("python3", "readlink"):
-        os.symlink(shutil.which(name), os.path.join(place, name))
-    env = {**os.environ, "PATH": place}
+    env = {**os.environ, "PATH": bare_path(os.path.join(folder, "bin"))}
     done = run([script("run"), made, "--kept", os.path.join(folder, "alone")], env=env)
     tally.note("without parallel", done.status == 0 and counts(done) == "0 kept, 4 run", done.why())
     here, nowhere = write(folder, "here", ":\n"), write(folder, "hosts", "# none\n")

@@ -1,13 +1,12 @@
 """The tries of `fill`, `wave`, `order`, `drat`, `lrat` and `refuse`."""
 import os
 import re
-import shutil
 
 from bbeq_tools.report.buses import shown
 from bbeq_tools.report.filler import STYLES
 from bbeq_tools.report.reports import vectors
-from tests.tries import (BBEQ, DESIGNS, SMALL_PROOF, Tries, bbeq, designs_in, example, is_told,
-                         read, run, script, write)
+from tests.tries import (BBEQ, DESIGNS, SMALL_PROOF, Tries, bare_path, bbeq, designs_in, example,
+                         is_told, read, run, script, write)
 
 # fill
 
@@ -325,9 +324,8 @@ class Refuse(Tries):
                              "a program that is not there"), ([BBEQ, "a"], "words without --")):
             done = run([script("refuse"), *words])
             self.note(f"refuse refuses {what}", is_told(done, "refuse"), done.why())
-        for name in ("python3", "readlink"):
-            os.symlink(shutil.which(name), os.path.join(self.folder, name))
-        done = run([script("refuse"), BBEQ, "--", "a"], env={**os.environ, "PATH": self.folder})
+        done = run([script("refuse"), BBEQ, "--", "a"],
+                   env={**os.environ, "PATH": bare_path(os.path.join(self.folder, "bin"))})
         self.note("refuse without cc",
                   is_told(done, "refuse") and "cc is not installed" in done.err, done.why())
         done = run([script("fuzz"), "--no-such-word"])

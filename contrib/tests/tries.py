@@ -3,6 +3,7 @@ import os
 import shutil
 import signal
 import subprocess
+import sys
 import tempfile
 import unittest
 
@@ -83,6 +84,14 @@ def take_signals():
     wait for."""
     for number in (signal.SIGINT, signal.SIGHUP):
         signal.signal(number, signal.SIG_DFL)
+
+
+def bare_path(folder):
+    """A PATH that has nothing but what starts a command; python3 may be a shim there."""
+    os.makedirs(folder, exist_ok=True)
+    for name, target in (("python3", sys.executable), ("readlink", shutil.which("readlink"))):
+        os.symlink(target, os.path.join(folder, name))
+    return folder
 
 
 def script(name):
