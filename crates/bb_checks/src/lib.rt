@@ -29,5 +29,5 @@ pub use laws::{
     repairs_make_equivalent, staying_open_is_reported, tables_are_given_once, texts_fix_tables,
 };
 pub use line::{CheckResult, Evidence, Line, Proof};
-pub use reporting::report;
+pub use reporting::{push_inputs, report};
 pub use verdict::{Verdict, given_tables, verdict_of};

@@ -40,7 +40,8 @@ fn push_input(text: &mut Vec<u8>, name: &Name, bit: bool) -> Result<(), NoMemory
     push_bit(text, bit)
 }
 
-fn push_inputs(text: &mut Vec<u8>, names: &[Name], x: &[bool]) -> Result<(), NoMemory>
+/// Appends ` NAME=BIT` for each name.
+pub fn push_inputs(text: &mut Vec<u8>, names: &[Name], x: &[bool]) -> Result<(), NoMemory>
     requires bits { length x.now ≡ length names.now }
     ensures text { OnOk result (text.new.items ≡ text.old.items ++ flat_map printed_input (zip names.now x.now)) }
 {

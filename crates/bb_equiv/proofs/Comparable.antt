@@ -65,11 +65,11 @@ module _ (of : DesignLaws) (d : Design) (good : IsAllowed d) (contents : Content
   follows_same b c (inl same) = ap (bit_in w) same
   follows_same b c (inr leads) = leads_same b c leads
 
-goes_by : DesignLaws → (d : Design) → IsAllowed d → (r : RegisterBit) (b : Bit) → IsClockedBy d r b → IsClockedByInput d r b
+pub goes_by : DesignLaws → (d : Design) → IsAllowed d → (r : RegisterBit) (b : Bit) → IsClockedBy d r b → IsClockedByInput d r b
 goes_by of d good r b is = λ contents w fit world. ap (bits_in w) is.is ∙ ap (λ v. v ∷ []) (follows_same of d good contents w fit world is.clock b is.comes)
 
 -- a netlist that implements the design settles it
-settled : LowerLaws → {d : Design} {f : FlatNet} {contents : Contents} {tables : List TableBits} → IsFilled d f contents tables → AreSettled d contents
+pub settled : LowerLaws → {d : Design} {f : FlatNet} {contents : Contents} {tables : List TableBits} → IsFilled d f contents tables → AreSettled d contents
 settled laws filled = record {
   some = λ x. some_world laws filled x;
   one = λ x w v is_w has_w is_v has_v. out_bits laws filled x w is_w has_w ∙ sym (out_bits laws filled x v is_v has_v);

@@ -10,6 +10,7 @@ pub mod DesignPairs
 pub mod FirstAcross
 pub mod FittingPairs
 pub mod FreeOutputs
+pub mod InvariantRuns
 pub mod LessOutputs
 pub mod Mistakes
 pub mod NamedPairs
@@ -23,4 +24,7 @@ pub mod SharedContents
 pub mod ShownByEvents
 pub mod SomeCounterexamples
 pub mod SpelledContents
+pub mod UnrolledBits
+pub mod UnrolledEvents
+pub mod UnrolledInvariants
 pub mod WorldOutputs

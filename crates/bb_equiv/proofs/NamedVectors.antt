@@ -23,11 +23,11 @@ use Rattle.bb_net.specs.CutPoints.{CutInput, TopInput, State, CutOutput, TopOutp
 use Rattle.bb_lemmas.proofs.Apart.{pairs_tail}
 
 -- the place of a text in a list
-place : List (List ℕ) → List ℕ → ℕ
+pub place : List (List ℕ) → List ℕ → ℕ
 place [] t = 0
 place (n ∷ ns) t = if same_name n t then 0 else suc (place ns t)
 
-place-at : (ns : List (List ℕ)) (k : ℕ) (t : List ℕ) → AllPairs ◌≢◌ ns → slice_get ns k ≡ Some t → place ns t ≡ k
+pub place-at : (ns : List (List ℕ)) (k : ℕ) (t : List ℕ) → AllPairs ◌≢◌ ns → slice_get ns k ≡ Some t → place ns t ≡ k
 unfolding place
 place-at [] k t apart at = cc at
 place-at (n ∷ ns) zero t apart at = let same : n ≡ t = cc at in ap (λ b. if b then 0 else suc (place ns t)) ((bytes_eq-Decides n t).1 same)
@@ -45,7 +45,7 @@ place-at (n ∷ ns) (suc k) t apart at =
 
 module _ (f : FlatNet) (flat : IsFlat f) (xs : List Bool) (long : length xs ≡ length (cut_inputs f)) where
   -- the vector that gives the bits of the list
-  pub vector_of : Vector
+  unfoldable pub vector_of : Vector
   vector_of (TopInput t) = bit_of xs (place f.ins t)
   vector_of (State t) = bit_of xs (length f.ins + place (state_texts f) t)
 

@@ -22,7 +22,7 @@ use Rattle.bb_equiv.specs.Laws.Runs.{EquivalentDesignsRunTheSame, ComparableDesi
 use Rattle.bb_equiv.specs.Runs.{Event, HaveSameStates, IsEvent, NoEvent, OneMore, Runs, Observation, ShowTheSame, States, Stores, seen_at}
 use Rattle.bb_equiv.proofs.OneBit.{one_bit, place}
 
-some_one : (a b : Bool) → Some a ≡ Some b → a ≡ b
+pub some_one : (a b : Bool) → Some a ≡ Some b → a ≡ b
 some_one a b e = cc e
 
 -- an input has the edge, or it has not
@@ -149,7 +149,7 @@ module _ (care : Option (List ℕ)) (spec imp : Design) (contents : Contents) (c
 -- where each register has a clock and there are worlds, there are runs
 module _ (d : Design) (contents : Contents) (allowed : IsAllowed d) (fit : FitDesign d contents) (settled : AreSettled d contents)
     (clocked : (r : RegisterBit) → Contains (registers d) r → (b : Bit) × Contains (top_inputs d) b × IsClockedByInput d r b) where
-  stores_here : (event : Event) (r : RegisterBit) → Contains (registers d) r → Stores d event r ⊎ (Stores d event r → ⊥)
+  pub stores_here : (event : Event) (r : RegisterBit) → Contains (registers d) r → Stores d event r ⊎ (Stores d event r → ⊥)
   stores_here event r in_r =
       let (b, in_b, goes) = clocked r in_r in
       elim (same_edge (event.edges (bit_text d b)) r.item.falling) [
@@ -158,19 +158,19 @@ module _ (d : Design) (contents : Contents) (allowed : IsAllowed d) (fit : FitDe
       ]
 
   -- the register of a text, if there is one
-  abbrev register_of : List ℕ → Option RegisterBit
+  abbrev pub register_of : List ℕ → Option RegisterBit
   register_of n = find (λ r. same_name (bit_text d r.bit) n) (registers d)
 
   module _ (states : States) (event : Event) (w : World) where
-    abbrev next_of : (r : RegisterBit) → Stores d event r ⊎ (Stores d event r → ⊥) → Bool
+    abbrev pub next_of : (r : RegisterBit) → Stores d event r ⊎ (Stores d event r → ⊥) → Bool
     next_of r (inl stores) = next_bit w r
     next_of r (inr kept) = states (bit_text d r.bit)
 
-    abbrev after_of : (n : List ℕ) (o : Option RegisterBit) → register_of n ≡ o → Bool
+    abbrev pub after_of : (n : List ℕ) (o : Option RegisterBit) → register_of n ≡ o → Bool
     after_of n None e = false
     after_of n (Some r) e = next_of r (stores_here event r (from_find (λ r. same_name (bit_text d r.bit) n) (registers d) r e).0)
 
-    abbrev after_event : States
+    abbrev pub after_event : States
     after_event n = after_of n (register_of n) refl
 
     -- the register of a register's text is this one
@@ -195,7 +195,7 @@ module _ (d : Design) (contents : Contents) (allowed : IsAllowed d) (fit : FitDe
     off r (inl s) kept = absurd (kept s)
     off r (inr never) kept = refl
 
-    event_comes : IsWorld d contents w → HasVector d (seen_at states event) w → IsEvent d contents states event w after_event
+    pub event_comes : IsWorld d contents w → HasVector d (seen_at states event) w → IsEvent d contents states event w after_event
     event_comes is has = record {
       world = is;
       vector = has;

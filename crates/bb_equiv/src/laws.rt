@@ -41,7 +41,7 @@ use bb_net::{
 };
 
 // Most laws below rest on the same dozen laws of lower crates, which this states as one premise.
-fn lower_laws()
+pub(crate) fn lower_laws()
     ensures { LowerLaws }
 {
     value_goes_by_boxes();

@@ -6,4 +6,5 @@
 #![tactic(auto)]
 
 pub mod counterexamples;
+pub mod invariant_laws;
 pub mod laws;

@@ -11,7 +11,8 @@ use bb_care::{numbers_below, with_outs};
 use bb_net::{Flat, FlatParts, Net};
 use std::alloc::Global;
 
-fn place_of(texts: &[Name], text: &[u8]) -> Option<usize>
+/// The first place of a text; none where it is missing.
+pub fn place_of(texts: &[Name], text: &[u8]) -> Option<usize>
     ensures some { IfSome result (λ place. slice_get texts.now place ≡ Some text.now) }
     ensures none { IfNone result (IsMissing texts.now text.now) }
 {

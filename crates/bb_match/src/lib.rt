@@ -17,5 +17,6 @@ mod parts;
 mod pins;
 mod places;
 
+pub use care::place_of;
 pub use fault::MatchFault;
 pub use pairing::pair;

@@ -1,0 +1,3 @@
+pub mod Boxless
+pub mod Sliced
+pub mod Violations

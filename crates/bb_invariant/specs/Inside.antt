@@ -1,0 +1,2 @@
+-- Invariants of the code: no clause of the top call rests on them.
+pub mod Answers

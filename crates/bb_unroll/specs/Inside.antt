@@ -1,0 +1,2 @@
+-- What code and proofs share: no clause of the top call rests on it.
+pub mod Building
