@@ -103,9 +103,10 @@ function judge(i, word, option, place, only_files, files) {
     if ("--rup" in given) { for (option in given) if (option != "--rup") fault(option " does not stand beside --rup") }
     if ("--make" in given) {
         if (file_count) fault(files[1] ": with --make no file is read")
-        for (option in given) if (option ~ /^--(top-spec|top-impl|shared|care)$/) fault(option " does not stand beside --make")
+        for (option in given) if (option ~ /^--(top-spec|top-impl|shared|care|invariant)$/) fault(option " does not stand beside --make")
     } else if (file_count < 2) fault((file_count ? "there is one file, " files[1] : "there is no file") ": give two")
     else if (file_count > 2) fault(files[3] ": there are " file_count " files, and two are read")
+    if (("--care" in given) && ("--invariant" in given)) fault("--care does not stand beside --invariant")
     if (("--from" in given) && ("--to" in given) && checks[given["--from"]] > checks[given["--to"]])
         fault("--from " given["--from"] " comes after --to " given["--to"])
     if (file_count == 2) print "spec " files[1] "\nimpl " files[2]

@@ -31,6 +31,11 @@ endmodule
 module bx(i, j, k, o, p); input i, j, k; output o, p; {} endmodule
 """
 STORING = "reg r; always @(posedge i) r <= j; buf(o, r); buf(p, k);"
+RING = "reg a, b; always @(posedge c) a <= b; always @(posedge c) b <= a;"
+# That one register is 1 is kept, and that the first one is, is not.
+RINGS = tuple(f"module s(c, y, k); input c; output y, k; {RING} assign y = 1'b0; {invariant} "
+              "endmodule\n" for invariant in ("xor(k, a, b);", "buf(k, a);"))
+BOTH = f"module t(c, y); input c; output y; {RING} and(y, a, b); endmodule\n"
 
 
 class Ladder(Tries):
@@ -56,6 +61,13 @@ class Ladder(Tries):
                            "--shared"), run([script("ladder"), *cared, "--care", "k", "--shared"])
         self.note("ladder --care --shared", (own.status, own.out) == (joined.status, joined.out)
                   and own.status == 0, joined.why())
+        both = write(self.folder, "both.v", BOTH)
+        for said, text in zip(("kept", "broken"), RINGS):
+            pair = [write(self.folder, f"{said}.v", text), both, "--invariant", "k"]
+            own, joined = bbeq(*pair), run([script("ladder"), *pair])
+            self.note(f"ladder with an invariant that is {said}", (own.status, own.out) == (
+                joined.status, joined.out) and own.out.startswith(f"invariant {said}\n"),
+                      joined.why())
         told = os.path.join(self.folder, "told.json")
         done = run([script("ladder"), spec, implementation, "--json", told])
         found = json.loads(read(told)) if os.path.exists(told) else {}

@@ -104,7 +104,9 @@ def tables(lines: Lines) -> Tables:
 
 def vectors(lines: Lines) -> List[Vector]:
     """The vectors: for each `input` line what is said before it (the check, and the output or
-    register that is wrong) and the bit of each input."""
+    register that is wrong) and the bit of each input. An event that breaks an invariant is none."""
+    if lines and lines[0] == "invariant broken":
+        return []
     found: List[Vector] = []
     check: Optional[str] = None
     wrong: Optional[Tuple[str, str]] = None

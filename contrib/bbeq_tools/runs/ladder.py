@@ -8,6 +8,7 @@ decides then, no verdict is printed, and the status is 7."""
 import json
 import sys
 import time
+from itertools import dropwhile, takewhile
 
 from bbeq_tools.cli import Fault, Output, run_script
 from bbeq_tools.program import find_program
@@ -61,10 +62,11 @@ class Check:
 
     @property
     def result(self):
-        """What the check said: the last word of its line."""
+        """What the check said: the last word of its line. None runs where an invariant is not kept,
+        and then the line says this."""
         if self.lines is None:
             return "no answer in time"
-        return self.lines[0].split()[2]
+        return self.report()[0].split()[2] if self.report() else self.lines[0]
 
     def is_refused(self):
         """The run was refused, or a file could not be read, or there was no memory: no check was
@@ -72,8 +74,21 @@ class Check:
         return self.lines is not None and not any(line.startswith("verdict ")
                                                   for line in self.lines)
 
+    def is_last(self, are_all_wanted):
+        return (self.result == "repair" or self.result == "error" and not are_all_wanted
+                or self.lines is not None and not self.report())
+
+    def front(self):
+        """The lines before that of the check, which speak of the invariant."""
+        return list(takewhile(is_before, self.lines or ()))
+
     def report(self):
-        return [line for line in self.lines or () if not line.startswith("verdict ")]
+        lines = dropwhile(is_before, self.lines or ())
+        return [line for line in lines if not line.startswith("verdict ")]
+
+
+def is_before(line):
+    return not line.startswith(("rung ", "verdict "))
 
 
 def climb(program, words):
@@ -82,8 +97,7 @@ def climb(program, words):
     for name in CHECKS[CHECKS.index(words.first):CHECKS.index(words.last) + 1]:
         check = Check(program, words, name)
         yield check
-        if check.is_refused() or check.result == "repair" or (check.result == "error"
-                                                              and not words.all):
+        if check.is_refused() or check.is_last(words.all):
             return
 
 
@@ -122,7 +136,8 @@ def command():
         checks.append(check)
         print(told(check), file=sys.stderr, flush=True)
     verdict = verdict_of(checks)
-    told_all = "".join(f"{line}\n" for check in checks for line in check.report())
+    lines = [*checks[0].front(), *(line for check in checks for line in check.report())]
+    told_all = "".join(f"{line}\n" for line in lines)
     print_report(told_all + (f"verdict {verdict}\n" if verdict else ""))
     if output:
         output.write(as_json(checks, verdict))

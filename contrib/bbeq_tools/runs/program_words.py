@@ -5,6 +5,7 @@ CHECKS = ("ternary", "symbolic", "local", "output", "input", "expand")
 VALUES = {"top-spec": "the top module of SPEC (otherwise the one that no module instantiates)",
           "top-impl": "the top module of IMPL",
           "care": "the bit of an output of SPEC that says where the two have to agree",
+          "invariant": "the bit of an output of SPEC that is an invariant of its registers",
           "patterns": "how many vectors `ternary` draws (default 32)",
           "seed": "where the drawing starts (default 1)",
           "cache": "how many results diagrams remember (default 65536)",

@@ -16,6 +16,9 @@ def untried(request, portfolio):
     """Lines, each with what to try and the numbers for which it is named."""
     reports = [report for turn in portfolio.turns if turn.name != BY_PARTS
                for report in last_open(turn)]
+    if any(report.startswith("invariant broken\n") for report in reports):
+        yield "another invariant: the event that is shown breaks this one"
+        return
     yield from budget_lines(request, reports)
     yield from memory_lines(portfolio.found())
     boxes = boxes_in(request)

@@ -106,7 +106,9 @@ def by_order(request):
 
 def by_parts(request):
     """The independent parts of the pair, each by clauses and by nodes in turn; one that is wrong
-    decides, and else all have to be decided."""
+    decides, and else all have to be decided. An invariant is one of the whole specification."""
+    if any(word.partition("=")[0] == "--invariant" for word in request.words):
+        return None
     folder = os.path.join(request.folder, "parts")
     own = [word for word in request.words if word.partition("=")[0] in ("--shared", "--care",
                                                                         "--top-spec", "--top-impl")]

@@ -22,7 +22,7 @@ last_of p [] x all = (both (p x) true all).0
 last_of p (y ∷ before) x all = last_of p before x (both (p y) (list_all p (before ++ x ∷ [])) all).1
 
 abbrev other_options : List (List ℕ)
-other_options = codes "top-spec" ∷ codes "top-impl" ∷ codes "from" ∷ codes "to" ∷ codes "patterns" ∷ codes "seed" ∷ codes "nodes" ∷ codes "clauses" ∷ codes "cache" ∷ codes "care" ∷ []
+other_options = codes "top-spec" ∷ codes "top-impl" ∷ codes "from" ∷ codes "to" ∷ codes "patterns" ∷ codes "seed" ∷ codes "nodes" ∷ codes "clauses" ∷ codes "cache" ∷ codes "care" ∷ codes "invariant" ∷ []
 
 -- what is found where a refutation is asked for
 pub record FoundRefutation (found : Found) (f : Refutation) : Type 0 where

@@ -7,9 +7,9 @@ use Rattle.std.specs.Str.{bytes_eq}
 use Rattle.std.specs.Str.Parse.{digits_value}
 use Rattle.std.proofs.lemmas.List.Elements.{All-from_recursion, Contains-append_left, Contains-append_right}
 use lib.Pointwise.{bytes_decides}
-use Rattle.bb_args.specs.Requests.{RequestNothing, Request, requested, comparison_by, made_pair_by, refutation_by, if_given, requested_made_pair, name, requested_refutation}
+use Rattle.bb_args.specs.Requests.{RequestNothing, Request, requested, comparison_by, made_pair_by, refutation_by, if_given, requested_made_pair, name, requested_refutation, one_at_most}
 use Rattle.bb_args.specs.CommandLines.{Argument, File, Flag, Text, Valued, arguments_of, after_dashes, flags, is_among, is_dashed, is_equals, options, preceded, taken}
-use Rattle.bb_args.specs.Laws.{AllAreFilesAfter, RequestTheSame, CareNamesAreRequested, FewWordsRequestNothing, FillIsRequested, PlainWordsAreFiles, SomeWordsAreRefused, ValuesMayBeJoined, WidthsRequestPairs, files_alone, is_plain, pair_alone}
+use Rattle.bb_args.specs.Laws.{AllAreFilesAfter, RequestTheSame, CareNamesAreRequested, InvariantNamesAreRequested, FewWordsRequestNothing, FillIsRequested, PlainWordsAreFiles, SomeWordsAreRefused, ValuesMayBeJoined, WidthsRequestPairs, files_alone, is_plain, pair_alone}
 use Rattle.bb_args.specs.Numbers.{is_number, number_within}
 use Rattle.bb_args.proofs.WithinLemmas.{both, if-some}
 
@@ -100,7 +100,23 @@ care_names program (x ∷ xs) (y ∷ ys) (v ∷ value) plain_spec plain_imp plai
     constrained : Request
     constrained = record (files_alone (x ∷ xs) (y ∷ ys)) { care = Some (v ∷ value) }
 
-    decided : (graphic : Bool) → if_given (option_map (λ text. Some text) (if graphic then name (v ∷ value) else None)) (λ care. Some (record (files_alone (x ∷ xs) (y ∷ ys)) { care = care })) ≡ (if graphic then Some constrained else None)
+    decided : (graphic : Bool) → if_given (option_map (λ text. Some text) (if graphic then name (v ∷ value) else None)) (λ care. if one_at_most care None then Some (record (files_alone (x ∷ xs) (y ∷ ys)) { care = care }) else None) ≡ (if graphic then Some constrained else None)
+    decided true = refl
+    decided false = refl
+
+pub invariant_names : InvariantNamesAreRequested
+invariant_names program [] imp text plain_spec plain_imp plain_text = cc plain_spec
+invariant_names program (x ∷ xs) [] text plain_spec plain_imp plain_text = cc plain_imp
+invariant_names program (x ∷ xs) (y ∷ ys) [] plain_spec plain_imp plain_text = cc plain_text
+invariant_names program (x ∷ xs) (y ∷ ys) (v ∷ value) plain_spec plain_imp plain_text =
+    (requests program ((x ∷ xs) ∷ (y ∷ ys) ∷ codes "--invariant" ∷ (v ∷ value) ∷ []) (Some (File (x ∷ xs) ∷ File (y ∷ ys) ∷ Valued (codes "invariant") (v ∷ value) ∷ []))
+    (files_and (x ∷ xs) (y ∷ ys) plain_spec plain_imp (codes "--invariant" ∷ (v ∷ value) ∷ []) (Some (Valued (codes "invariant") (v ∷ value) ∷ [])) (a_value (codes "invariant") (v ∷ value) [] plain_text))).files
+    ∙ decided (list_all is_ascii_graphic (v ∷ value))
+  where
+    kept : Request
+    kept = record (files_alone (x ∷ xs) (y ∷ ys)) { invariant = Some (v ∷ value) }
+
+    decided : (graphic : Bool) → if_given (option_map (λ text. Some text) (if graphic then name (v ∷ value) else None)) (λ invariant. Some (record (files_alone (x ∷ xs) (y ∷ ys)) { invariant = invariant })) ≡ (if graphic then Some kept else None)
     decided true = refl
     decided false = refl
 
@@ -142,7 +158,10 @@ valued_options value plain = All-from_recursion (IsValued value) options (
                   is_valued value (codes "cache") plain (λ words. refl) refl,
                   (
                     is_valued value (codes "care") plain (λ words. refl) refl,
-                    (is_valued value (codes "make") plain (λ words. refl) refl, tt),
+                    (
+                      is_valued value (codes "invariant") plain (λ words. refl) refl,
+                      (is_valued value (codes "make") plain (λ words. refl) refl, tt),
+                    ),
                   ),
                 ),
               ),

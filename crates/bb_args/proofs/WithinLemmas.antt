@@ -1,5 +1,5 @@
 -- Whatever words ask for is within the table of the options.
-use Rattle.std.proofs.Common.{◌≡◌, ◌≢◌, ℕ, ◌≤◌, Bool, true, false, List, [], ◌∷◌, Option, None, Some, if◌then◌else◌, arith, codes, refl, subst, sym, ◌∙◌}
+use Rattle.std.proofs.Common.{◌≡◌, ◌≢◌, ℕ, ◌≤◌, ◌⊎◌, Bool, true, false, List, [], ◌∷◌, Option, None, Some, if◌then◌else◌, arith, codes, refl, subst, sym, ◌∙◌, inl, inr}
 use Rattle.std.specs.Prelude.{All, IfOk, IfSome, Result, Ok, Err, nat_le, not, option_and_then, option_map, ◌&&◌, ◌||◌}
 use Rattle.std.specs.Char.{is_ascii_graphic}
 use Rattle.std.specs.List.{list_all}
@@ -7,7 +7,7 @@ use Rattle.std.proofs.lemmas.List.Elements.{All-cons, All-nil}
 use Rattle.bb_options.specs.declared.options.Options.{Options}
 use Rattle.bb_options.specs.declared.rung.Rung.TheVariants.{Ternary, Expand}
 use Rattle.bb_options.specs.Rungs.{AreBounds, rank}
-use Rattle.bb_args.specs.Requests.{AreRequestFor, RequestNothing, HasBounds, IsWantedBy, MadePair, Request, comparison_by, made_pair_by, options_by, refutation_by, request_by, care, file, if_given, has_no_files, is_making, is_refuting, name, request_of, rung_named, top, value_or}
+use Rattle.bb_args.specs.Requests.{AreRequestFor, RequestNothing, HasBounds, IsWantedBy, MadePair, Request, comparison_by, made_pair_by, options_by, refutation_by, request_by, care, file, if_given, has_no_files, is_making, is_refuting, name, request_of, rung_named, one_at_most, top, value_or}
 use Rattle.bb_args.specs.CommandLines.{Found, found_in}
 use Rattle.clap.specs.declared.parser.matches.ArgMatches.{ArgMatches}
 use Rattle.bb_args.specs.Inside.Commands.{AreSame, FindsIn, by_matches}
@@ -88,18 +88,27 @@ options-within found o e =
     let l = bounded 2000000 0 8000000 (found.value (codes "clauses")) clauses.0 (omega arith) (omega arith) clauses.1 in
     subst AreBounds end.1 (record { order = le-true (rank from.0) (rank to.0) end.0; seed = s.0; patterns = p.1; nodes = n.1; cache_least = c.0; cache_most = c.1; clauses = l.1 })
 
+one-at-most : (care invariant : Option (List ℕ)) → one_at_most care invariant ≡ true → (care ≡ None) ⊎ (invariant ≡ None)
+one-at-most None invariant e = inl refl
+one-at-most (Some text) None e = inr refl
+one-at-most (Some text) (Some other) e = cc
+
 request-within : (found : Found) (r : Request) → request_by found ≡ Some r → IsWithin r
 request-within found r e =
     let spec = given-some (file found.spec) _ r e in
     let imp = given-some (file found.imp) _ r spec.2 in
     let top_spec = given-some (top (found.value (codes "top-spec"))) _ r imp.2 in
     let top_imp = given-some (top (found.value (codes "top-impl"))) _ r top_spec.2 in
-    let care = given-some (care (found.value (codes "care"))) _ r top_imp.2 in
-    let options = given-some (options_by found) _ r care.2 in
-    subst IsWithin (some-same _ r options.2) (record {
+    let care_output = given-some (care (found.value (codes "care"))) _ r top_imp.2 in
+    let invariant = given-some (care (found.value (codes "invariant"))) _ r care_output.2 in
+    let options = given-some (options_by found) _ r invariant.2 in
+    let end = if-some (one_at_most care_output.0 invariant.0) _ r options.2 in
+    subst IsWithin end.1 (record {
       spec = file-some found.spec spec.0 spec.1;
       imp = file-some found.imp imp.0 imp.1;
-      care = care-within (found.value (codes "care")) care.0 care.1;
+      care = care-within (found.value (codes "care")) care_output.0 care_output.1;
+      invariant = care-within (found.value (codes "invariant")) invariant.0 invariant.1;
+      one = one-at-most care_output.0 invariant.0 end.0;
       bounds = options-within found options.0 options.1;
     })
 
@@ -169,6 +178,7 @@ module _ (f g : Found) (same : AreSame f g) where
     same.value (codes "top-spec") refl,
     same.value (codes "top-impl") refl,
     same.value (codes "care") refl,
+    same.value (codes "invariant") refl,
     same.has_flag (codes "fill") refl,
     same_options,
   ) refl
@@ -183,6 +193,7 @@ module _ (f g : Found) (same : AreSame f g) where
     same.value (codes "top-spec") refl,
     same.value (codes "top-impl") refl,
     same.value (codes "care") refl,
+    same.value (codes "invariant") refl,
     same.has_flag (codes "fill") refl,
   ) refl
 
@@ -205,6 +216,7 @@ module _ (f g : Found) (same : AreSame f g) where
     same.value (codes "clauses") refl,
     same.value (codes "cache") refl,
     same.value (codes "care") refl,
+    same.value (codes "invariant") refl,
     same.value (codes "make") refl,
   ) refl
 

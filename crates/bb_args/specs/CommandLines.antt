@@ -16,7 +16,8 @@ flags = codes "all" ∷ codes "proof" ∷ codes "rup" ∷ codes "shared" ∷ cod
 
 abbrev pub options : List Text
 options = codes "top-spec" ∷ codes "top-impl" ∷ codes "from" ∷ codes "to" ∷ codes "patterns" ∷ codes "seed"
-    ∷ codes "nodes" ∷ codes "clauses" ∷ codes "cache" ∷ codes "care" ∷ codes "make" ∷ []
+    ∷ codes "nodes" ∷ codes "clauses" ∷ codes "cache" ∷ codes "care"
+    ∷ codes "invariant" ∷ codes "make" ∷ []
 
 abbrev pub is_among : List Text → Text → Bool
 is_among names name = list_any (λ known. bytes_eq known name) names

@@ -11,12 +11,14 @@ use Rattle.bb_args.specs.Requests.{requested_refutation}
 use Rattle.bb_args.specs.CommandLines.{Argument, Found, are_taken, file_in, flags, found_among, found_in, options}
 use Rattle.bb_args.specs.Numbers.{number_within}
 
--- each name that has to be given is not empty, a care output has a name that can be printed, each number is within
--- its bounds, and so is the order of the checks
+-- each name that has to be given is not empty, a care output or an invariant has a name that can be printed, and both
+-- are not given, each number is within its bounds, and so is the order of the checks
 pub record IsWithin (r : Request) : Type 0 where
   pub spec : r.spec ≢ []
   pub imp : r.imp ≢ []
   pub care : IfSome r.care (λ text. (text ≢ []) × All (λ b. (33 ≤ b) × (b ≤ 126)) text)
+  pub invariant : IfSome r.invariant (λ text. (text ≢ []) × All (λ b. (33 ≤ b) × (b ≤ 126)) text)
+  pub one : (r.care ≡ None) ⊎ (r.invariant ≡ None)
   pub bounds : AreBounds r.options
 
 -- the width is within its bounds, and so are the checks; boxes share nothing, since there is one
@@ -44,7 +46,7 @@ options_alone = record { from = Ternary; to = Expand; all = false; patterns = 32
 
 -- two files, and all else by default
 abbrev pub files_alone : List ℕ → List ℕ → Request
-files_alone spec imp = record { spec = spec; imp = imp; top_spec = None; top_imp = None; care = None; fill = false; options = options_alone }
+files_alone spec imp = record { spec = spec; imp = imp; top_spec = None; top_imp = None; care = None; invariant = None; fill = false; options = options_alone }
 
 -- a made pair, and all else by default
 abbrev pub pair_alone : ℕ → MadePair
@@ -77,6 +79,12 @@ ValuesMayBeJoined = (program spec imp value : List ℕ) → is_plain spec ≡ tr
 abbrev pub CareNamesAreRequested : Type 0
 CareNamesAreRequested = (program spec imp text : List ℕ) → is_plain spec ≡ true → is_plain imp ≡ true → is_plain text ≡ true
     → requested (program ∷ spec ∷ imp ∷ codes "--care" ∷ text ∷ []) ≡ (if list_all is_ascii_graphic text then Some (record (files_alone spec imp) { care = Some text }) else None)
+
+-- and so do `--invariant` and a name with the invariant
+abbrev pub InvariantNamesAreRequested : Type 0
+InvariantNamesAreRequested = (program spec imp text : List ℕ) → is_plain spec ≡ true → is_plain imp ≡ true
+    → is_plain text ≡ true → requested (program ∷ spec ∷ imp ∷ codes "--invariant" ∷ text ∷ [])
+    ≡ (if list_all is_ascii_graphic text then Some (record (files_alone spec imp) { invariant = Some text }) else None)
 
 -- after two files `--fill` requests the filled implementation
 abbrev pub FillIsRequested : Type 0

@@ -1,5 +1,5 @@
 -- The request of a command line: which files are compared and which module is the top of each, at which output of the
--- specification equivalence is requested, whether the filled implementation is to be printed, which checks run, and
+-- specification equivalence is requested, or which is an invariant of its registers, whether the filled implementation is to be printed, which checks run, and
 -- within which bounds; or, with `--make`, how wide a pair is made and compared by these checks, without a file; or,
 -- with `--rup`, which files have a formula and its refutation. Words that are no command line, or whose values are not
 -- in the table below, make no request.
@@ -27,6 +27,8 @@ pub record Request : Type 0 where
   pub top_imp : Option (List ℕ)
   -- the text of the care output, where one is given
   pub care : Option (List ℕ)
+  -- that of the invariant, where one is given
+  pub invariant : Option (List ℕ)
   -- whether the filled implementation is requested
   pub fill : Bool
   pub options : Options
@@ -71,9 +73,13 @@ top = value_or None (λ text. option_map (λ if_given. Some if_given) (name text
 abbrev pub printable : List ℕ → Option (List ℕ)
 printable text = if list_all is_ascii_graphic text then name text else None
 
--- the text of a care output may be given; no bit of a port has a name that cannot be printed
+-- the text of a care output, or of an invariant, may be given; no bit of a port has a name that cannot be printed
 abbrev pub care : Option (List ℕ) → Option (Option (List ℕ))
 care = value_or None (λ text. option_map (λ if_given. Some if_given) (printable text))
+
+-- of a care output and an invariant one may be given
+abbrev pub one_at_most : Option (List ℕ) → Option (List ℕ) → Bool
+one_at_most care invariant = not (is_some care && is_some invariant)
 
 -- what follows from a value, if there is one
 abbrev pub if_given : {X Y : Type 0} → Option X → (X → Option Y) → Option Y
@@ -109,17 +115,19 @@ request_by found =
     if_given (file found.imp) (λ imp.
     if_given (top (found.value (codes "top-spec"))) (λ top_spec.
     if_given (top (found.value (codes "top-impl"))) (λ top_imp.
-    if_given (care (found.value (codes "care"))) (λ care.
+    if_given (care (found.value (codes "care"))) (λ care_output.
+    if_given (care (found.value (codes "invariant"))) (λ invariant.
     if_given (options_by found) (λ options.
-    Some (record {
+    if one_at_most care_output invariant then Some (record {
       spec = spec;
       imp = imp;
       top_spec = top_spec;
       top_imp = top_imp;
-      care = care;
+      care = care_output;
+      invariant = invariant;
       fill = found.has_flag (codes "fill");
       options = options;
-    })))))))
+    }) else None)))))))
 
 -- whether the flag for a refutation is given
 abbrev pub is_refuting : Found → Bool
@@ -139,17 +147,17 @@ is_alone found =
 abbrev pub is_making : Found → Bool
 is_making found = not (is_absent found (codes "make"))
 
--- no file, no top and no care output is given
+-- no file, no top, no care output and no invariant is given
 abbrev pub has_no_files : Found → Bool
 has_no_files found = not (is_some found.spec) && not (is_some found.imp)
-    && list_all (is_absent found) (codes "top-spec" ∷ codes "top-impl" ∷ codes "care" ∷ [])
+    && list_all (is_absent found) (codes "top-spec" ∷ codes "top-impl" ∷ codes "care" ∷ codes "invariant" ∷ [])
 
 -- files are compared without that flag and without a width
 abbrev pub comparison_by : Found → Option Request
 comparison_by found = if is_refuting found || is_making found then None else request_by found
 
 -- a made pair, which has one box, is requested by its width, from 1 to 256, without that flag, the one for shared
--- contents, a file, a top or a care output
+-- contents, a file, a top, a care output or an invariant
 abbrev pub made_pair_by : Found → Option MadePair
 made_pair_by found =
     if_given (option_and_then (number_within 1 256) (found.value (codes "make"))) (λ n.
@@ -184,6 +192,7 @@ request_of a = record {
   top_spec = option_copied a.top_spec;
   top_imp = option_copied a.top_imp;
   care = option_copied a.care;
+  invariant = option_copied a.invariant;
   fill = a.fill;
   options = a.options;
 }

@@ -59,6 +59,7 @@ fn command<'a>(alloc: Global) -> Result<Command<'a>, AllocError>
         .arg(valued(alloc, "clauses"))?
         .arg(valued(alloc, "cache"))?
         .arg(valued(alloc, "care"))?
+        .arg(valued(alloc, "invariant"))?
         .arg(valued(alloc, "make"))?;
     Ok(command)
 }

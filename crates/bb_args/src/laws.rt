@@ -3,6 +3,7 @@
 //! and does nothing.
 
 ghost use Rattle.bb_args.specs.Laws.{AllAreFilesAfter, CareNamesAreRequested, FewWordsRequestNothing, FillIsRequested};
+ghost use Rattle.bb_args.specs.Laws.{InvariantNamesAreRequested};
 ghost use Rattle.bb_args.specs.Laws.{MadePairsAreWithin, OrderIsFree, PlainWordsAreFiles, RequestsAreWithin};
 ghost use Rattle.bb_args.specs.Laws.{SomeWordsAreRefused, ValuesMayBeJoined, WidthsRequestPairs, WordsRequestAtMostOne};
 
@@ -35,6 +36,12 @@ pub fn values_may_be_joined()
 /// printable is refused.
 pub fn care_names_are_requested()
     ensures { CareNamesAreRequested }
+{}
+
+/// After two files `--invariant` and a printable name request equivalence where this output is 1, if it is an
+/// invariant.
+pub fn invariant_names_are_requested()
+    ensures { InvariantNamesAreRequested }
 {}
 
 /// After two files `--fill` requests the filled implementation.

@@ -13,8 +13,9 @@ mod value;
 
 pub use laws::{
     all_are_files_after, care_names_are_requested, few_words_request_nothing, fill_is_requested,
-    made_pairs_are_within, order_is_free, plain_words_are_files, requests_are_within,
-    some_words_are_refused, values_may_be_joined, widths_request_pairs, words_request_once,
+    invariant_names_are_requested, made_pairs_are_within, order_is_free, plain_words_are_files,
+    requests_are_within, some_words_are_refused, values_may_be_joined, widths_request_pairs,
+    words_request_once,
 };
 pub use reading::read_words;
 pub use requested::{FileComparison, Wanted, WordsFault};

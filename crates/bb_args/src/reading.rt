@@ -55,32 +55,45 @@ fn request<'a>(matches: &ArgMatches<'a>) -> Option<FileComparison<'a>>
     let imp = file(value(matches, "IMPL"))?;
     let top_spec = top(value(matches, "top-spec"))?;
     let top_imp = top(value(matches, "top-impl"))?;
-    let care = care(value(matches, "care"))?;
+    let care_output = care(value(matches, "care"))?;
+    let invariant = care(value(matches, "invariant"))?;
     let fill = is_true(value(matches, "fill"));
     let options = options(matches)?;
+    if care_output.is_some() && invariant.is_some() {
+        return None;
+    }
     Some(FileComparison {
         spec,
         imp,
         top_spec,
         top_imp,
-        care,
+        care: care_output,
+        invariant,
         fill,
         options,
     })
 }
 
+fn no_guard_and_width(matches: &ArgMatches<'_>) -> bool
+    ensures { result
+        ≡ list_all (is_absent (by_matches matches.now)) (codes "care" ∷ codes "invariant" ∷ codes "make" ∷ []) }
+{
+    value(matches, "care").is_none()
+        && value(matches, "invariant").is_none()
+        && value(matches, "make").is_none()
+}
+
 fn no_bound(matches: &ArgMatches<'_>) -> bool
     ensures { result
         ≡ list_all (is_absent (by_matches matches.now)) (codes "patterns" ∷ codes "seed" ∷ codes "nodes"
-        ∷ codes "clauses" ∷ codes "cache" ∷ codes "care" ∷ codes "make" ∷ []) }
+        ∷ codes "clauses" ∷ codes "cache" ∷ codes "care" ∷ codes "invariant" ∷ codes "make" ∷ []) }
 {
     value(matches, "patterns").is_none()
         && value(matches, "seed").is_none()
         && value(matches, "nodes").is_none()
         && value(matches, "clauses").is_none()
         && value(matches, "cache").is_none()
-        && value(matches, "care").is_none()
-        && value(matches, "make").is_none()
+        && no_guard_and_width(matches)
 }
 
 fn no_option(matches: &ArgMatches<'_>) -> bool
@@ -127,6 +140,7 @@ fn no_files(matches: &ArgMatches<'_>) -> bool
         && value(matches, "top-spec").is_none()
         && value(matches, "top-impl").is_none()
         && value(matches, "care").is_none()
+        && value(matches, "invariant").is_none()
 }
 
 // `--shared` is refused: with one box nothing is shared.
@@ -185,13 +199,14 @@ fn wanted<'a>(matches: &ArgMatches<'a>) -> Option<Wanted<'a>>
 /// | `--cache` | 1 to 1,048,576 | 65,536 |
 /// | `--clauses` | 0 to 8,000,000 | 2,000,000 |
 /// | `--care` | the text of a bit of an output port: one or more bytes from 33 to 126 | none |
+/// | `--invariant` | the same; not both this and `--care` | none |
 /// | `--all`, `--proof`, `--shared`, `--fill` | none | not set |
 ///
 /// A value is the next word after its option, or follows `=`; one that begins with a minus sign, and is more than
 /// that, has to follow `=`. No name is empty. A number has at most 20 digits. After `--` every word is a file.
 ///
-/// With `--make` and a number from 1 to 256 a pair is made and compared, and no file, no top, no `--shared` and no
-/// `--care` may be given. With `--rup` the two files are a formula and clause additions, and no other flag and no
+/// With `--make` and a number from 1 to 256 a pair is made and compared, and no file, no top, no `--shared`, no
+/// `--care` and no `--invariant` may be given. With `--rup` the two files are a formula and clause additions, and no other flag and no
 /// option may be given.
 ///
 /// # Errors

@@ -18,6 +18,9 @@ pub struct FileComparison<'a> {
     /// The care output: a bit of an output port of the specification, at 1 where equivalence is requested. One or more
     /// bytes from 33 to 126.
     pub care: Option<&'a str>,
+    /// The invariant: a bit of an output port of the specification, meant of its registers. One or more bytes from 33
+    /// to 126. Not both this and a care output.
+    pub invariant: Option<&'a str>,
     /// Whether the filled implementation is requested.
     pub fill: bool,
     /// Which checks run, and their bounds.

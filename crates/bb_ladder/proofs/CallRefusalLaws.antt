@@ -11,13 +11,11 @@ use Rattle.bb_verdict.specs.declared.requested.TextComparison.{TextComparison}
 use Rattle.bb_ladder.specs.Answers.{PairRequest, AfterSpec, ImpUnread, ImpLong, BothRead, OfFiles, SpecUnread, SpecLong, SpecRead, MayAnswer, Usage, Comparing, Making, Refuting, AreHeldBytes, pair_request_of}
 use Rattle.bb_ladder.specs.MadePairs.{request_for}
 use Rattle.bb_ladder.specs.CallRefusals.{IsCallRefusal, OfWords, OfComparison, OfMadePair, OfRefutation, IsFilesRefusal, OfSpecLength, OfImpLength, OfTexts, AreReadsKnown, AreReadsKnownOf, CallRefusalsAreOne, RefusalsAreReported, RefusedCallsAreReported}
-use Rattle.bb_frontend.specs.RefusalLines.{refusal_line}
 use Rattle.bb_ladder.specs.Refutations.{CheckLaws, Checks, Faulty, IsCheckRefusal}
 use Rattle.bb_ladder.specs.Sources.{AreBytes, IsFirstFile, MayHaveFailed, TextSource}
-use Rattle.bb_verdict.specs.Laws.TextAnswers.{JudgedRefusalsAreFirst, RefusedAreAnsweredOnce}
+use Rattle.bb_verdict.specs.Laws.InvariantAnswers.{AnswersToTextsAreMeant}
 use Rattle.bb_verdict.specs.Laws.TextPairs.{RefusalsAreOne}
-use Rattle.bb_verdict.specs.TextAnswers.{Judges}
-use Rattle.bb_verdict.specs.TextPairs.{IsPairRefusal}
+use Rattle.bb_verdict.specs.InvariantAnswers.{AnswersTexts, IsRefusalLine, invariant_name, refusal_line_with}
 use Rattle.bb_ladder.proofs.HeadlineLemmas.{alone_at_two, requests_no_comparison, requests_no_pair, requests_no_refutation, never_both, never_files_and_made, same_pair, same_question, same_refutation}
 use Rattle.bb_ladder.proofs.SourceLemmas.{both_whole, failed_alone, failed_second, first_of_both, first_once, given_alone, given_first, given_long, given_never_long, given_never_short, given_second, given_whole, second_once}
 
@@ -58,14 +56,14 @@ module _ (judged : List ℕ → List ℕ → ℕ → List ℕ → Type 0) (refus
       let low = spec_refusal between spec bytes (Some other) there g short c d in
       imp_refusal between spec (rest low).0 bytes (rest low).1 low g short c (BothRead other h less d is)
 
-pub refusals_are_reported : JudgedRefusalsAreFirst → CheckLaws → RefusalsAreReported
-refusals_are_reported pairs laws call from line (Usage none no_pair neither same s t) reported = OfWords none no_pair neither t
-refusals_are_reported pairs laws call from line (Comparing q requests files) reported =
-    OfComparison q requests (files_refusal (Judges q.requested) (IsPairRefusal q.requested) (pairs q.requested) from call.holds q.spec q.imp call.before call.after line (reported.comparison q requests) files)
-refusals_are_reported pairs laws call from line (Making m makes quiet judges) reported =
-    let first = pairs (request_for m.fill m.options) (made_spec m.n) (made_imp m.n) 2 judges.0 judges.1 refl in
+pub refusals_are_reported : AnswersToTextsAreMeant → CheckLaws → RefusalsAreReported
+refusals_are_reported meant laws call from line (Usage none no_pair neither same s t) reported = OfWords none no_pair neither t
+refusals_are_reported meant laws call from line (Comparing q requests files) reported =
+    OfComparison q requests (files_refusal (AnswersTexts q.requested) (IsRefusalLine q.requested) (λ spec imp status text answer. (meant q.requested spec imp status text answer).refused) from call.holds q.spec q.imp call.before call.after line (reported.comparison q requests) files)
+refusals_are_reported meant laws call from line (Making m makes quiet judges) reported =
+    let first = (meant (request_for m.fill m.options) (made_spec m.n) (made_imp m.n) 2 judges.0 judges.1).refused refl in
     OfMadePair m makes (first.0, first.1, alone_at_two m.n 2 judges.0 line refl judges.2 ∙ first.2)
-refusals_are_reported pairs laws call from line (Refuting f requests files) reported =
+refusals_are_reported meant laws call from line (Refuting f requests files) reported =
     OfRefutation f requests (files_refusal Checks IsCheckRefusal laws.refused from call.holds f.cnf f.adds call.before call.after line (reported.refutation f requests) files)
 
 -- the same of a status that is 2
@@ -151,11 +149,11 @@ module _ (judged : List ℕ → List ℕ → ℕ → List ℕ → Type 0) (refus
   files_reported refusal (SpecLong bytes g full c s t) = long_reported bytes g full c s t refusal
   files_reported refusal (SpecRead bytes between g short c next) = after_reported between bytes g short c refusal next
 
-pair_reported : RefusedAreAnsweredOnce → (requested : TextComparison) (spec imp line : List ℕ) (status : ℕ) (text : List ℕ) → Judges requested spec imp status text → IsPairRefusal requested spec imp line → (status ≡ 2) × (text ≡ line)
-pair_reported once requested spec imp line status text judged (refusal, is, t) = let answer = once requested spec imp refusal status text is judged in (answer.0, answer.1 ∙ sym t)
+pair_reported : AnswersToTextsAreMeant → (requested : TextComparison) (spec imp line : List ℕ) (status : ℕ) (text : List ℕ) → AnswersTexts requested spec imp status text → IsRefusalLine requested spec imp line → (status ≡ 2) × (text ≡ line)
+pair_reported meant requested spec imp line status text answer = (meant requested spec imp status text answer).stays_refused line
 
-pair_one : RefusalsAreOne → (requested : TextComparison) (spec imp line other : List ℕ) → IsPairRefusal requested spec imp line → IsPairRefusal requested spec imp other → line ≡ other
-pair_one one requested spec imp line other (r, is, t) (q, also, u) = t ∙ ap refusal_line (one requested spec imp r q is also) ∙ sym u
+pair_one : RefusalsAreOne → (requested : TextComparison) (spec imp line other : List ℕ) → IsRefusalLine requested spec imp line → IsRefusalLine requested spec imp other → line ≡ other
+pair_one one requested spec imp line other (r, is, t) (q, also, u) = t ∙ ap (refusal_line_with (invariant_name requested)) (one requested spec imp r q is also) ∙ sym u
 
 -- two lines that refuse a formula and additions are one, since each is the answer
 check_one : CheckLaws → (first second line other : List ℕ) → IsCheckRefusal first second line → IsCheckRefusal first second other → line ≡ other
@@ -170,17 +168,17 @@ module _ (once : WordsRequestAtMostOne) (call : Call) (from : TextSource) (line 
   words_refused none no_pair neither (OfMadePair m makes refusal) = absurd (requests_no_pair m (requested_made_pair call.words) no_pair makes)
   words_refused none no_pair neither (OfRefutation f requests refusal) = absurd (requests_no_refutation f (requested_refutation call.words) neither requests)
 
-  comparison_refused : (q : PairRequest) → pair_request_of call.words ≡ Some q → IsCallRefusal call from line → IsFilesRefusal (IsPairRefusal q.requested) from call.holds call.before call.after q.spec q.imp line
+  comparison_refused : (q : PairRequest) → pair_request_of call.words ≡ Some q → IsCallRefusal call from line → IsFilesRefusal (IsRefusalLine q.requested) from call.holds call.before call.after q.spec q.imp line
   comparison_refused q requests (OfWords none unmade nor is) = absurd (requests_no_comparison q (pair_request_of call.words) none requests)
   comparison_refused q requests (OfComparison p also refusal) =
-      subst (λ (z : PairRequest). IsFilesRefusal (IsPairRefusal z.requested) from call.holds call.before call.after z.spec z.imp line) (same_question p q (sym also ∙ requests)) refusal
+      subst (λ (z : PairRequest). IsFilesRefusal (IsRefusalLine z.requested) from call.holds call.before call.after z.spec z.imp line) (same_question p q (sym also ∙ requests)) refusal
   comparison_refused q requests (OfMadePair m makes refusal) = absurd (never_files_and_made once call.words q m requests makes)
   comparison_refused q requests (OfRefutation f also refusal) = absurd (never_both once call.words q f requests also)
 
-  made_refused : (m : MadePair) → requested_made_pair call.words ≡ Some m → IsCallRefusal call from line → IsPairRefusal (request_for m.fill m.options) (made_spec m.n) (made_imp m.n) line
+  made_refused : (m : MadePair) → requested_made_pair call.words ≡ Some m → IsCallRefusal call from line → IsRefusalLine (request_for m.fill m.options) (made_spec m.n) (made_imp m.n) line
   made_refused m makes (OfWords none unmade nor is) = absurd (requests_no_pair m (requested_made_pair call.words) unmade makes)
   made_refused m makes (OfComparison q requests refusal) = absurd (never_files_and_made once call.words q m requests makes)
-  made_refused m makes (OfMadePair p also refusal) = subst (λ (z : MadePair). IsPairRefusal (request_for z.fill z.options) (made_spec z.n) (made_imp z.n) line) (same_pair p m (sym also ∙ makes)) refusal
+  made_refused m makes (OfMadePair p also refusal) = subst (λ (z : MadePair). IsRefusalLine (request_for z.fill z.options) (made_spec z.n) (made_imp z.n) line) (same_pair p m (sym also ∙ makes)) refusal
   made_refused m makes (OfRefutation f requests refusal) = absurd (once.not_made_and_refuted call.words m f makes requests)
 
   refutation_refused : (f : Refutation) → requested_refutation call.words ≡ Some f → IsCallRefusal call from line → IsFilesRefusal IsCheckRefusal from call.holds call.before call.after f.cnf f.adds line
@@ -190,10 +188,10 @@ module _ (once : WordsRequestAtMostOne) (call : Call) (from : TextSource) (line 
   refutation_refused f requests (OfRefutation g also refusal) =
       subst (λ (z : Refutation). IsFilesRefusal IsCheckRefusal from call.holds call.before call.after z.cnf z.adds line) (same_refutation g f (sym also ∙ requests)) refusal
 
-pub refused_calls_are_reported : WordsRequestAtMostOne → CheckLaws → RefusedAreAnsweredOnce → RefusedCallsAreReported
+pub refused_calls_are_reported : WordsRequestAtMostOne → CheckLaws → AnswersToTextsAreMeant → RefusedCallsAreReported
 refused_calls_are_reported once laws answered call from status text line (Usage none no_pair neither same s t) refused calm = (s, t ∙ sym (words_refused once call from line none no_pair neither refused))
 refused_calls_are_reported once laws answered call from status text line (Comparing q requests files) refused calm =
-    files_reported (Judges q.requested) (IsPairRefusal q.requested) (pair_reported answered q.requested) from call.holds q.spec q.imp call.before call.after line status text calm (comparison_refused once call from line q requests refused) files
+    files_reported (AnswersTexts q.requested) (IsRefusalLine q.requested) (pair_reported answered q.requested) from call.holds q.spec q.imp call.before call.after line status text calm (comparison_refused once call from line q requests refused) files
 refused_calls_are_reported once laws answered call from status text line (Making m makes quiet judges) refused calm =
     let reported = pair_reported answered (request_for m.fill m.options) (made_spec m.n) (made_imp m.n) line status judges.0 judges.1 (made_refused once call from line m makes refused) in
     (reported.0, alone_at_two m.n status judges.0 text reported.0 judges.2 ∙ reported.1)
@@ -205,7 +203,7 @@ call_refusals_are_one once laws one call from line other refused also = by (pair
   where
     by : (o : Option PairRequest) → pair_request_of call.words ≡ o → (p : Option MadePair) → requested_made_pair call.words ≡ p → (r : Option Refutation) → requested_refutation call.words ≡ r → line ≡ other
     by None e None h None g = words_refused once call from line e h g refused ∙ sym (words_refused once call from other e h g also)
-    by (Some q) e p h r g = same_line (IsPairRefusal q.requested) (pair_one one q.requested) from call.holds q.spec q.imp call.before call.after line other
+    by (Some q) e p h r g = same_line (IsRefusalLine q.requested) (pair_one one q.requested) from call.holds q.spec q.imp call.before call.after line other
         (comparison_refused once call from line q e refused) (comparison_refused once call from other q e also)
     by None e (Some m) h r g = pair_one one (request_for m.fill m.options) (made_spec m.n) (made_imp m.n) line other
         (made_refused once call from line m h refused) (made_refused once call from other m h also)

@@ -14,9 +14,9 @@ use Rattle.bb_ladder.specs.Answers.{PairRequest, AfterSpec, ImpUnread, ImpLong, 
 use Rattle.bb_ladder.specs.MadePairs.{JudgesMade, request_for}
 use Rattle.bb_ladder.specs.Refutations.{AreRead, CheckLaws, Checks, ReportsWhether}
 use Rattle.bb_ladder.specs.Sources.{AreBytes, MayHaveFailed, TextSource}
-use Rattle.bb_verdict.specs.Laws.TextAnswers.{DecidedAreAnswered, StayingOpenAreAnswered}
-use Rattle.bb_verdict.specs.TextAnswers.{Judges}
-use Rattle.bb_verdict.specs.TextPairs.{AreStayingOpen, AreDecided}
+use Rattle.bb_verdict.specs.InvariantAnswers.{AnswersTexts, AreDecidedWith}
+use Rattle.bb_verdict.specs.Laws.InvariantAnswers.{AnswersToTextsAreMeant}
+use Rattle.bb_verdict.specs.TextPairs.{AreStayingOpen}
 use Rattle.bb_ladder.proofs.SourceLemmas.{both_whole, failed_alone, failed_second, first_of_both, given_alone, given_never_long, given_second}
 use Rattle.bb_ladder.proofs.HeadlineLemmas.{requests_no_comparison, requests_no_pair, requests_no_refutation, never_both, never_files_and_made, same_pair, same_question, same_refutation}
 
@@ -41,14 +41,14 @@ module _ (judged : List ℕ → List ℕ → ℕ → List ℕ → Type 0) (spec 
   files_answered status text (SpecRead bytes between g short c a) = after_answered between bytes status text g short c a
 
 -- the same of a comparison
-module _ (once : WordsRequestAtMostOne) (P : TextComparison → List ℕ → List ℕ → Type 0) (S : ℕ → Type 0) (answered : (requested : TextComparison) (spec imp : List ℕ) (status : ℕ) (text : List ℕ) → Judges requested spec imp status text → P requested spec imp → S status)
+module _ (once : WordsRequestAtMostOne) (P : TextComparison → List ℕ → List ℕ → Type 0) (S : ℕ → Type 0) (answered : (requested : TextComparison) (spec imp : List ℕ) (status : ℕ) (text : List ℕ) → AnswersTexts requested spec imp status text → P requested spec imp → S status)
     (requested : TextComparison) (spec imp : List ℕ) (spec_short : length spec < READ_LIMIT) (imp_short : length imp < READ_LIMIT) (is : P requested spec imp) where
   words_answered : (call : Call) (from : TextSource) (status : ℕ) (text : List ℕ) → AreTexts call from requested spec imp → (MayHaveFailed from call.before call.after → ⊥)
       → MayAnswer call status text → S status
   words_answered call from status text (FileTexts q requests same both) calm (Usage none no_pair neither c s t) = absurd (requests_no_comparison q (pair_request_of call.words) none requests)
   words_answered call from status text (FileTexts q requests same both) calm (Comparing known e files) =
-      files_answered (Judges q.requested) spec imp S (λ n line j. answered q.requested spec imp n line j (subst (λ z. P z spec imp) same is)) spec_short imp_short from call.holds q.spec q.imp call.before call.after both calm status text
-      (subst (λ (z : PairRequest). OfFiles (Judges z.requested) call.holds z.spec z.imp call.before call.after status text) (same_question known q (sym e ∙ requests)) files)
+      files_answered (AnswersTexts q.requested) spec imp S (λ n line j. answered q.requested spec imp n line j (subst (λ z. P z spec imp) same is)) spec_short imp_short from call.holds q.spec q.imp call.before call.after both calm status text
+      (subst (λ (z : PairRequest). OfFiles (AnswersTexts z.requested) call.holds z.spec z.imp call.before call.after status text) (same_question known q (sym e ∙ requests)) files)
   words_answered call from status text (FileTexts q requests same both) calm (Making m e quiet judges) = absurd (never_files_and_made once call.words q m requests e)
   words_answered call from status text (FileTexts q requests same both) calm (Refuting f e files) = absurd (never_both once call.words q f requests e)
   words_answered call from status text (MadeTexts m makes a x y) calm (Usage none no_pair neither c s t) = absurd (requests_no_pair m (requested_made_pair call.words) no_pair makes)
@@ -58,15 +58,15 @@ module _ (once : WordsRequestAtMostOne) (P : TextComparison → List ℕ → Lis
       answered (request_for m.fill m.options) (made_spec m.n) (made_imp m.n) status of_m.0 of_m.1 (subst (λ z. P (request_for m.fill m.options) (made_spec m.n) z) y (subst (λ z. P (request_for m.fill m.options) z imp) x (subst (λ z. P z spec imp) a is)))
   words_answered call from status text (MadeTexts m makes a x y) calm (Refuting f e files) = absurd (once.not_made_and_refuted call.words m f makes e)
 
-pub decided_sound : WordsRequestAtMostOne → DecidedAreAnswered → (requested : TextComparison) (spec imp : List ℕ) → length spec < READ_LIMIT → length imp < READ_LIMIT → AreDecided requested spec imp
+pub decided_sound : WordsRequestAtMostOne → AnswersToTextsAreMeant → (requested : TextComparison) (spec imp : List ℕ) → length spec < READ_LIMIT → length imp < READ_LIMIT → AreDecidedWith requested spec imp
     → (call : Call) (from : TextSource) (status : ℕ) (text : List ℕ) → AreTexts call from requested spec imp → (MayHaveFailed from call.before call.after → ⊥)
     → MayAnswer call status text → (status ≡ 0) ⊎ (status ≡ 1)
-decided_sound once = words_answered once AreDecided (λ status. (status ≡ 0) ⊎ (status ≡ 1))
+decided_sound once meant = words_answered once AreDecidedWith (λ status. (status ≡ 0) ⊎ (status ≡ 1)) (λ requested spec imp status text answer. (meant requested spec imp status text answer).decided)
 
-pub open_complete : WordsRequestAtMostOne → StayingOpenAreAnswered → (requested : TextComparison) (spec imp : List ℕ) → length spec < READ_LIMIT → length imp < READ_LIMIT → AreStayingOpen requested spec imp
+pub open_complete : WordsRequestAtMostOne → AnswersToTextsAreMeant → (requested : TextComparison) (spec imp : List ℕ) → length spec < READ_LIMIT → length imp < READ_LIMIT → AreStayingOpen requested spec imp
     → (call : Call) (from : TextSource) (status : ℕ) (text : List ℕ) → AreTexts call from requested spec imp → (MayHaveFailed from call.before call.after → ⊥)
     → MayAnswer call status text → status ≡ 3
-open_complete once = words_answered once AreStayingOpen (λ status. status ≡ 3)
+open_complete once meant = words_answered once AreStayingOpen (λ status. status ≡ 3) (λ requested spec imp status text answer. (meant requested spec imp status text answer).stays_open)
 
 -- and of a refutation
 pub refuted_sound : WordsRequestAtMostOne → CheckLaws → (f : Refutation) (first second : List ℕ) (formula : Formula) (adds : List (List Lit)) → length first < READ_LIMIT → length second < READ_LIMIT → AreRead first second formula adds

@@ -12,7 +12,7 @@ use Rattle.bb_ladder.specs.GivenTexts.{AnsweredHaveGiven, Checked, Compared, Hav
 use Rattle.bb_ladder.specs.MadePairs.{request_for}
 use Rattle.bb_ladder.specs.Refutations.{Checks}
 use Rattle.bb_ladder.specs.Sources.{AreBytes, Given, read_of}
-use Rattle.bb_verdict.specs.TextAnswers.{Judges}
+use Rattle.bb_verdict.specs.InvariantAnswers.{AnswersTexts}
 use Rattle.bb_ladder.proofs.HeadlineLemmas.{requests_no_comparison, requests_no_refutation, never_both, never_files_and_made, no_failure, no_refusal, same_question, same_refutation}
 use Rattle.bb_ladder.proofs.SourceLemmas.{reported_after_one, reported_after_two}
 
@@ -48,7 +48,7 @@ module _ (once : WordsRequestAtMostOne) (call : Call) (status : ℕ) (text : Lis
   texts_given : MayAnswer call status text → IsVerdict status → HaveTexts call
   texts_given (Usage none no_pair neither same s t) is = absurd (no_refusal status is s)
   texts_given (Comparing q requests files) is =
-      let gave = files_gave (Judges q.requested) call.holds q.spec q.imp call.before call.after status text earlier known is files in
+      let gave = files_gave (AnswersTexts q.requested) call.holds q.spec q.imp call.before call.after status text earlier known is files in
       Compared q.requested gave.0 gave.1 (FileTexts q requests refl gave.2)
   texts_given (Making m makes quiet judges) is = Compared (request_for m.fill m.options) (made_spec m.n) (made_imp m.n) (MadeTexts m makes refl refl refl)
   texts_given (Refuting f requests files) is =
@@ -58,7 +58,7 @@ module _ (once : WordsRequestAtMostOne) (call : Call) (status : ℕ) (text : Lis
   comparison_reported : status ≡ 2 → MayAnswer call status text → (q : PairRequest) → pair_request_of call.words ≡ Some q → AreReadsKnownOf Given call.holds call.before call.after q.spec q.imp
   comparison_reported two (Usage none no_pair neither same s t) q requests = absurd (requests_no_comparison q (pair_request_of call.words) none requests)
   comparison_reported two (Comparing p also files) q requests =
-      subst (λ (z : PairRequest). AreReadsKnownOf Given call.holds call.before call.after z.spec z.imp) (same_question p q (sym also ∙ requests)) (files_reported_of (Judges p.requested) call.holds p.spec p.imp call.before call.after status text earlier known two files)
+      subst (λ (z : PairRequest). AreReadsKnownOf Given call.holds call.before call.after z.spec z.imp) (same_question p q (sym also ∙ requests)) (files_reported_of (AnswersTexts p.requested) call.holds p.spec p.imp call.before call.after status text earlier known two files)
   comparison_reported two (Making m makes quiet judges) q requests = absurd (never_files_and_made once call.words q m requests makes)
   comparison_reported two (Refuting f also files) q requests = absurd (never_both once call.words q f requests also)
 

@@ -2,9 +2,6 @@
 -- its vectors show mistakes, each check leaves the question open, or a read failed.
 use Rattle.std.proofs.Common.{inl, inr, ◌≡◌, ◌<◌, ℕ, ◌==◌, Bool, true, false, if◌then◌else◌, List, ◌++◌, length, Option, Some, None, arith, codes, option_map, refl, sym, ◌∙◌, ap, subst}
 use Rattle.bb_outside.specs.Counts.{IsRead, Reads, next_count}
-use Rattle.bb_checks.specs.declared.verdict.Verdict.{Verdict}
-use Rattle.bb_checks.specs.declared.verdict.Verdict.TheVariants as verdicts
-use Rattle.bb_checks.specs.Reports.{status_of, verdict_of}
 use Rattle.bb_frontend.specs.declared.limit.TheConstants.{READ_LIMIT}
 use Rattle.bb_verdict.specs.declared.requested.TextComparison.{TextComparison}
 use Rattle.bb_make.specs.Adders.{made_imp, made_spec}
@@ -14,12 +11,10 @@ use Rattle.bb_ladder.specs.Answers.{AnswersSpeakOfTexts, PairRequest, AfterSpec,
 use Rattle.bb_ladder.specs.Calls.{Call}
 use Rattle.bb_ladder.specs.MadePairs.{JudgesMade, request_for, head_by, head_of, made_head, made_text}
 use Rattle.bb_ladder.specs.Refutations.{CheckLaws, Checks, FailsAt, Refutes, no_line}
-use Rattle.bb_verdict.specs.Laws.TextAnswers.{OpenAnswersAreReports, ErrorsAreShown, AnsweredFit, ErrorsRefute, RepairsFinish, OpenAnswersLeaveOpen}
-use Rattle.bb_verdict.specs.OpenReports.{IsOpenReport}
-use Rattle.bb_verdict.specs.ShownMistakes.{AreShown}
+use Rattle.bb_verdict.specs.Laws.InvariantAnswers.{AnswersToTextsAreMeant}
 use Rattle.bb_ladder.specs.Sources.{AreBytes, TextSource}
-use Rattle.bb_verdict.specs.TextAnswers.{Judges, Refused, Judged}
-use Rattle.bb_verdict.specs.TextPairs.{AreRefuted, AreLeftOpen, DoFit, IsFinishedReport}
+use Rattle.bb_verdict.specs.InvariantAnswers.{AnswersTexts, AreLeftOpenWith, AreRefutedWith, AreShownWith, IsFinishedWith, IsOpenReportWith}
+use Rattle.bb_verdict.specs.TextPairs.{DoFit}
 use Rattle.bb_ladder.proofs.SourceLemmas.{both_whole}
 
 pub same_question : (a b : PairRequest) → Some a ≡ Some b → a ≡ b
@@ -120,7 +115,7 @@ module _ (judged : List ℕ → List ℕ → ℕ → List ℕ → Type 0) (so : 
 
 -- the same of a comparison, of files or of a made pair
 module _ (once : WordsRequestAtMostOne) (so : TextComparison → List ℕ → List ℕ → List ℕ → Type 0) (n : ℕ) (not_refused : n ≡ 2 → ⊥) (not_unread : n ≡ 4 → ⊥)
-    (judged : (requested : TextComparison) (spec imp : List ℕ) (status : ℕ) (text : List ℕ) → Judges requested spec imp status text → status ≡ n → so requested spec imp text) where
+    (judged : (requested : TextComparison) (spec imp : List ℕ) (status : ℕ) (text : List ℕ) → AnswersTexts requested spec imp status text → status ≡ n → so requested spec imp text) where
   made_so : (words : List (List ℕ)) (status : ℕ) (text : List ℕ) (known m : MadePair) → JudgesMade known status text → requested_made_pair words ≡ Some m → known ≡ m → status ≡ n
       → IsReport so words (request_for m.fill m.options) (made_spec m.n) (made_imp m.n) text
   made_so words status text known m judges makes same is =
@@ -134,8 +129,8 @@ module _ (once : WordsRequestAtMostOne) (so : TextComparison → List ℕ → Li
     text,
     no_head once call.words q text requests,
     subst (λ z. so z spec imp text) (sym same)
-        (files_so (Judges q.requested) (so q.requested) n not_refused not_unread (judged q.requested) from call.holds q.spec q.imp call.before call.after spec imp text status both
-        (subst (λ (z : PairRequest). OfFiles (Judges z.requested) call.holds z.spec z.imp call.before call.after status text) (same_question known q (sym e ∙ requests)) files) is),
+        (files_so (AnswersTexts q.requested) (so q.requested) n not_refused not_unread (judged q.requested) from call.holds q.spec q.imp call.before call.after spec imp text status both
+        (subst (λ (z : PairRequest). OfFiles (AnswersTexts z.requested) call.holds z.spec z.imp call.before call.after status text) (same_question known q (sym e ∙ requests)) files) is),
   )
   answer_so call from status text requested spec imp (Comparing known e files) is (MadeTexts m makes a x y) = absurd (never_files_and_made once call.words known m e makes)
   answer_so call from status text requested spec imp (Making known e quiet judges) is (FileTexts q requests same both) = absurd (never_files_and_made once call.words q known requests e)
@@ -170,21 +165,23 @@ no_failure status (inl (inr one)) four = omega (arith, one, four)
 no_failure status (inr three) four = omega (arith, three, four)
 
 -- what each status says of the texts of a call
-module _ (once : WordsRequestAtMostOne) (fit : AnsweredFit) (finish : RepairsFinish) (refute : ErrorsRefute) (show : ErrorsAreShown) (leave : OpenAnswersLeaveOpen)
-    (reports : OpenAnswersAreReports) where
+module _ (once : WordsRequestAtMostOne) (meant : AnswersToTextsAreMeant) where
   pub answers_speak : AnswersSpeakOfTexts
   answers_speak call from status text requested spec imp may texts = record {
-    judged = λ verdict. answer_so once (λ requested spec imp text. Judges requested spec imp status text) status (no_refusal status verdict) (no_failure status verdict)
-        (λ requested spec imp other text judged same. subst (λ n. Judges requested spec imp n text) same judged) call from status text requested spec imp may refl texts;
-    finished = λ zero. answer_so once IsFinishedReport 0 (λ e. omega (arith, e)) (λ e. omega (arith, e)) finish call from status text requested spec imp may zero texts;
-    refuted = λ one. (answer_so once (λ requested spec imp text. AreRefuted requested spec imp) 1 (λ e. omega (arith, e)) (λ e. omega (arith, e)) refute
-        call from status text requested spec imp may one texts).2;
+    judged = λ verdict. answer_so once (λ requested spec imp text. AnswersTexts requested spec imp status text) status (no_refusal status verdict) (no_failure status verdict)
+        (λ requested spec imp other text judged same. subst (λ n. AnswersTexts requested spec imp n text) same judged) call from status text requested spec imp may refl texts;
+    finished = λ zero. answer_so once IsFinishedWith 0 (λ e. omega (arith, e)) (λ e. omega (arith, e))
+        (λ requested spec imp status text answer. (meant requested spec imp status text answer).finished) call from status text requested spec imp may zero texts;
+    refuted = λ one. (answer_so once (λ requested spec imp text. AreRefutedWith requested spec imp) 1 (λ e. omega (arith, e)) (λ e. omega (arith, e))
+        (λ requested spec imp status text answer. (meant requested spec imp status text answer).refuted) call from status text requested spec imp may one texts).2;
     fit = λ verdict. (answer_so once (λ requested spec imp text. DoFit requested spec imp) status (no_refusal status verdict) (no_failure status verdict)
-        (λ requested spec imp other text judged same. fit requested spec imp other text judged (λ two. no_refusal status verdict (sym same ∙ two))) call from status text requested spec imp may refl texts).2;
-    shown = λ one. answer_so once AreShown 1 (λ e. omega (arith, e)) (λ e. omega (arith, e)) show call from status text requested spec imp may one texts;
-    left_open = λ three. (answer_so once (λ requested spec imp text. AreLeftOpen requested spec imp) 3 (λ e. omega (arith, e)) (λ e. omega (arith, e)) leave
-        call from status text requested spec imp may three texts).2;
-    open_report = λ three. answer_so once IsOpenReport 3 (λ e. omega (arith, e)) (λ e. omega (arith, e)) reports call from status text requested spec imp may three texts;
+        (λ requested spec imp other text answer same. (meant requested spec imp other text answer).fit (λ two. no_refusal status verdict (sym same ∙ two))) call from status text requested spec imp may refl texts).2;
+    shown = λ one. answer_so once AreShownWith 1 (λ e. omega (arith, e)) (λ e. omega (arith, e))
+        (λ requested spec imp status text answer. (meant requested spec imp status text answer).shown) call from status text requested spec imp may one texts;
+    left_open = λ three. (answer_so once (λ requested spec imp text. AreLeftOpenWith requested spec imp) 3 (λ e. omega (arith, e)) (λ e. omega (arith, e))
+        (λ requested spec imp status text answer. (meant requested spec imp status text answer).left_open) call from status text requested spec imp may three texts).2;
+    open_report = λ three. answer_so once IsOpenReportWith 3 (λ e. omega (arith, e)) (λ e. omega (arith, e))
+        (λ requested spec imp status text answer. (meant requested spec imp status text answer).open_report) call from status text requested spec imp may three texts;
   }
 
 -- with --rup what is written is the answer to the two texts
@@ -197,15 +194,8 @@ pub no_sound : WordsRequestAtMostOne → CheckLaws → (call : Call) (from : Tex
 no_sound once laws = refutation_so once (λ first second text. (n : ℕ) × (text ≡ no_line n) × FailsAt first second n) 1 (λ e. omega (arith, e)) (λ e. omega (arith, e)) laws.no
 
 -- no text that is judged gives the status of a failed read
-
-no_fourth : (v : Verdict) → status_of v ≡ 4 → ⊥
-no_fourth verdicts.Error e = omega (arith, e)
-no_fourth verdicts.Repairable e = omega (arith, e)
-no_fourth verdicts.Open e = omega (arith, e)
-
-never_unread : (requested : TextComparison) (spec imp : List ℕ) (status : ℕ) (text : List ℕ) → Judges requested spec imp status text → status ≡ 4 → ⊥
-never_unread requested spec imp status text (Refused r is s t) four = omega (arith, s, four)
-never_unread requested spec imp status text (Judged p lines d i are for climb s rest follows t) four = no_fourth (verdict_of lines) (sym s ∙ four)
+never_unread : AnswersToTextsAreMeant → (requested : TextComparison) (spec imp : List ℕ) (status : ℕ) (text : List ℕ) → AnswersTexts requested spec imp status text → status ≡ 4 → ⊥
+never_unread meant requested spec imp status text answer = (meant requested spec imp status text answer).readable
 
 -- a read that gave bytes counts no failure
 gave_bytes : (before after : Reads) (name : List ℕ) (limit : ℕ) (bytes : List ℕ) → IsRead before after name limit (Some (Some bytes)) → after.faults ≡ before.faults
@@ -221,12 +211,12 @@ files_unread judged never holds first second before after status text (SpecRead 
 files_unread judged never holds first second before after status text (SpecRead spec between g short c (ImpLong imp h l d s t)) four = absurd (omega (arith, s, four))
 files_unread judged never holds first second before after status text (SpecRead spec between g short c (BothRead imp h low d j)) four = absurd (never spec imp status text j four)
 
-pub unread_counted : CheckLaws → (call : Call) (status : ℕ) (text : List ℕ) → MayAnswer call status text → status ≡ 4
+pub unread_counted : AnswersToTextsAreMeant → CheckLaws → (call : Call) (status : ℕ) (text : List ℕ) → MayAnswer call status text → status ≡ 4
     → call.after.faults ≡ next_count call.before.faults
-unread_counted laws call status text (Usage none no_pair neither c s t) four = absurd (omega (arith, s, four))
-unread_counted laws call status text (Comparing q e files) four = files_unread (Judges q.requested) (never_unread q.requested) call.holds q.spec q.imp call.before call.after status text files four
-unread_counted laws call status text (Making m e quiet judges) four = absurd (never_unread (request_for m.fill m.options) (made_spec m.n) (made_imp m.n) status judges.0 judges.1 four)
-unread_counted laws call status text (Refuting f e files) four =
+unread_counted meant laws call status text (Usage none no_pair neither c s t) four = absurd (omega (arith, s, four))
+unread_counted meant laws call status text (Comparing q e files) four = files_unread (AnswersTexts q.requested) (never_unread meant q.requested) call.holds q.spec q.imp call.before call.after status text files four
+unread_counted meant laws call status text (Making m e quiet judges) four = absurd (never_unread meant (request_for m.fill m.options) (made_spec m.n) (made_imp m.n) status judges.0 judges.1 four)
+unread_counted meant laws call status text (Refuting f e files) four =
     files_unread Checks (λ first second n line checks. (laws.small first second n line checks).1) call.holds f.cnf f.adds call.before call.after status text files four
 
 -- and elsewhere none is
@@ -242,16 +232,16 @@ files_gave_bytes judged holds first second before after status text (SpecRead sp
 
 pub none_counted : (call : Call) (status : ℕ) (text : List ℕ) → MayAnswer call status text → status < 4 → call.after.faults ≡ call.before.faults
 none_counted call status text (Usage none no_pair neither c s t) small = ap (λ (r : Reads). r.faults) c
-none_counted call status text (Comparing q e files) small = files_gave_bytes (Judges q.requested) call.holds q.spec q.imp call.before call.after status text files small
+none_counted call status text (Comparing q e files) small = files_gave_bytes (AnswersTexts q.requested) call.holds q.spec q.imp call.before call.after status text files small
 none_counted call status text (Making m e quiet judges) small = ap (λ (r : Reads). r.faults) quiet
 none_counted call status text (Refuting f e files) small = files_gave_bytes Checks call.holds f.cnf f.adds call.before call.after status text files small
 
 -- of a made pair none is reported
-pub made_is_read : WordsRequestAtMostOne → (m : MadePair) (call : Call) (status : ℕ) (text : List ℕ) → requested_made_pair call.words ≡ Some m → MayAnswer call status text → status ≡ 4 → ⊥
-made_is_read once m call status text makes (Usage none no_pair neither c s t) four = omega (arith, s, four)
-made_is_read once m call status text makes (Comparing q e files) four = never_files_and_made once call.words q m e makes
-made_is_read once m call status text makes (Making known e quiet judges) four = never_unread (request_for known.fill known.options) (made_spec known.n) (made_imp known.n) status judges.0 judges.1 four
-made_is_read once m call status text makes (Refuting f e files) four = once.not_made_and_refuted call.words m f makes e
+pub made_is_read : AnswersToTextsAreMeant → WordsRequestAtMostOne → (m : MadePair) (call : Call) (status : ℕ) (text : List ℕ) → requested_made_pair call.words ≡ Some m → MayAnswer call status text → status ≡ 4 → ⊥
+made_is_read meant once m call status text makes (Usage none no_pair neither c s t) four = omega (arith, s, four)
+made_is_read meant once m call status text makes (Comparing q e files) four = never_files_and_made once call.words q m e makes
+made_is_read meant once m call status text makes (Making known e quiet judges) four = never_unread meant (request_for known.fill known.options) (made_spec known.n) (made_imp known.n) status judges.0 judges.1 four
+made_is_read meant once m call status text makes (Refuting f e files) four = once.not_made_and_refuted call.words m f makes e
 
 -- no refutation is left open
 files_never_open : CheckLaws → (holds : List ℕ → Option (List ℕ)) (first second : List ℕ) (before after : Reads) (status : ℕ) (text : List ℕ) → OfFiles Checks holds first second before after status text → status ≡ 3 → ⊥

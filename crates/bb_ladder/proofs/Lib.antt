@@ -7,3 +7,4 @@ pub mod RefutationLaws
 pub mod TaskLemmas
 pub mod MadeLemmas
 pub mod QuietLemmas
+pub mod StatusBounds

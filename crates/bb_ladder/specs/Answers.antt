@@ -1,22 +1,22 @@
 -- The possible answers of the program: a status and a text, given the words, what the files hold, and the reads before
 -- and after.
-use Rattle.std.specs.Prelude.{◌≡◌, ◌⊎◌, ℕ, ◌<◌, List, ◌++◌, length, take, Option, None, Some, option_map, codes, IfSome}
+use Rattle.std.specs.Prelude.{◌≡◌, ◌⊎◌, ℕ, ◌<◌, List, ◌++◌, length, take, Option, None, Some, option_map, codes, if◌then◌else◌}
+use Rattle.std.specs.Prelude.{is_some, IfSome}
 use Rattle.bb_outside.specs.Counts.{IsRead, Reads}
 use Rattle.bb_frontend.specs.declared.limit.TheConstants.{READ_LIMIT}
 use Rattle.bb_verdict.specs.declared.requested.TextComparison.{TextComparison}
 use Rattle.bb_ladder.specs.Calls.{Call}
 use Rattle.bb_ladder.specs.Refutations.{Checks}
-use Rattle.bb_verdict.specs.OpenReports.{IsOpenReport}
-use Rattle.bb_verdict.specs.ShownMistakes.{AreShown}
 use Rattle.bb_ladder.specs.Sources.{AreBytes, TextSource}
-use Rattle.bb_verdict.specs.TextAnswers.{Judges}
-use Rattle.bb_verdict.specs.TextPairs.{AreLeftOpen, AreRefuted, DoFit, IsFinishedReport}
+use Rattle.bb_verdict.specs.InvariantAnswers.{AnswersTexts, AreLeftOpenWith, AreRefutedWith, AreShownWith}
+use Rattle.bb_verdict.specs.InvariantAnswers.{IsFinishedWith, IsOpenReportWith}
+use Rattle.bb_verdict.specs.TextPairs.{DoFit}
 use Rattle.bb_make.specs.Adders.{made_imp, made_spec}
 use Rattle.bb_ladder.specs.MadePairs.{JudgesMade, request_for, head_of}
 use Rattle.bb_args.specs.Requests.{MadePair, Refutation, Request, requested, requested_made_pair, requested_refutation}
 
 -- the request of words: the names of the files of the specification and of the implementation, and the options of their
--- comparison
+-- comparison; an invariant is handed on in the place of the care output
 pub record PairRequest : Type 0 where
   pub spec : List ℕ
   pub imp : List ℕ
@@ -26,7 +26,14 @@ abbrev pub pair_request : Request → PairRequest
 pair_request r = record {
   spec = r.spec;
   imp = r.imp;
-  requested = record { spec_top = r.top_spec; imp_top = r.top_imp; care = r.care; fill = r.fill; options = r.options };
+  requested = record {
+    spec_top = r.top_spec;
+    imp_top = r.top_imp;
+    care = if is_some r.invariant then r.invariant else r.care;
+    invariant = is_some r.invariant;
+    fill = r.fill;
+    options = r.options;
+  };
 }
 
 -- words that do not compare two files request nothing of them
@@ -68,7 +75,7 @@ pub data MayAnswer (call : Call) (status : ℕ) (text : List ℕ) : Type 0 where
   Usage : pair_request_of call.words ≡ None → requested_made_pair call.words ≡ None → requested_refutation call.words ≡ None
       → call.after ≡ call.before → status ≡ 2 → text ≡ codes "refused usage\n" → MayAnswer call status text
   Comparing : (q : PairRequest) → pair_request_of call.words ≡ Some q
-      → OfFiles (Judges q.requested) call.holds q.spec q.imp call.before call.after status text → MayAnswer call status text
+      → OfFiles (AnswersTexts q.requested) call.holds q.spec q.imp call.before call.after status text → MayAnswer call status text
   Making : (m : MadePair) → requested_made_pair call.words ≡ Some m → call.after ≡ call.before → JudgesMade m status text
       → MayAnswer call status text
   Refuting : (f : Refutation) → requested_refutation call.words ≡ Some f
@@ -99,13 +106,13 @@ IsVerdict status = ((status ≡ 0) ⊎ (status ≡ 1)) ⊎ (status ≡ 3)
 -- what an answer with this status says of the texts: it is a possible answer to them, and so all else follows
 pub record Means (call : Call) (status : ℕ) (text : List ℕ) (requested : TextComparison) (spec imp : List ℕ) : Type 0 where
   pub judged : IsVerdict status
-      → IsReport (λ requested spec imp report. Judges requested spec imp status report) call.words requested spec imp text
-  pub finished : status ≡ 0 → IsReport IsFinishedReport call.words requested spec imp text
-  pub refuted : status ≡ 1 → AreRefuted requested spec imp
+      → IsReport (λ requested spec imp report. AnswersTexts requested spec imp status report) call.words requested spec imp text
+  pub finished : status ≡ 0 → IsReport IsFinishedWith call.words requested spec imp text
+  pub refuted : status ≡ 1 → AreRefutedWith requested spec imp
   pub fit : IsVerdict status → DoFit requested spec imp
-  pub shown : status ≡ 1 → IsReport AreShown call.words requested spec imp text
-  pub left_open : status ≡ 3 → AreLeftOpen requested spec imp
-  pub open_report : status ≡ 3 → IsReport IsOpenReport call.words requested spec imp text
+  pub shown : status ≡ 1 → IsReport AreShownWith call.words requested spec imp text
+  pub left_open : status ≡ 3 → AreLeftOpenWith requested spec imp
+  pub open_report : status ≡ 3 → IsReport IsOpenReportWith call.words requested spec imp text
 
 -- The law of it: an answer means of the texts what its status says, also where only a prefix of it is written.
 abbrev pub AnswersSpeakOfTexts : Type 0

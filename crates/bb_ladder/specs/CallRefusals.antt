@@ -9,7 +9,7 @@ use Rattle.bb_ladder.specs.Answers.{PairRequest, MayAnswer, pair_request_of}
 use Rattle.bb_ladder.specs.Calls.{Call}
 use Rattle.bb_ladder.specs.Refutations.{IsCheckRefusal}
 use Rattle.bb_ladder.specs.Sources.{AreBytes, IsFirstFile, MayHaveFailed, TextSource}
-use Rattle.bb_verdict.specs.TextPairs.{IsPairRefusal}
+use Rattle.bb_verdict.specs.InvariantAnswers.{IsRefusalLine}
 use Rattle.bb_make.specs.Adders.{made_imp, made_spec}
 use Rattle.bb_ladder.specs.MadePairs.{request_for}
 use Rattle.bb_args.specs.Requests.{MadePair, Refutation, requested_made_pair, requested_refutation}
@@ -31,10 +31,10 @@ pub data IsCallRefusal (call : Call) (from : TextSource) (line : List ℕ) : Typ
   OfWords : pair_request_of call.words ≡ None → requested_made_pair call.words ≡ None → requested_refutation call.words ≡ None
       → line ≡ codes "refused usage\n" → IsCallRefusal call from line
   OfComparison : (q : PairRequest) → pair_request_of call.words ≡ Some q
-      → IsFilesRefusal (IsPairRefusal q.requested) from call.holds call.before call.after q.spec q.imp line
+      → IsFilesRefusal (IsRefusalLine q.requested) from call.holds call.before call.after q.spec q.imp line
       → IsCallRefusal call from line
   OfMadePair : (m : MadePair) → requested_made_pair call.words ≡ Some m
-      → IsPairRefusal (request_for m.fill m.options) (made_spec m.n) (made_imp m.n) line → IsCallRefusal call from line
+      → IsRefusalLine (request_for m.fill m.options) (made_spec m.n) (made_imp m.n) line → IsCallRefusal call from line
   OfRefutation : (f : Refutation) → requested_refutation call.words ≡ Some f
       → IsFilesRefusal IsCheckRefusal from call.holds call.before call.after f.cnf f.adds line
       → IsCallRefusal call from line

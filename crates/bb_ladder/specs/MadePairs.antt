@@ -1,12 +1,12 @@
 -- A made pair: two texts of known answer that the call makes itself, so that it reads no file. Its report begins with
 -- the width of its adders and how many inputs they have. Where the two texts were refused, that line would come alone.
-use Rattle.std.specs.Prelude.{◌≡◌, ℕ, ◌==◌, Bool, if◌then◌else◌, List, [], ◌++◌, length, Option, None, Some, codes}
+use Rattle.std.specs.Prelude.{◌≡◌, ℕ, ◌==◌, Bool, if◌then◌else◌, List, [], ◌++◌, false, length, Option, None, Some, codes}
 use Rattle.std.specs.Prelude.{decimal}
 use Rattle.bb_make.specs.Adders.{inputs, made_imp, made_spec}
 use Rattle.bb_options.specs.declared.options.Options.{Options}
 use Rattle.bb_args.specs.Requests.{MadePair, requested_made_pair}
 use Rattle.bb_verdict.specs.declared.requested.TextComparison.{TextComparison}
-use Rattle.bb_verdict.specs.TextAnswers.{Judges}
+use Rattle.bb_verdict.specs.InvariantAnswers.{AnswersTexts}
 
 -- the options of its comparison: the module add is the top of both, and all outputs have to be equal everywhere
 abbrev pub request_for : Bool → Options → TextComparison
@@ -14,6 +14,7 @@ request_for fill options = record {
   spec_top = Some (codes "add");
   imp_top = Some (codes "add");
   care = None;
+  invariant = false;
   fill = fill;
   options = options;
 }
@@ -38,4 +39,4 @@ made_text n status reported = if status == 2 then reported else made_head n ++ r
 -- the possible answers to a made pair
 abbrev pub JudgesMade : MadePair → ℕ → List ℕ → Type 0
 JudgesMade m status text = (reported : List ℕ)
-    × Judges (request_for m.fill m.options) (made_spec m.n) (made_imp m.n) status reported × (text ≡ made_text m.n status reported)
+    × AnswersTexts (request_for m.fill m.options) (made_spec m.n) (made_imp m.n) status reported × (text ≡ made_text m.n status reported)

@@ -9,14 +9,15 @@ ghost use Rattle.bb_ladder.specs.GivenTexts.{AnsweredHaveGiven};
 
 use crate::refuting::refutations_are_answered;
 use bb_args::words_request_once;
-use bb_verdict::text_laws::{answers_are_meant, refusals_are_one};
+use bb_verdict::invariant_laws::answers_to_texts_are_meant;
+use bb_verdict::text_laws::refusals_are_one;
 
 /// The meaning of each status, also where the sink took only a prefix of the report.
 pub fn answers_speak_of_texts()
     ensures { AnswersSpeakOfTexts }
 {
     words_request_once();
-    answers_are_meant();
+    answers_to_texts_are_meant();
 }
 
 /// A call has at most one first refusal. Status 2 reports it, and it is reported unless a read may have failed.
@@ -27,7 +28,7 @@ pub fn calls_are_refused()
 {
     words_request_once();
     refusals_are_one();
-    answers_are_meant();
+    answers_to_texts_are_meant();
     refutations_are_answered();
 }
 

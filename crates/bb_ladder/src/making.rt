@@ -23,6 +23,7 @@ fn request_for(alloc: Global, fill: bool, options: &Options) -> Result<TextCompa
         spec_top: Some(Name::of(alloc, b"add")?),
         imp_top: Some(Name::of(alloc, b"add")?),
         care: None,
+        invariant: false,
         fill,
         options: *options,
     })

@@ -12,11 +12,10 @@ ghost use Rattle.bb_ladder.specs.CallRefusals.{IsCallRefusal};
 ghost use Rattle.bb_ladder.specs.Calls.{called};
 ghost use Rattle.bb_ladder.specs.ContractForms.{OfRefutations, OfTexts, OfWholeRefutations, OfWholeTexts};
 ghost use Rattle.bb_ladder.specs.Refutations.{AreRead, FailsAt, Refutes, ReportsWhether};
-ghost use Rattle.bb_verdict.specs.OpenReports.{IsOpenReport};
-ghost use Rattle.bb_verdict.specs.ShownMistakes.{AreShown};
+ghost use Rattle.bb_verdict.specs.InvariantAnswers.{AreDecidedWith, AreLeftOpenWith, AreRefutedWith};
+ghost use Rattle.bb_verdict.specs.InvariantAnswers.{AreShownWith, IsFinishedWith, IsOpenReportWith};
+ghost use Rattle.bb_verdict.specs.TextPairs.{AreStayingOpen, DoFit};
 ghost use Rattle.bb_ladder.specs.Sources.{Held, MayHaveFailed, TextSource};
-ghost use Rattle.bb_verdict.specs.TextPairs.{AreDecided, AreLeftOpen, AreRefuted, AreStayingOpen, DoFit};
-ghost use Rattle.bb_verdict.specs.TextPairs.{IsFinishedReport};
 
 use crate::running::run;
 use bb_outside::{QuietFiles, QuietSink};
@@ -45,28 +44,29 @@ pub fn run_quietly(
     // Statuses 0, 1 and 3 come only of texts in which nothing is at fault and that fit.
     ensures fit { IsVerdict result → OfTexts (called words.now holds_of reads_of files.old files.new) DoFit }
 
-    // Tables exist with which every output and every next state is equal at every vector; with a care output, at every
-    // vector at which it is 1. So the two behave alike for ever, whatever events come.
+    // Tables exist with which every output and every next state is equal at every vector; with a care output or an
+    // invariant, at every vector at which it is 1. So the two behave alike for ever, whatever events come; with an
+    // invariant, from each state in which it is 1 whatever the inputs are.
     ensures repairable { result ≡ 0
         → OfTexts (called words.now holds_of reads_of files.old files.new) (λ requested spec imp.
-        (text : List ℕ) × IsFinishedReport requested spec imp text) }
+        (text : List ℕ) × IsFinishedWith requested spec imp text) }
 
     // No contents of the boxes make every output and every next state equal at every such vector, and a report shows
     // how.
-    ensures error { result ≡ 1 → OfTexts (called words.now holds_of reads_of files.old files.new) AreRefuted }
+    ensures error { result ≡ 1 → OfTexts (called words.now holds_of reads_of files.old files.new) AreRefutedWith }
     ensures shown { result ≡ 1 → OfTexts (called words.now holds_of reads_of files.old files.new) (λ requested spec imp.
-        (text : List ℕ) × AreShown requested spec imp text) }
+        (text : List ℕ) × AreShownWith requested spec imp text) }
 
     // An open answer means that each requested check leaves the question open; where it stays open with each, the
-    // answer is open, and where one decides, it is not.
-    ensures left_open { result ≡ 3 → OfTexts (called words.now holds_of reads_of files.old files.new) AreLeftOpen }
+    // answer is open, and where one decides and no invariant is in doubt, it is not.
+    ensures left_open { result ≡ 3 → OfTexts (called words.now holds_of reads_of files.old files.new) AreLeftOpenWith }
     ensures open_report { result ≡ 3
         → OfTexts (called words.now holds_of reads_of files.old files.new) (λ requested spec imp.
-        (text : List ℕ) × IsOpenReport requested spec imp text) }
+        (text : List ℕ) × IsOpenReportWith requested spec imp text) }
     ensures stays_open { OfWholeTexts (called words.now holds_of reads_of files.old files.new) (λ requested spec imp.
         AreStayingOpen requested spec imp → (result ≡ 3) ⊎ (result ≡ 5)) }
     ensures decided { OfWholeTexts (called words.now holds_of reads_of files.old files.new) (λ requested spec imp.
-        AreDecided requested spec imp → ((result ≡ 0) ⊎ (result ≡ 1)) ⊎ (result ≡ 5)) }
+        AreDecidedWith requested spec imp → ((result ≡ 0) ⊎ (result ≡ 1)) ⊎ (result ≡ 5)) }
 
     // With `--rup` the status says whether each addition follows.
     ensures refuted_yes { result ≡ 0 → OfRefutations (called words.now holds_of reads_of files.old files.new) Refutes }

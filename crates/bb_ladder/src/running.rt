@@ -19,12 +19,11 @@ ghost use Rattle.bb_ladder.specs.ContractForms.{OfRefutations, OfTexts, OfWholeR
 ghost use Rattle.bb_ladder.specs.ContractForms.{Writes};
 ghost use Rattle.bb_ladder.specs.GivenTexts.{HaveGiven};
 ghost use Rattle.bb_ladder.specs.Refutations.{AreRead, FailsAt, Refutes, ReportsWhether, no_line};
-ghost use Rattle.bb_verdict.specs.OpenReports.{IsOpenReport};
-ghost use Rattle.bb_verdict.specs.ShownMistakes.{AreShown};
+ghost use Rattle.bb_verdict.specs.InvariantAnswers.{AreDecidedWith, AreLeftOpenWith, AreRefutedWith};
+ghost use Rattle.bb_verdict.specs.InvariantAnswers.{AreShownWith, IsFinishedWith, IsOpenReportWith};
+ghost use Rattle.bb_verdict.specs.TextPairs.{AreStayingOpen, DoFit};
 ghost use Rattle.bb_ladder.specs.Sources.{MayHaveFailed, TextSource};
 ghost use Rattle.bb_ladder.specs.Inside.Tasks.{IsBounded, judged_by};
-ghost use Rattle.bb_verdict.specs.TextPairs.{AreDecided, AreLeftOpen, AreRefuted, AreStayingOpen, DoFit};
-ghost use Rattle.bb_verdict.specs.TextPairs.{IsFinishedReport};
 
 use crate::call_laws::{answered_have_given, answers_speak_of_texts, calls_are_refused};
 use crate::making::judge_made;
@@ -34,7 +33,7 @@ use bb_args::{WordsFault, words_request_once};
 use bb_bits::NoMemory;
 use bb_frontend::READ_LIMIT;
 use bb_outside::{FileFault, Files, Sink, put_all};
-use bb_verdict::text_laws::answers_are_meant;
+use bb_verdict::invariant_laws::answers_to_texts_are_meant;
 use bb_verdict::{Answer, judge_pair, say};
 use std::alloc::Global;
 
@@ -118,7 +117,8 @@ fn answer<F: Files>(alloc: Global, words: &[String], files: &mut F) -> Result<An
 ///   comes where it is requested, or is `rup yes`;
 /// - 1: the report is written and ends with `verdict error`, or is `rup no` and a number;
 /// - 2: the report is the line of a refusal;
-/// - 3: the report is written and ends with `verdict open`;
+/// - 3: the report is written and ends with `verdict open`, by the checks or by an invariant that is not kept or that
+///   it takes too much to find out about;
 /// - 4: a file could not be read, and the report says which;
 /// - 5: nothing is written, as where memory runs out;
 /// - 6: the sink failed, and a prefix of a report is written.
@@ -141,38 +141,41 @@ pub fn run<F: Files, K: Sink>(alloc: Global, words: &[String], files: &mut F, ou
     ensures fit { IsVerdict result → OfTexts (called words.now F.holds F.reads files.old files.new) DoFit }
 
     // The design is reported as repairable only with tables whose contents make every output and every next state equal
-    // at every vector; with a care output, at every vector at which it is 1. So the two behave alike for ever: from the
-    // same states, whatever events come, the implementation with these contents gives the outputs of the specification
-    // at each event, but for the care output, and has its states after it; with a care output as long as it is 1. And
-    // where the filled implementation is requested, after the verdict comes a line that says why there is none, or
-    // `fill` and a text that finishes the design: it reads as a design without boxes that is equivalent to the
-    // specification at every such vector, and to the implementation, its boxes filled as the tables say, at every
-    // vector, and that runs as the specification does. As an implementation it has no fault and it fits, whether its
-    // top is named or not.
+    // at every vector; with a care output or an invariant, at every vector at which it is 1. So the two behave alike
+    // for ever: from the same states, whatever events come, the implementation with these contents gives the outputs of
+    // the specification at each event, but for the care output, and has its states after it; with a care output as long
+    // as it is 1. An invariant is kept by each event, so with one this holds for ever from each state in which it is 1
+    // whatever the inputs are; the line that says so comes before those of the checks. And where the filled
+    // implementation is requested, after the verdict comes a line that says why there is none, or `fill` and a text
+    // that finishes the design: it reads as a design without boxes that is equivalent to the specification at every
+    // such vector, and to the implementation, its boxes filled as the tables say, at every vector, and that runs as the
+    // specification does. As an implementation it has no fault and it fits, whether its top is named or not.
     ensures repairable { result ≡ 0
-        → Reports K.written out.old out.new (called words.now F.holds F.reads files.old files.new) IsFinishedReport }
+        → Reports K.written out.old out.new (called words.now F.holds F.reads files.old files.new) IsFinishedWith }
 
     // An error is reported only where the two can be compared and no contents of the boxes make every output and every
-    // next state equal at every such vector.
-    ensures error { result ≡ 1 → OfTexts (called words.now F.holds F.reads files.old files.new) AreRefuted }
+    // next state equal at every such vector, and only where each event keeps the invariant, if one is requested.
+    ensures error { result ≡ 1 → OfTexts (called words.now F.holds F.reads files.old files.new) AreRefutedWith }
 
     // And the report shows how: after the line of a check that finds it at a vector come the output that is wrong
     // there, where one is named, and the vector, at which the two designs differ whatever the boxes contain; and after
     // the line of the expansion, where a proof is requested, vectors at one of which they differ with each contents.
     ensures shown { result ≡ 1
-        → Reports K.written out.old out.new (called words.now F.holds F.reads files.old files.new) AreShown }
+        → Reports K.written out.old out.new (called words.now F.holds F.reads files.old files.new) AreShownWith }
 
     // The question is left open only where, for each pair of the texts, each requested check finds neither an error nor
-    // tables, would need more nodes or may need more clauses than its bound, or would need tables that are too large.
-    // The report has a line for each of them.
-    ensures left_open { result ≡ 3 → OfTexts (called words.now F.holds F.reads files.old files.new) AreLeftOpen }
+    // tables, would need more nodes or may need more clauses than its bound, or would need tables that are too large;
+    // or where an event breaks the invariant, or too much is needed to find out. The report has a line for each check,
+    // or shows the event.
+    ensures left_open { result ≡ 3 → OfTexts (called words.now F.holds F.reads files.old files.new) AreLeftOpenWith }
     ensures open_report { result ≡ 3
-        → Reports K.written out.old out.new (called words.now F.holds F.reads files.old files.new) IsOpenReport }
+        → Reports K.written out.old out.new (called words.now F.holds F.reads files.old files.new) IsOpenReportWith }
 
-    // Where the texts are within the limit, no read of them may have failed, and a requested check decides a pair of
-    // the texts, the answer is an error or tables, unless memory runs out.
+    // Where the texts are within the limit, no read of them may have failed, a requested check decides a pair of the
+    // texts, and the invariant, if one is requested, is not in doubt, the answer is an error or tables, unless memory
+    // runs out.
     ensures decided { OfWholeTexts (called words.now F.holds F.reads files.old files.new) (λ requested spec imp.
-        AreDecided requested spec imp → (Rose (K.faults out.old) (K.faults out.new) → ⊥)
+        AreDecidedWith requested spec imp → (Rose (K.faults out.old) (K.faults out.new) → ⊥)
         → ((result ≡ 0) ⊎ (result ≡ 1)) ⊎ (result ≡ 5)) }
 
     // And where the question stays open with each requested check, whatever the solver does, that is the answer.
@@ -234,7 +237,7 @@ pub fn run<F: Files, K: Sink>(alloc: Global, words: &[String], files: &mut F, ou
     ensures faults_never_fall { K.faults out.old ≤ K.faults out.new }
 {
     words_request_once();
-    answers_are_meant();
+    answers_to_texts_are_meant();
     answers_speak_of_texts();
     refutations_are_answered();
     calls_are_refused();

@@ -51,6 +51,16 @@ fn given_name(alloc: Global, given: Option<&str>) -> Result<Option<Name>, NoMemo
     }
 }
 
+// An invariant is handed on in the place of the care output; both are not given.
+fn guard<'a>(requested: &FileComparison<'a>) -> Option<&'a str>
+    ensures guard { option_copied result ≡ (pair_request (request_of requested.now)).requested.care }
+{
+    match requested.invariant {
+        Some(name) => Some(name),
+        None => requested.care,
+    }
+}
+
 fn texts_requested(
     alloc: Global,
     requested: &FileComparison<'_>,
@@ -60,7 +70,8 @@ fn texts_requested(
     Ok(TextComparison {
         spec_top: given_name(alloc, requested.top_spec)?,
         imp_top: given_name(alloc, requested.top_imp)?,
-        care: given_name(alloc, requested.care)?,
+        care: given_name(alloc, guard(requested))?,
+        invariant: requested.invariant.is_some(),
         fill: requested.fill,
         options: requested.options,
     })

@@ -16,3 +16,7 @@ pub mod StatusLaw
 pub mod ShownLaw
 pub mod OpenLaw
 pub mod SomeAnswers
+pub mod EdgeLines
+pub mod UnrolledSpecs
+pub mod InvariantAnswers
+pub mod InvariantJudged

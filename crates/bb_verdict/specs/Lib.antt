@@ -5,5 +5,6 @@ pub mod FilledTexts
 pub mod TextAnswers
 pub mod ShownMistakes
 pub mod OpenReports
+pub mod InvariantAnswers
 pub mod Inside
 pub mod Laws

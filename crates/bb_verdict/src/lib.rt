@@ -5,6 +5,8 @@
 mod answer;
 pub mod answer_laws;
 mod filling;
+pub mod invariant_laws;
+mod invariants;
 mod judging;
 mod pair_texts;
 mod requested;

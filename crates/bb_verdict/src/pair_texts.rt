@@ -41,7 +41,11 @@ fn bytes_of(given: &Option<Name>) -> Option<&[u8]>
     }
 }
 
-fn spec_flat(alloc: Global, spec: &[u8], requested: &TextComparison) -> Result<Flat, Refusal>
+pub(crate) fn spec_flat(
+    alloc: Global,
+    spec: &[u8],
+    requested: &TextComparison,
+) -> Result<Flat, Refusal>
     requires short { length spec.now < READ_LIMIT }
     ensures ok { IfOk result (λ flat. (s : Design) × IsDesignOf requested.now.spec_top spec.now s × Implements s flat) }
     ensures refusal { IfErr result (λ refusal. (refusal ≡ Refusal.NoMemory)

@@ -14,6 +14,8 @@ pub struct TextComparison {
     /// The care output: a bit of an output port of the specification, which is not compared itself. Other outputs and
     /// next states have to be equal where it is 1; without one, everywhere.
     pub care: Option<Name>,
+    /// Whether the care output is meant as an invariant: then the checks run only if each clock event keeps it.
+    pub invariant: bool,
     /// Whether the filled implementation follows the verdict `repairable`.
     pub fill: bool,
     /// Which checks run, and their bounds.

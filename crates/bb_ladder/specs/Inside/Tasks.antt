@@ -4,7 +4,7 @@ use Rattle.bb_options.specs.Rungs.{AreBounds}
 use Rattle.bb_args.specs.Requests.{requested_made_pair, requested_refutation}
 use Rattle.bb_ladder.specs.Answers.{pair_request_of}
 use Rattle.bb_ladder.specs.Refutations.{Checks}
-use Rattle.bb_verdict.specs.TextAnswers.{Judges}
+use Rattle.bb_verdict.specs.InvariantAnswers.{AnswersTexts}
 use Rattle.bb_ladder.specs.declared.words.Job.{Job}
 use Rattle.bb_ladder.specs.declared.words.Job.TheVariants.{Files, Made}
 use Rattle.bb_ladder.specs.declared.words.Task.{Task}
@@ -12,7 +12,7 @@ use Rattle.bb_ladder.specs.declared.words.Task.TheVariants.{Comparison, Refutati
 
 -- what may be answered to two texts
 abbrev pub judged_by : Task → List ℕ → List ℕ → ℕ → List ℕ → Type 0
-judged_by (Comparison requested) = Judges requested
+judged_by (Comparison requested) = AnswersTexts requested
 judged_by Refutation = Checks
 
 -- the words request it, of files with these names

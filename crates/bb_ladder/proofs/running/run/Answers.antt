@@ -1,8 +1,24 @@
-use Rattle.std.proofs.Common.{inl}
+use Rattle.std.proofs.Common.{inl, arith}
 use Rattle.bb_ladder.proofs.CallRefusalLaws.{reported_at_two}
 use Rattle.bb_ladder.proofs.CalmLemmas.{decided_sound, open_complete, refuted_sound}
 use Rattle.bb_ladder.proofs.HeadlineLemmas.{made_is_read, no_sound, none_counted, open_compares, unread_counted, yes_sound}
+use Rattle.bb_ladder.proofs.StatusBounds.{at_most_four}
 use Rattle.bb_ladder.proofs.running.run.Goals as goal
+
+pub returns-in-Ok-put_all-clause-status : goal.returns-in-Ok-put_all-clause-status
+returns-in-Ok-put_all-clause-status g c = omega (arith, at_most_four _ c.in-Ok.answer.status c.in-Ok.answer.report.items c.in-Ok.ensures.answer)
+
+pub returns-in-Ok-put_all-clause-silent : goal.returns-in-Ok-put_all-clause-silent
+returns-in-Ok-put_all-clause-silent g c = λ five. absurd (omega (arith, five, at_most_four _ c.in-Ok.answer.status c.in-Ok.answer.report.items c.in-Ok.ensures.answer))
+
+pub returns-in-Ok-put_all-clause-prefix : goal.returns-in-Ok-put_all-clause-prefix
+returns-in-Ok-put_all-clause-prefix g c = λ six. absurd (omega (arith, six, at_most_four _ c.in-Ok.answer.status c.in-Ok.answer.report.items c.in-Ok.ensures.answer))
+
+pub returns-in-Ok-put_all-clause-failed : goal.returns-in-Ok-put_all-clause-failed
+returns-in-Ok-put_all-clause-failed g c = (
+  λ six. absurd (omega (arith, six, at_most_four _ c.in-Ok.answer.status c.in-Ok.answer.report.items c.in-Ok.ensures.answer)),
+  λ other. c.in-Ok-put_all.ensures.counted.1 (λ failed. cc failed),
+)
 
 pub returns-in-Ok-put_all-clause-whole : goal.returns-in-Ok-put_all-clause-whole
 returns-in-Ok-put_all-clause-whole g c = λ small. (c.in-Ok.answer.report.items, rw c.deref.ensures.value at c.in-Ok-put_all.ensures.ok, c.in-Ok.ensures.answer)
@@ -34,18 +50,18 @@ pub returns-in-Ok-put_all-clause-left_open : goal.returns-in-Ok-put_all-clause-l
 returns-in-Ok-put_all-clause-left_open g c = λ answered from requested spec imp texts. (c.answers_speak_of_texts.ensures _ from c.in-Ok.answer.status c.in-Ok.answer.report.items requested spec imp c.in-Ok.ensures.answer texts).left_open answered
 
 pub returns-in-Ok-put_all-clause-unread : goal.returns-in-Ok-put_all-clause-unread
-returns-in-Ok-put_all-clause-unread g c = λ four. unread_counted c.refutations_are_answered.ensures _ c.in-Ok.answer.status c.in-Ok.answer.report.items c.in-Ok.ensures.answer four
+returns-in-Ok-put_all-clause-unread g c = λ four. unread_counted c.answers_to_texts_are_meant.ensures c.refutations_are_answered.ensures _ c.in-Ok.answer.status c.in-Ok.answer.report.items c.in-Ok.ensures.answer four
 
 pub returns-in-Ok-put_all-clause-readable : goal.returns-in-Ok-put_all-clause-readable
 returns-in-Ok-put_all-clause-readable g c = λ small. none_counted _ c.in-Ok.answer.status c.in-Ok.answer.report.items c.in-Ok.ensures.answer small
 
 pub returns-in-Ok-put_all-clause-decided : goal.returns-in-Ok-put_all-clause-decided
 returns-in-Ok-put_all-clause-decided g c = λ from requested spec imp texts spec_short imp_short calm decided quiet. inl
-    (decided_sound c.words_request_once.ensures c.answers_are_meant.ensures.decided requested spec imp spec_short imp_short decided _ from c.in-Ok.answer.status c.in-Ok.answer.report.items texts calm c.in-Ok.ensures.answer)
+    (decided_sound c.words_request_once.ensures c.answers_to_texts_are_meant.ensures requested spec imp spec_short imp_short decided _ from c.in-Ok.answer.status c.in-Ok.answer.report.items texts calm c.in-Ok.ensures.answer)
 
 pub returns-in-Ok-put_all-clause-stays_open : goal.returns-in-Ok-put_all-clause-stays_open
 returns-in-Ok-put_all-clause-stays_open g c = λ from requested spec imp texts spec_short imp_short calm stays quiet. inl
-    (open_complete c.words_request_once.ensures c.answers_are_meant.ensures.stays_open requested spec imp spec_short imp_short stays _ from c.in-Ok.answer.status c.in-Ok.answer.report.items texts calm c.in-Ok.ensures.answer)
+    (open_complete c.words_request_once.ensures c.answers_to_texts_are_meant.ensures requested spec imp spec_short imp_short stays _ from c.in-Ok.answer.status c.in-Ok.answer.report.items texts calm c.in-Ok.ensures.answer)
 
 pub returns-in-Ok-put_all-clause-refused : goal.returns-in-Ok-put_all-clause-refused
 returns-in-Ok-put_all-clause-refused g c = λ two from reported. (
@@ -85,4 +101,4 @@ returns-in-Ok-put_all-clause-given g c = λ earlier known. c.answered_have_given
 
 pub returns-in-Ok-put_all-clause-reads_nothing : goal.returns-in-Ok-put_all-clause-reads_nothing
 returns-in-Ok-put_all-clause-reads_nothing g c = λ m makes.
-    (c.in-Ok.ensures.reads_nothing m makes, made_is_read c.words_request_once.ensures m _ c.in-Ok.answer.status c.in-Ok.answer.report.items makes c.in-Ok.ensures.answer)
+    (c.in-Ok.ensures.reads_nothing m makes, made_is_read c.answers_to_texts_are_meant.ensures c.words_request_once.ensures m _ c.in-Ok.answer.status c.in-Ok.answer.report.items makes c.in-Ok.ensures.answer)
