@@ -88,10 +88,11 @@ def drawn_options(draw, spec, implementation):
     """Words that are mostly of the form that is asked for."""
     files = [draw.choice((spec, implementation, "nowhere", ".", "", "/dev/null", "-"))
              if not draw.randrange(8) else name for name in (spec, implementation)]
+    names = ("y", "y[0]", "y[1]", "k", "q", "", "\u00e9", "\t", "\x7f")
     values = {"--top-spec": ("s", "t", "", "ha"), "--top-impl": ("t", "s", "b11"), "--from": RUNGS
               + ("none",), "--to": RUNGS + ("",), "--patterns": NUMBERS, "--seed": NUMBERS,
               "--nodes": NUMBERS, "--clauses": NUMBERS, "--cache": NUMBERS, "--make": NUMBERS,
-              "--care": ("y", "y[0]", "y[1]", "k", "q", "", "\u00e9", "\t", "\x7f")}
+              "--care": names, "--invariant": names}
     words = files[:draw.choice((0, 1, 2, 2, 2, 2, 2, 2))]
     for _ in range(draw.choice((0, 1, 1, 2, 3, 5))):
         name = draw.choice(list(values))
