@@ -33,13 +33,13 @@ endmodule
 module hole(input [3:0] b, a, output [3:0] o); endmodule
 """
 # `gates` with an order that is drawn in the place of its own.
-ANY_ORDER = f"""import random, runpy, sys
+ANY_ORDER = f"""import random, sys
 sys.path.insert(0, {HERE!r})
-from bbeq_tools.rtl import arrangement
+from bbeq_tools.rtl import arrangement, gates
 draw = random.Random(1)
 arrangement.best_order = lambda roots, sources, groups: [
     draw.sample(list(group), len(group)) for group in groups]
-runpy.run_path({script("gates")!r}, run_name="__main__")
+gates.main()
 """
 NAMED = """module m(input clk, input [7:0] a, b, output [7:0] s);
   reg \\a[3] ; always @(posedge clk) \\a[3] <= b[0]; assign s = a + b + \\a[3] ;
