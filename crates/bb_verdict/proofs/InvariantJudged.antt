@@ -22,6 +22,12 @@ refused_by : (o : Option (List ℕ)) (requested : TextComparison) (spec imp : Li
 refused_by None requested spec imp fault is status text two line = Refused fault is two line
 refused_by (Some name) requested spec imp fault is status text two line = RefusedWith fault is two line
 
+pub refuses_with : {E : Type 0} (requested : TextComparison) (name spec imp : List ℕ) (fault : Refusal) → (fault ≡ NoMemory) ⊎ IsRefusal requested spec imp fault → (result : Result Answer E)
+    → IfOk result (λ a. a.status ≡ 2) → IfOk result (λ a. a.report.items ≡ refusal_line_with (Some name) fault) → IfOk result (λ a. fault ≡ NoMemory → ⊥) → IfOk result (λ a. JudgesWith requested name spec imp a.status a.report.items)
+refuses_with requested name spec imp fault (inl none) (Ok a) two line never = absurd (never none)
+refuses_with requested name spec imp fault (inr is) (Ok a) two line never = RefusedWith fault is two line
+refuses_with requested name spec imp fault may (Err e) two line never = two
+
 pub refuses_by : {E : Type 0} (o : Option (List ℕ)) (requested : TextComparison) (spec imp : List ℕ) (fault : Refusal) → o ≡ invariant_name requested → (fault ≡ NoMemory) ⊎ IsRefusal requested spec imp fault
     → (result : Result Answer E) → IfOk result (λ a. a.status ≡ 2) → IfOk result (λ a. a.report.items ≡ refusal_line_with o fault) → IfOk result (λ a. fault ≡ NoMemory → ⊥)
     → IfOk result (λ a. AnswersTexts requested spec imp a.status a.report.items)
@@ -41,7 +47,7 @@ implements_texts requested spec imp made is = (is.s, is.i, is.designs, is.pair)
 
 -- the checks never answer with the status of a refusal
 
-no_second : (v : Verdict) → status_of v ≡ 2 → ⊥
+pub no_second : (v : Verdict) → status_of v ≡ 2 → ⊥
 no_second verdicts.Error e = omega (arith, e)
 no_second verdicts.Repairable e = omega (arith, e)
 no_second verdicts.Open e = omega (arith, e)

@@ -3,8 +3,8 @@
 //! worlds, and a further check changes no clause here. The clause `error` can be read without knowing what a driver or
 //! a loop is: it speaks of designs in which nothing is at fault, and that the two fit is a clause of its own (`fit`).
 
-ghost use Rattle.std.specs.Prelude.{◌≡◌, ◌<◌, ◌++◌, ◌⊎◌, ℕ, List, codes, length, option_map, IfNone, IfOk, IfSome, OnOk};
-ghost use Rattle.std.specs.Prelude.{Some};
+ghost use Rattle.std.specs.Prelude.{◌≡◌, ◌<◌, ◌++◌, ◌⊎◌, ℕ, List, Some, codes, length, option_map};
+ghost use Rattle.std.specs.Prelude.{IfNone, IfOk, IfSome, OnOk};
 ghost use Rattle.bb_options.specs.Rungs.{AreBounds};
 ghost use Rattle.bb_frontend.specs.declared.limit.TheConstants.{READ_LIMIT};
 ghost use Rattle.bb_frontend.specs.declared.refusal.Refusal.{Refusal};
@@ -126,7 +126,7 @@ fn kept(alloc: Global, made: &Made, options: &Options) -> Result<Answer, NoMemor
     })
 }
 
-// The specification has no refusal, since it is in a pair; so an error is lack of memory.
+// The pair has the netlists alone, so the specification is elaborated once more for its registers' clocks.
 fn answer_with(
     alloc: Global,
     spec: &[u8],
@@ -146,8 +146,9 @@ fn answer_with(
     made_can_be_unrolled();
     unrolled_are_meant();
     let _ = imp;
-    let Ok(flat) = spec_flat(alloc, spec, requested) else {
-        return Err(NoMemory);
+    let flat = match spec_flat(alloc, spec, requested) {
+        Ok(flat) => flat,
+        Err(refusal) => return refuse(alloc, &refusal, Some(name)),
     };
     let Some(cell) = output_cell(&flat, name) else {
         unreachable!();

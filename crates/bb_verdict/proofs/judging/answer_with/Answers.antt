@@ -2,13 +2,20 @@ use Rattle.std.proofs.Common.{◌∙◌, refl, sym, ap, subst, length}
 use Rattle.bb_net.specs.Flats.{IsFlat}
 use Rattle.bb_verdict.specs.InvariantAnswers.{BrokenInvariant, IsBrokenReport}
 use Rattle.bb_verdict.specs.Inside.BrokenTexts.{broken_bytes}
-use Rattle.bb_verdict.proofs.InvariantJudged.{implements_texts, kept_judges, undecided_judges}
+use Rattle.bb_verdict.proofs.InvariantJudged.{refuses_with, implements_texts, kept_judges, undecided_judges}
+use Rattle.bb_verdict.proofs.TextPairLaws.{with_imp}
 use Rattle.bb_verdict.proofs.judging.answer_with.Goals as goal
+
+pub returns-in-Err : goal.returns-in-Err
+returns-in-Err c = record {
+  answer = refuses_with c.args.requested.now c.args.name.now c.args.spec.now c.args.imp.now c.in-Err.refusal
+      (with_imp c.args.requested.now c.args.spec.now c.args.imp.now c.in-Err.refusal c.in-Err.ensures.refusal) c.refuse.result c.refuse.ensures.status c.refuse.ensures.report c.refuse.ensures.memory;
+}
 
 pub unreachable-requires : goal.unreachable-requires
 unreachable-requires c =
     let can = c.made_can_be_unrolled.ensures c.args.requested.now c.args.spec.now c.args.imp.now c.args.name.now c.args.made.now c.in-Ok.flat c.requires.made c.requires.name c.in-Ok.ensures.ok (subst IsFlat c.flat.view_is c.flat.invariant) in
-    c.in_default-output_cell.ensures.none can.1
+    c.in_default.ensures.none can.1
 
 pub decided-requires-clause-can : goal.decided-requires-clause-can
 decided-requires-clause-can c =
