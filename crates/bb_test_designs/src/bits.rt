@@ -7,10 +7,13 @@ use std::alloc::{AllocError, Global};
 use std::process::Abort;
 use std::test::Fail;
 
+/// Blanks between digits are passed over.
 pub(crate) fn bits(alloc: Global, digits: &str) -> Result<Vec<bool>, AllocError> {
     let mut bits = Vec::new(alloc);
     for digit in digits.as_bytes() {
-        bits.push(*digit == b'1')?;
+        if *digit != b' ' {
+            bits.push(*digit == b'1')?;
+        }
     }
     Ok(bits)
 }

@@ -7,6 +7,8 @@ mod bits;
 #[cfg(test)]
 mod designs;
 #[cfg(test)]
+mod event_tests;
+#[cfg(test)]
 mod fill_tests;
 #[cfg(test)]
 mod fitting;

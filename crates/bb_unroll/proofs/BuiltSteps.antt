@@ -1,5 +1,5 @@
 -- An unrolled specification is built cell by cell.
-use Rattle.std.proofs.Common.{get_or, Some, ◌≡◌, ℕ, ◌+◌, ◌-◌, ◌*◌, ◌^◌, ◌<◌, ◌≤◌, false, List, [], length, refl, sym, ap, ap₂, ◌∙◌, subst, arith}
+use Rattle.std.proofs.Common.{get_or, Some, ◌≡◌, ℕ, ◌+◌, ◌-◌, ◌*◌, ◌^◌, ◌<◌, ◌≤◌, false, List, [], ◌∷◌, ◌++◌, length, refl, sym, ap, ap₂, ◌∙◌, subst, arith}
 use Rattle.std.specs.Prelude.{slice_get, slice_index}
 use Rattle.std.proofs.lemmas.List.{length-take-le, take_all, take_more}
 use Rattle.bb_lemmas.proofs.Places.{got, some_at}
@@ -8,16 +8,18 @@ use Rattle.bb_net.specs.declared.cell.Cell.TheVariants.{Const, Input, Not, And, 
 use Rattle.bb_net.specs.declared.flat.Reg.{Reg}
 use Rattle.bb_net.specs.Flats.{FlatNet}
 use Rattle.bb_net.specs.Netlists.{Netlist, MayBeAppended, cell_at, first_cells, with_cell}
-use Rattle.bb_subst.proofs.GateCells.{IsGateAt, one_more}
 use Rattle.bb_unroll.specs.declared.places.Frame.{Frame}
 use Rattle.bb_unroll.specs.declared.places.Frame.TheVariants.{Present, Next}
 use Rattle.bb_unroll.specs.Inside.Building.{gate_in, gates_begin, unrolled_before}
 use Rattle.bb_unroll.specs.Events.{CanBeUnrolled}
 use Rattle.bb_unroll.specs.Unrolled.{fall_input, first_edge, first_gate, first_state, gates, ports, present_place, rise_input, stores_place, unrolled, unrolled_cells, unrolled_inputs}
 use Rattle.bb_unroll.proofs.UnrolledCells.{cells_long, falls_at, gate_at, gates_long, inputs_taken, not_rises_at, state_at}
-use Rattle.bb_unroll.proofs.UnrolledOrder.{each_gate}
+use Rattle.bb_unroll.proofs.UnrolledOrder.{IsGateAt, each_gate}
 
 -- a gate may follow, and adds nothing but itself
+
+abbrev one_more : Netlist → Cell → Netlist
+one_more net c = record net { cells = net.cells ++ c ∷ [] }
 
 pub gate_follows : (net : Netlist) (c : Cell) → net.boxes ≡ [] → IsGateAt net.inputs (length net.cells) c → MayBeAppended net c
 gate_follows net (Const b) none reads = tt

@@ -13,7 +13,6 @@ use Rattle.bb_net.specs.declared.flat.Reg.{Reg}
 use Rattle.bb_net.specs.Flats.{FlatNet}
 use Rattle.bb_net.specs.Netlists.{Netlist, Pins, IsOrdered, ReadsBefore, box_at, cell_at, first_cells}
 use Rattle.bb_net.specs.Values.{IsValue, bit_of, flat, free_bit, gate, value_of, xor}
-use Rattle.bb_subst.proofs.Embeddings.{ValuesAreOne, ValuesExist}
 use Rattle.bb_unroll.specs.declared.places.Frame.{Frame}
 use Rattle.bb_unroll.specs.declared.places.Frame.TheVariants.{Present, Next}
 use Rattle.bb_unroll.specs.Inside.Building.{gate_in, gates_begin, input_in, place_in}
@@ -22,6 +21,14 @@ use Rattle.bb_unroll.specs.Unrolled.{clock_of, fall_input, falls_place, first_ed
 use Rattle.bb_unroll.proofs.UnrolledCells.{cells_long, falls_at, gate_at, input_at, not_rises_at, state_at}
 use Rattle.bb_unroll.proofs.UnrolledOrder.{clock_there, data_there, no_pin, unrolled_ordered}
 use Rattle.bb_unroll.proofs.UnrolledPlaces.{next_constant, next_port, next_state, place_is, place_there, present_low}
+
+-- the laws of bb_net on values
+
+abbrev pub ValuesExist : Type 0
+ValuesExist = (net : Netlist) (x : List Bool) (box : ℕ → ℕ → List Bool → Bool) → IsOrdered net → IsValue net x box (value_of net x box)
+
+abbrev pub ValuesAreOne : Type 0
+ValuesAreOne = (net : Netlist) (x : List Bool) (box : ℕ → ℕ → List Bool → Bool) (bits : List Bool) → IsOrdered net → IsValue net x box bits → bits ≡ value_of net x box
 
 -- bits that each cell gives of those that it reads are the value
 

@@ -10,7 +10,6 @@ use Rattle.bb_net.specs.declared.cell.Cell.TheVariants.{Const, Input, Not, And, 
 use Rattle.bb_net.specs.declared.flat.Reg.{Reg}
 use Rattle.bb_net.specs.Flats.{FlatNet}
 use Rattle.bb_net.specs.Netlists.{Pins, IsOrdered, IsPinAt, ReadsBefore, cell_at, first_cells}
-use Rattle.bb_subst.proofs.GateCells.{IsGateAt}
 use Rattle.bb_unroll.specs.declared.places.Frame.{Frame}
 use Rattle.bb_unroll.specs.declared.places.Frame.TheVariants.{Present, Next}
 use Rattle.bb_unroll.specs.Inside.Building.{gate_in, gates_begin}
@@ -18,6 +17,11 @@ use Rattle.bb_unroll.specs.Events.{CanBeUnrolled}
 use Rattle.bb_unroll.specs.Unrolled.{clock_of, falls_place, first_edge, first_gate, first_state, ports, rise_input, stores_place, unrolled, unrolled_cells, unrolled_inputs}
 use Rattle.bb_unroll.proofs.UnrolledCells.{cells_long, falls_at, gate_at, gates_long, input_at, not_rises_at, state_at}
 use Rattle.bb_unroll.proofs.UnrolledPlaces.{inputs_fit, place_before, present_there}
+
+-- no output pin of a box, and it reads earlier cells
+abbrev pub IsGateAt : ℕ → ℕ → Cell → Type 0
+IsGateAt inputs place (BoxOut b p) = ⊥
+IsGateAt inputs place cell = ReadsBefore inputs [] place cell
 
 first_is_gate : (n k : ℕ) → k < n + 2 → IsGateAt n k (cell_at (first_cells n) k)
 first_is_gate n zero lt = tt

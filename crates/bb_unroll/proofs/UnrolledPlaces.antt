@@ -1,8 +1,12 @@
 -- Where cells of a specification stand in its unrolling, frame by frame.
-use Rattle.std.proofs.Common.{◌≡◌, ℕ, ◌+◌, ◌-◌, ◌<◌, ◌≤◌, ◌⊎◌, if◌then◌else◌, nat_lt, length, ◌∙◌, arith, inl, inr}
+use Rattle.std.proofs.Common.{◌≡◌, ℕ, ◌+◌, ◌-◌, ◌<◌, ◌≤◌, ◌⊎◌, if◌then◌else◌, nat_lt, length, ap, ◌∙◌, arith, inl, inr}
+use Rattle.std.specs.List.{range_with_len}
+use Rattle.std.proofs.lemmas.List.{length-map, length-take}
 use Rattle.std.proofs.lemmas.Bool.{cases_lt, cond-false, cond-true, le-ltb, lt-ltb}
+use Rattle.bb_lemmas.proofs.Ranges.{length-range}
+use Rattle.bb_net.specs.declared.cell.Cell.TheVariants.{Input}
 use Rattle.bb_net.specs.Flats.{FlatNet, IsFlat}
-use Rattle.bb_subst.proofs.FillingSteps.{first_long}
+use Rattle.bb_net.specs.Netlists.{first_cells}
 use Rattle.bb_unroll.specs.declared.places.Frame.{Frame}
 use Rattle.bb_unroll.specs.declared.places.Frame.TheVariants.{Present, Next}
 use Rattle.bb_unroll.specs.Inside.Building.{gates_begin, place_in}
@@ -42,7 +46,9 @@ module _ (f : FlatNet) where
 module _ (f : FlatNet) (flat : IsFlat f) where
   -- it has its constants and inputs, and these are ports and registers
   pub inputs_fit : first_gate f ≤ length f.net.cells
-  inputs_fit = first_long f.net flat.net
+  inputs_fit =
+      let many : length (first_cells f.net.inputs) ≡ f.net.inputs + 2 = omega (arith, length-map (range_with_len 0 f.net.inputs) Input, length-range 0 f.net.inputs) in
+      omega (arith, ap length flat.net.prefix, many, length-take (f.net.inputs + 2) f.net.cells)
 
   pub ports_first : ports f + 2 ≤ first_gate f
   ports_first = omega (arith, flat.named.inputs)

@@ -6,10 +6,9 @@ use Rattle.bb_net.specs.declared.cell.Cell.TheVariants.{Const, Not, And}
 use Rattle.bb_net.specs.Flats.{FlatNet}
 use Rattle.bb_net.specs.Netlists.{IsOrdered, cell_at}
 use Rattle.bb_net.specs.Values.{bit_of, flat, free_bit, gate}
-use Rattle.bb_subst.proofs.Embeddings.{ValuesAreOne, ValuesExist}
 use Rattle.bb_unroll.specs.Events.{CanBeUnrolled, UnrolledHaveBits, ViolationsAreSeen, inputs_after}
 use Rattle.bb_unroll.specs.Unrolled.{next_place, present_place, unrolled, unrolled_cells}
-use Rattle.bb_unroll.proofs.UnrolledBits.{solved_bits}
+use Rattle.bb_unroll.proofs.UnrolledBits.{ValuesAreOne, ValuesExist, solved_bits}
 use Rattle.bb_unroll.proofs.UnrolledCells.{cells_long}
 use Rattle.bb_unroll.proofs.UnrolledOrder.{unrolled_ordered}
 use Rattle.bb_unroll.proofs.UnrolledPlaces.{next_there, present_there}

@@ -4,8 +4,6 @@
 //! A crate of its own below the checks, since it needs netlists alone.
 #![tactic(auto)]
 
-#[cfg(test)]
-mod event_tests;
 pub mod laws;
 mod places;
 mod unrolling;

@@ -3,9 +3,10 @@
 ghost use Rattle.std.specs.Prelude.{◌≡◌, ◌<◌, [], ◌∷◌, length, map, IfOk, IfSome};
 ghost use Rattle.bb_unroll.specs.Events.{CanBeUnrolled};
 
-use crate::violation;
+use crate::bits::outputs;
 use bb_bits::{Name, NoMemory};
 use bb_net::{Cell, Flat, Net, Reg};
+use bb_unroll::violation;
 use std::alloc::Global;
 use std::process::Abort;
 use std::test::Fail;
@@ -44,29 +45,6 @@ fn register(alloc: Global, falling: bool) -> Result<Flat, NoMemory>
     Ok(Flat::of(net, ins, regs, outs, Vec::new(alloc)))
 }
 
-fn bits(alloc: Global, digits: &str) -> Result<Vec<bool>, NoMemory> {
-    let mut bits = Vec::new(alloc);
-    for digit in digits.as_bytes() {
-        if *digit != b' ' {
-            bits.push(*digit == b'1')?;
-        }
-    }
-    Ok(bits)
-}
-
-fn expect<R: Abort>(rt: &R, alloc: Global, net: &Net, row: &str) -> Result<(), Fail> {
-    let (event, expected) = row.split_once(": ").unwrap_or((row, ""));
-    let x = bits(alloc, event)?;
-    assert!(rt; x.len() == net.inputs() as usize);
-    assert!(rt; net.boxes().is_empty());
-    let mut values = vec![in alloc; false; net.cells().len()]?;
-    net.value(&x, &[], &mut values);
-    let out = net.outs().first().copied().ok_or("no output")?;
-    let found = values.get(out as usize).copied().ok_or("no such cell")?;
-    assert_eq!(rt; found, expected == "1", "{row}");
-    Ok(())
-}
-
 fn expect_all<R: Abort>(
     rt: &R,
     alloc: Global,
@@ -81,13 +59,15 @@ fn expect_all<R: Abort>(
     let flat = register(alloc, falling)?;
     let net = violation(alloc, &flat, invariant, care)?;
     for row in rows.lines() {
-        expect(rt, alloc, &net, row)?;
+        let (event, expected) = row.split_once(": ").unwrap_or((row, ""));
+        let found = outputs(rt, alloc, &net, &[], event)?;
+        assert_eq!(rt; found.as_str(), expected, "{row}");
     }
     Ok(())
 }
 
-// The bits of an event: c, e, d and q as it comes, c, e and d after it, which of them rise, and which fall. Then whether
-// q is 1 as it comes and 0 after it.
+// The bits of an event: c, e, d and q as it comes, c, e and d after it, which of them rise, and which fall. Then
+// whether q is 1 as it comes and 0 after it.
 const RISING: &str = "\
 0101 000 100 000: 1
 0111 000 100 000: 0

@@ -7,7 +7,7 @@ use Rattle.bb_net.specs.declared.flat.Reg.{Reg}
 use Rattle.bb_net.specs.Flats.{IsFlat}
 use Rattle.bb_net.specs.Netlists.{Netlist, IsNetlist, first_cells, with_cell, with_out}
 use Rattle.bb_net.specs.Pairs.{BoxTexts}
-use Rattle.bb_unroll.proofs.event_tests.register.Goals as goal
+use Rattle.bb_test_designs.proofs.event_tests.register.Goals as goal
 
 -- what the test builds
 abbrev built : ℕ → Netlist
