@@ -1,5 +1,5 @@
 -- From states in which an invariant is 1 it is 1 at each event of a run.
-use Rattle.std.proofs.Common.{ℕ, true, false, List, [], ◌∷◌, None, Some, true≢false}
+use Rattle.std.proofs.Common.{ℕ, true, false, List, [], ◌∷◌, None, Some, refl, true≢false}
 use Rattle.std.specs.Prelude.{All}
 use Rattle.std.proofs.lemmas.List.Elements.{All-cons, All-nil}
 use Rattle.bb_bits.specs.Contents.{Contents}
@@ -7,9 +7,9 @@ use Rattle.bb_design.specs.Hierarchy.{Design}
 use Rattle.bb_net.specs.CutPoints.{TopOutput}
 use Rattle.bb_equiv.specs.DesignEquivalence.{IsRequired}
 use Rattle.bb_equiv.specs.Invariants.{HoldsIn, IsInvariant}
-use Rattle.bb_equiv.specs.Laws.Invariants.{InvariantsAreNotBroken, InvariantsHoldInRuns}
+use Rattle.bb_equiv.specs.Laws.Invariants.{InvariantsAreNotBroken, InvariantsHoldInRuns, OneVectorIsEnough}
 use Rattle.bb_equiv.proofs.OneBit.{one_bit, place}
-use Rattle.bb_equiv.specs.Runs.{Event, NoEvent, Observation, OneMore, Runs, States}
+use Rattle.bb_equiv.specs.Runs.{Event, IsEvent, NoEvent, Observation, OneMore, Runs, States}
 
 module _ (name : List ℕ) (d : Design) (contents : Contents) (invariant : IsInvariant None d name) where
   holds_in_run : (states : States) (events : List Event) (seen : List Observation) → HoldsIn d contents states name
@@ -29,6 +29,19 @@ invariants_hold_in_runs name spec imp contents invariant run = record {
   alike = λ states others events seen more equal holds a b.
       run.alike states others events seen more equal a b (holds_in_run name spec contents invariant states events seen holds a);
 }
+
+-- an event without edges keeps the states
+pub one_vector_is_enough : OneVectorIsEnough
+one_vector_is_enough care name d contents states event w invariant world has required one =
+    invariant contents states states (record { inputs = event.inputs; edges = λ n. None }) w comes required one
+  where
+    comes : IsEvent d contents states (record { inputs = event.inputs; edges = λ n. None }) w states
+    comes = record {
+      world = world;
+      vector = record { inputs = has.inputs; states = has.states };
+      stores = λ r there stores. absurd (cc stores.3);
+      keeps = λ r there none. refl;
+    }
 
 -- in the world after an event an output has one bit
 pub invariants_are_not_broken : InvariantsAreNotBroken

@@ -1,7 +1,7 @@
 //! Laws of invariants. Each function has a law as its contract and does nothing.
 
 ghost use Rattle.bb_equiv.specs.Laws.Invariants.{BrokenAreBroken, InvariantsAreNotBroken};
-ghost use Rattle.bb_equiv.specs.Laws.Invariants.{InvariantsHoldInRuns, KeptAreInvariants};
+ghost use Rattle.bb_equiv.specs.Laws.Invariants.{InvariantsHoldInRuns, KeptAreInvariants, OneVectorIsEnough};
 
 use crate::laws::lower_laws;
 use bb_design::laws::laws_of_designs;
@@ -11,6 +11,11 @@ use bb_net::{value_exists, value_is_unique};
 /// inputs are, the designs behave the same, whatever events come.
 pub fn invariants_hold_in_runs()
     ensures { InvariantsHoldInRuns }
+{}
+
+/// An invariant that is 1 in one world with some states is 1 in all worlds with them, whatever the inputs are.
+pub fn one_vector_is_enough()
+    ensures { OneVectorIsEnough }
 {}
 
 /// No invariant has an event that breaks it, so an answer that shows such an event never stands beside one that it is

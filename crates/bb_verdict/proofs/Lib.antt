@@ -20,3 +20,5 @@ pub mod EdgeLines
 pub mod UnrolledSpecs
 pub mod InvariantAnswers
 pub mod InvariantJudged
+pub mod InvariantStatuses
+pub mod SomeInvariantAnswers

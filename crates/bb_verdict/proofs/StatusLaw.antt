@@ -55,7 +55,7 @@ refuted_are_seen one allowed exist shown requested spec imp (s, i, are, fit) ref
     (s, i, are, λ contents fill. shown requested.care s i contents (allowed requested.spec_top spec s are.spec_design) (allowed requested.imp_top imp i are.imp_design) can fill.fit (each contents fill))
 
 -- a call asks the same as itself
-same_call : (requested : TextComparison) → RequestTheSamePair requested requested
+pub same_call : (requested : TextComparison) → RequestTheSamePair requested requested
 same_call requested = record { spec_top = refl; imp_top = refl; care = refl; shared = refl }
 
 pub statuses_never_clash : TextsReadAsOne → RepairsFinish → ErrorsRefute → StatusesNeverClash

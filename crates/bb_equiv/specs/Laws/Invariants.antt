@@ -1,10 +1,12 @@
 -- Laws of invariants.
-use Rattle.std.specs.Prelude.{◌≡◌, ℕ, ◌+◌, Bool, List, drop, length, map, take, Option, None, Some, slice_get}
+use Rattle.std.specs.Prelude.{◌≡◌, ℕ, ◌+◌, Bool, true, List, drop, length, map, take, Option, None, Some, slice_get}
 use Rattle.bb_bits.specs.Contents.{Contents}
 use Rattle.bb_design.specs.Hierarchy.{Design}
 use Rattle.bb_design.specs.Inside.Allowed.{IsAllowed}
 use Rattle.bb_design.specs.Refusals.{input_texts}
-use Rattle.bb_equiv.specs.Invariants.{IsBrokenBy, IsInvariant, RunTheSameFrom}
+use Rattle.bb_design.specs.Worlds.{World, IsWorld, HasVector, outputs_in}
+use Rattle.bb_equiv.specs.DesignEquivalence.{IsRequired}
+use Rattle.bb_equiv.specs.Invariants.{HoldsIn, IsBitIn, IsBrokenBy, IsInvariant, RunTheSameFrom}
 use Rattle.bb_equiv.specs.Mistakes.{inputs_of}
 use Rattle.bb_equiv.specs.Runs.{Event, RunTheSame, States, seen_at}
 use Rattle.bb_implements.specs.Implements.{Implements}
@@ -18,6 +20,12 @@ use Rattle.bb_unroll.specs.Unrolled.{next_input}
 abbrev pub InvariantsHoldInRuns : Type 0
 InvariantsHoldInRuns = (name : List ℕ) (spec imp : Design) (contents : Contents) → IsInvariant None spec name
     → RunTheSame (Some name) spec imp contents → RunTheSameFrom name spec imp contents
+
+-- where one is 1 at one vector with these states, it is 1 with them whatever the inputs are
+abbrev pub OneVectorIsEnough : Type 0
+OneVectorIsEnough = (care : Option (List ℕ)) (name : List ℕ) (d : Design) (contents : Contents) (states : States)
+    (event : Event) (w : World) → IsInvariant care d name → IsWorld d contents w → HasVector d (seen_at states event) w
+    → IsRequired care (outputs_in d w) → IsBitIn d w name true → HoldsIn d contents states name
 
 -- and an event that breaks one shows that it is none
 abbrev pub InvariantsAreNotBroken : Type 0
@@ -61,6 +69,7 @@ pub record AreListedIn (d : Design) (f : FlatNet) (x : List Bool) (states : Stat
 
 -- and what breaks it there is an event of the design that breaks it
 abbrev pub BrokenAreBroken : Type 0
-BrokenAreBroken = (care : Option (List ℕ)) (name : List ℕ) (d : Design) (f : FlatNet) (k : ℕ) (c : Option ℕ) (x : List Bool)
+BrokenAreBroken = (care : Option (List ℕ)) (name : List ℕ) (d : Design) (f : FlatNet) (k : ℕ)
+    (c : Option ℕ) (x : List Bool)
     → ImplementsInvariant care name d f k c → IsBrokenAt f k c x → (states : States) × (event next : Event)
     × AreListedIn d f x states event next × ((contents : Contents) → IsBrokenBy care d name contents states event next)
