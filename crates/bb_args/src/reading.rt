@@ -206,8 +206,8 @@ fn wanted<'a>(matches: &ArgMatches<'a>) -> Option<Wanted<'a>>
 /// that, has to follow `=`. No name is empty. A number has at most 20 digits. After `--` every word is a file.
 ///
 /// With `--make` and a number from 1 to 256 a pair is made and compared, and no file, no top, no `--shared`, no
-/// `--care` and no `--invariant` may be given. With `--rup` the two files are a formula and clause additions, and no other flag and no
-/// option may be given.
+/// `--care` and no `--invariant` may be given. With `--rup` the two files are a formula and clause additions, and no
+/// other flag and no option may be given.
 ///
 /// # Errors
 /// `Usage` where the words are not of this form, and `NoMemory` for lack of memory.

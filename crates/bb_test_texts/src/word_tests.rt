@@ -27,14 +27,17 @@ fn print_options(out: &mut String, options: &Options, fill: bool) -> Result<(), 
     out.push_str(if fill { " fill" } else { "" })
 }
 
-// Files and tops, options, and the care output where there is one.
+// Files and tops, options, and the care output or the invariant where there is one.
 fn print_comparison(out: &mut String, requested: &FileComparison<'_>) -> Result<(), AllocError> {
     write!(out, "{} {}", requested.spec, requested.imp)?;
     write!(out, " {}", requested.top_spec.unwrap_or("none"))?;
     write!(out, " {} ", requested.top_imp.unwrap_or("none"))?;
     print_options(out, &requested.options, requested.fill)?;
-    match requested.care {
-        Some(text) => write!(out, " care {text}"),
+    if let Some(text) = requested.care {
+        write!(out, " care {text}")?;
+    }
+    match requested.invariant {
+        Some(text) => write!(out, " invariant {text}"),
         None => Ok(()),
     }
 }
@@ -81,6 +84,7 @@ bbeq --shared a b --shared => refused
 bbeq --fill a b --fill => refused
 bbeq a b --seed 1 --seed=2 => refused
 bbeq a b --care k --care k => refused
+bbeq a b --invariant k --invariant k => refused
 bbeq a b --top-spec m --top-spec m => refused
 // unknown
 bbeq a b -h => refused
@@ -106,10 +110,18 @@ bbeq a b --fill=x => refused
 bbeq a b --care => refused
 bbeq a b --care= => refused
 bbeq a b --care  => refused
+bbeq a b --invariant => refused
+bbeq a b --invariant= => refused
+bbeq a b --invariant  => refused
+// a care output and an invariant
+bbeq a b --care k --invariant m => refused
+bbeq a b --invariant k --care k => refused
 // no name of a bit
 bbeq a b --care=k\u{7f} => refused
 bbeq a b --care k\tm => refused
 bbeq a b --care ä => refused
+bbeq a b --invariant k\tm => refused
+bbeq a b --invariant ä => refused
 // no number within the bounds
 bbeq a b --seed 0 => refused
 bbeq a b --seed=18446744073709551616 => refused
@@ -147,6 +159,9 @@ bbeq a b --top-spec=m => a b m none ternary expand false 32 1 1000000 2000000 65
 bbeq a b --top-impl m => a b none m ternary expand false 32 1 1000000 2000000 65536 false
 bbeq a b --top-impl=m => a b none m ternary expand false 32 1 1000000 2000000 65536 false
 bbeq a b --care k => a b none none ternary expand false 32 1 1000000 2000000 65536 false care k
+bbeq a b --invariant k => a b none none ternary expand false 32 1 1000000 2000000 65536 false invariant k
+bbeq a b --fill --shared --invariant=k[0] => a b none none ternary expand false 32 1 1000000 2000000 65536 false \
+    shared fill invariant k[0]
 bbeq a b --shared --care=k[0] => a b none none ternary expand false 32 1 1000000 2000000 65536 false shared care k[0]
 bbeq a b --from local => a b none none local expand false 32 1 1000000 2000000 65536 false
 bbeq a b --from=output => a b none none output expand false 32 1 1000000 2000000 65536 false
@@ -218,6 +233,7 @@ bbeq a b --rup --nodes 1000000 => refused
 bbeq a b --rup --clauses=2000000 => refused
 bbeq a b --rup --cache 65536 => refused
 bbeq a b --rup --care k => refused
+bbeq a b --rup --invariant k => refused
 bbeq a b --rup --make 4 => refused
 bbeq a b --rup --nodes x => refused";
 
@@ -235,6 +251,7 @@ bbeq --nodes 5 --clauses 6 --cache 7 --make 4 => make 4 ternary expand false 32 
 bbeq --make 4 --fill => make 4 ternary expand false 32 1 1000000 2000000 65536 false fill
 bbeq --make 4 --shared => refused
 bbeq --make 4 --care k => refused
+bbeq --make 4 --invariant k => refused
 // no number, or none within the bounds
 bbeq --make => refused
 bbeq --make= => refused
