@@ -18,6 +18,7 @@ from bbeq_tools.certify.netlists import Design, check_fit, known_as, read_design
 from bbeq_tools.certify.refuted import refute
 from bbeq_tools.certify.simulated import Bits, Unread, simulate
 from bbeq_tools.cli import Fault, run_script
+from bbeq_tools.report.cared import add_care_words, care_of_report, why_open
 from bbeq_tools.report.reports import (OTHER, Vector, add_report_words, read_report, vectors,
                                        verdict)
 from bbeq_tools.words import Words
@@ -46,7 +47,7 @@ def parse_words() -> argparse.Namespace:
                    epilog="Needs yosys and iverilog, and for `expand` cadical or minisat.")
     add_report_words(parser)
     parser.add_argument("--shared", action="store_true", help="as for bbeq")
-    parser.add_argument("--care", metavar="NAME", help="as for bbeq")
+    add_care_words(parser)
     return parser.parse_args()
 
 
@@ -170,7 +171,8 @@ class Pair:
                 formula.ask((own[key], bit) for key, bit in wanted.items())
         if not self.is_refuted(formula):
             raise NotSo(f"{error.check}: some tables are right at the {len(found)} vectors; "
-                        "--shared, --care and the tops have to be those of the report")
+                        "--shared, --care or --invariant, and the tops have to be those of the "
+                        "report")
         return (f"{error.check}: no tables are right at the {len(found)} vectors "
                 f"({len(formula.clauses)} clauses)")
 
@@ -197,7 +199,10 @@ def certify(words: argparse.Namespace, folder: str) -> int:
     """The status of the command."""
     lines = read_report(words.report)
     if verdict(lines) != "error":
-        raise Fault(f"{words.report}: the verdict is {verdict(lines)}, and certify is for errors")
+        raise Fault(f"{words.report}: the verdict is {verdict(lines)}{why_open(lines)}, and "
+                    "certify is for errors")
+    words.care = care_of_report("certify", words, lines, "vectors count where the invariant {} is "
+                                "1; that each event keeps it is not checked")
     errors = errors_in(lines)
     if not errors:
         raise NotSo("the report has no check with an error")

@@ -4,6 +4,7 @@ import sys
 from typing import Dict, List, NamedTuple, Optional
 
 from bbeq_tools.cli import Fault
+from bbeq_tools.report.cared import invariant_word
 from bbeq_tools.report.reports import Tables, Vector, is_verdict, tables, vectors
 
 PROOF = ("vector ", "clause ", "step ")  # Lines of the proof of an expansion.
@@ -34,6 +35,11 @@ class Account(NamedTuple):
     @property
     def last(self) -> Optional[Check]:
         return self.checks[-1] if self.checks else None
+
+    @property
+    def invariant(self) -> Optional[str]:
+        """What became of an invariant: `kept`, `broken`, `open`, or nothing where there is none."""
+        return invariant_word(self.lines)
 
     def made(self) -> Optional[str]:
         """The number of bits of a made pair."""

@@ -47,15 +47,26 @@ def scope(words: Words) -> str:
     return where
 
 
-def on_repairable(words: Words, boxes: int) -> Advice:
+def for_ever(account: Account, words: Words) -> List[Markup]:
+    """What an invariant adds to equal next states."""
+    if account.invariant != "kept":
+        return []
+    name = code(words.care or "the invariant")
+    return [sentence("Each clock event keeps ", name, ", so outputs and states stay equal for ever "
+                     "from states in which it is 1 whatever the inputs are. That the initial "
+                     "states are such is for you to show.")]
+
+
+def on_repairable(account: Account, words: Words, boxes: int) -> Advice:
     if not boxes:
         return Advice("Equivalent", [sentence(
-            "The two designs give the same outputs and next states at ", scope(words), ".")], [
+            "The two designs give the same outputs and next states at ", scope(words), "."),
+            *for_ever(account, words)], [
                 sentence("Nothing is left to do: the implementation has no box.")])
     whose = "each empty module" if words.shared else "each box"
     return Advice("The design can be finished", [sentence(
         f"With the contents below for {whose} the two designs give the same outputs and next "
-        "states at ", scope(words), ".")], [
+        "states at ", scope(words), "."), *for_ever(account, words)], [
             sentence("Write the implementation with its boxes filled: ",
                      command("fill", words, words.impl, "-o", "filled.v"), "."),
             sentence("Or have bbeq print the finished circuit, of which all is proved: give it the "
@@ -135,6 +146,25 @@ def has_siblings(side: Side) -> bool:
     return len(set(modules)) < len(modules)
 
 
+def on_broken(words: Words) -> Advice:
+    name = code(words.care or "the output")
+    return Advice("The invariant is not kept", [sentence(
+        "The clock event below begins in a state in which ", name, " is 1, and ends in one in "
+        "which it is 0. So it is no invariant of the specification, and no check ran.")], [
+            sentence("If the state before the event never comes, let ", name,
+                     " be 0 in that state too."),
+            sentence("If it comes, let ", name, " be 1 in the states that the event leads to, "
+                     "whatever the inputs are then."),
+            sentence("Run the same words again.")])
+
+
+def on_unknown(sides: List[Side]) -> Advice:
+    return Advice("Open", [sentence(
+        "Whether each clock event keeps the invariant could not be found out, so no check ran. "
+        "This is no fault of the design."), *([size_of(sides[1])] if sides else [])],
+                  list(map(marked, on_open("invariant open"))))
+
+
 def on_undecided(account: Account, sides: List[Side]) -> Advice:
     rungs = [f"rung {check.name} {check.result}" for check in account.checks[-1:]]
     meaning = [sentence("The checks that were run can tell neither that the design can be "
@@ -175,9 +205,13 @@ def on_refutation(account: Account) -> Advice:
 def advice(account: Account, words: Words, sides: List[Side]) -> Advice:
     boxes = len(sides[1].flat.boxes) if sides else 1
     if account.verdict == "repairable":
-        return on_repairable(words, boxes)
+        return on_repairable(account, words, boxes)
     if account.verdict == "error":
         return on_error(account, words, boxes)
+    if account.invariant == "broken":
+        return on_broken(words)
+    if account.invariant == "open":
+        return on_unknown(sides)
     if account.verdict == "open":
         return on_undecided(account, sides)
     return on_refutation(account) if account.verdict == "rup" else on_refused(account)

@@ -15,6 +15,7 @@ from bbeq_tools.page.sources import addition, excerpt, named_line
 from bbeq_tools.page.tables import contents_of, contents_section
 from bbeq_tools.page.traces import Traces, traces_of
 from bbeq_tools.page.waves import waves
+from bbeq_tools.report.buses import buses
 
 HERE = os.path.dirname(os.path.realpath(__file__))
 MOST_LINES, MOST_LETTERS, LINE_LETTERS = 400, 200_000, 20_000  # Of the report, and of a line of it.
@@ -129,6 +130,23 @@ def vector_sections(subject: Subject) -> List[Markup]:
     return shown
 
 
+EVENT = {"input": "As the event comes", "edges": "Edges of inputs", "then": "Inputs after it"}
+
+
+def event_sections(account: Account) -> List[Markup]:
+    """The event that breaks an invariant."""
+    rows = []
+    for line in account.head:
+        word, _, rest = line.partition(" ")
+        if word in EVENT:
+            bits = dict(part.rpartition("=")[::2] for part in rest.split(" ") if part)
+            text = " ".join(f"{name} {bit}s" if word == "edges" else f"{name}={bit}"
+                            for name, bit in (bits.items() if word == "edges" else buses(bits)))
+            rows.append(element("tr", element("th", EVENT[word]),
+                                element("td", code(shortened(text or "none", LINE_LETTERS)))))
+    return [section("The event", element("table", *rows, class_="checks"), id_="event")]
+
+
 def contents_sections(subject: Subject) -> List[Markup]:
     account, shown = subject.account, []
     found = contents_of(subject.sides[1].flat, account, subject.words.shared, subject.unused)
@@ -187,6 +205,8 @@ def sections(subject: Subject) -> List[Markup]:
         return refused_sections(subject)
     if account.vectors and subject.sides:
         shown += vector_sections(subject)
+    if account.invariant == "broken":
+        shown += event_sections(account)
     if account.tables:
         shown += contents_sections(subject)
     if account.verdict == "error" and not account.vectors and subject.sides:
@@ -198,7 +218,8 @@ def sections(subject: Subject) -> List[Markup]:
         shown.append(section("The filled text", *texts, id_="filled"))
     shown.append(section("Checks", checks(account), id_="checks"))
     if subject.sides:
-        is_cause = account.verdict in ("error", "open") and not account.vectors
+        is_cause = (account.verdict in ("error", "open") and not account.vectors
+                    and account.invariant != "broken")
         shown.append(designs_section(subject.sides, is_cause))
     return shown
 

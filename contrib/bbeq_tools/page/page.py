@@ -64,13 +64,16 @@ def care_of(sides: List[Side]) -> Optional[str]:
     return others[0] if len(others) == 1 else None
 
 
-def unused_rows(words: Namespace, account: Account, side: Side) -> Dict[str, Set[int]]:
+def unused_rows(words: Namespace, account: Account, sides: List[Side]) -> Dict[str, Set[int]]:
     """The rows that no vector brings, by their box."""
     if not words.spec or not account.tables:
         return {}
     if words.shared:
         raise Fault("--spec goes by the rows of each box, so it does not stand beside --shared")
-    asked = Namespace(spec=words.specification, top_spec=words.top_spec)
+    option = "care" if account.invariant is None else "invariant"
+    asked = Namespace(spec=words.specification, top_spec=words.top_spec, care=None, invariant=None)
+    setattr(asked, option, care_of(sides))
+    side = sides[1]
     found = with_unused(asked, side.flat.text, side.flat.modules, side.flat.top, account.tables)
     return {path: {row for _, bits in lines for row, bit in enumerate(bits) if bit == "-"}
             for path, lines in found.items()}
@@ -94,7 +97,7 @@ def subject_of(words: Namespace) -> Subject:
         set(account.tables) <= {box.path for box in sides[1].flat.boxes})
     said = Said(shown(words.report), shown(words.specification), shown(words.implementation),
                 care_of(sides), is_shared)
-    unused = unused_rows(words, account, sides[1]) if sides else {}
+    unused = unused_rows(words, account, sides) if sides else {}
     filled = filled_text(words, account, sides[1]) if sides else None
     return Subject(account, said, sides, unused, filled, words.vector)
 

@@ -9,7 +9,8 @@ import sys
 from bbeq_tools.cli import Fault, run_script
 from bbeq_tools.reference.truths import (CHECKS, MOST_CONTENTS, MOST_INPUTS, MOST_PINS, climb,
                                          pair_of)
-from bbeq_tools.report.reports import other_texts, read_report, tables
+from bbeq_tools.report.cared import add_care_words, care_of_report, why_open
+from bbeq_tools.report.reports import other_texts, read_report, tables, verdict
 from bbeq_tools.verilog.language import read_modules, top_of
 from bbeq_tools.words import Words
 
@@ -34,9 +35,12 @@ def parse_words():
     parser.add_argument("--all", action="store_true", help="go on after a mistake, as bbeq does")
     parser.add_argument("--shared", action="store_true",
                         help="boxes of one module have the same contents, as for bbeq")
-    parser.add_argument("--care", metavar="NAME",
-                        help="the output that says where the two have to agree, as for bbeq")
-    return parser.parse_args()
+    add_care_words(parser)
+    words = parser.parse_args()
+    if words.lines and words.invariant:
+        parser.error("--lines stands with --care: evaluate looks at no events, so it cannot say "
+                     "what becomes of an invariant")
+    return words
 
 
 def modules_of(path, top):
@@ -44,10 +48,9 @@ def modules_of(path, top):
     return modules, top_of(path, modules, top)
 
 
-def tell_report(pair, report, care):
+def tell_report(pair, report, lines, care):
     """Whether the tables of a report agree, and if not, where they are wrong; the status is then
     1."""
-    lines = read_report(report)
     contents = pair.contents_in(tables(lines))
     if contents is None:
         raise Fault(f"{report}: its tables are not those of these boxes; {other_texts(lines)}")
@@ -60,10 +63,15 @@ def tell_report(pair, report, care):
 
 def command():
     words = parse_words()
+    lines = read_report(words.report) if words.report else []
+    if why_open(lines):
+        raise Fault(f"{words.report}: the verdict is {verdict(lines)}{why_open(lines)}")
+    words.care = care_of_report("evaluate", words, lines, "vectors count where the invariant {} is "
+                                "1; that each event keeps it is not looked at")
     pair = pair_of(modules_of(words.specification, words.top_spec),
                    modules_of(words.implementation, words.top_impl), words.shared, words.care)
     if words.report:
-        tell_report(pair, words.report, words.care)
+        tell_report(pair, words.report, lines, words.care)
     elif words.lines:
         print(*climb(pair, words.first, words.last, words.all), sep="\n")
     else:

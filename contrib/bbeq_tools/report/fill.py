@@ -14,9 +14,11 @@ import re
 import sys
 
 from bbeq_tools.cli import Fault, Output, run_script
+from bbeq_tools.report.cared import add_care_words, care_of_report, invariant_word, why_open
 from bbeq_tools.report.filler import STYLES, Filler
 from bbeq_tools.report.ports import around
-from bbeq_tools.report.reports import other_texts, read_filled, read_report, tables, verdict
+from bbeq_tools.report.reports import (all_lines, filled_in, other_texts, read_report, tables,
+                                       verdict)
 from bbeq_tools.report.unused import with_unused
 from bbeq_tools.verilog.language import read_modules, top_of
 from bbeq_tools.words import Words
@@ -49,6 +51,7 @@ def parse_words():
                         "brings to a box of the top, with the other tables as they are; the "
                         "program has to find the two repairable with 0 there and with 1")
     parser.add_argument("--top-spec", help="the top module of SPEC, as for bbeq")
+    add_care_words(parser)
     parser.add_argument("--flat", action="store_true", help="write the filled implementation that "
                         "stands in a report of bbeq --fill")
     parser.add_argument("--ports", metavar="IMPL", help="with --flat: write a module with the name "
@@ -58,6 +61,8 @@ def parse_words():
                        or words.only or words.rtl or words.spec or words.top_spec or words.top
                        and not words.ports):
         parser.error("--flat stands with REPORT, --ports and its --top, and -o alone")
+    if (words.care or words.invariant) and not words.spec:
+        parser.error("--care and --invariant stand with --spec, which has bbeq compare again")
     if not words.flat and (words.implementation is None or words.ports):
         parser.error("--ports stands with --flat alone" if words.ports else "IMPL is missing")
     words.style = words.style or "sums"
@@ -102,8 +107,18 @@ def write_flat(words):
     """The filled implementation of the report, in a module with the ports of the implementation
     where this is asked for."""
     output = Output(words.output, [words.report, *([words.ports] if words.ports else [])])
-    filled = read_filled(words.report)
+    lines, is_whole = all_lines(words.report)
+    filled = filled_in(words.report, lines, is_whole)
+    tell_invariant(lines)
     output.write((around(words.ports, words.top, filled) if words.ports else "") + filled)
+
+
+def tell_invariant(lines):
+    """From which states the filled implementation is right."""
+    if invariant_word(lines) == "kept":
+        print("fill: the filled implementation behaves as the specification from states in which "
+              "the invariant is 1; that it starts in such a state is for you to show",
+              file=sys.stderr)
 
 
 def command():
@@ -118,11 +133,13 @@ def command():
     lines = read_report(words.report)
     if verdict(lines) != "repairable":
         raise Fault(f"{words.report}: the report has no tables, since its verdict is "
-                    f"{verdict(lines)}")
+                    f"{verdict(lines)}{why_open(lines)}")
     text, modules = read_modules(words.implementation)
     top = top_of(words.implementation, modules, words.top)
     filler = filler_of(words, text, modules, lines, words.shared)
     if words.spec:
+        care_of_report("fill", words, lines, "rows are joined that no vector brings, also none "
+                       "where the invariant {} is 0")
         filler.tables = with_unused(words, text, modules, top, filler.tables)
     filler.check_parameters()
     filled = filler.fill(top, words.only)
@@ -132,6 +149,7 @@ def command():
                     "say --boxes or --shared")
     for warning in filler.warnings():
         print(f"fill: warning: {warning}", file=sys.stderr)
+    tell_invariant(lines)
     output.write(filled)
 
 

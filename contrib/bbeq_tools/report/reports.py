@@ -57,7 +57,11 @@ def read_report(path: str) -> Lines:
 
 def read_filled(path: str) -> str:
     """The filled implementation that stands behind the verdict of a report."""
-    lines, is_whole = all_lines(path)
+    return filled_in(path, *all_lines(path))
+
+
+def filled_in(path: str, lines: Lines, is_whole: bool) -> str:
+    """The same, of the lines of a report."""
     place = verdict_place(lines)
     behind = lines[place + 1:]
     if verdict(lines) != "repairable":

@@ -43,9 +43,10 @@ def with_unused(words: Any, text: str, modules: Dict[str, Module], top: Module,
                       {path: box for path, box in boxes.items() if path in tables})
         rows = shared(probe.unused(program, folder), tables, boxes)
         for bit in "01" if any(rows.values()) else "0":
-            tops = ["--top-impl",
-                    top.name] + ([f"--top-spec={words.top_spec}"] if words.top_spec else [])
-            told = run(program, *tops, "--", words.spec,
+            given = {"top-impl": top.name, "top-spec": words.top_spec, "care": words.care,
+                     "invariant": words.invariant}
+            asked = [f"--{option}={value}" for option, value in given.items() if value]
+            told = run(program, *asked, "--", words.spec,
                        write(folder, "filled.v", filled(marked(tables, rows, bit))))[-1]
             if told == "verdict open":
                 return tables

@@ -12,6 +12,7 @@ import tempfile
 
 from bbeq_tools.cli import Fault, Output, run_script
 from bbeq_tools.report.buses import grouped, hexadecimal, shown
+from bbeq_tools.report.cared import why_open
 from bbeq_tools.report.reports import OTHER, add_report_words, read_report, vectors, verdict
 from bbeq_tools.verilog.language import bit_text, read_modules, top_of, written
 from bbeq_tools.words import Words
@@ -49,7 +50,8 @@ def chosen(path, number):
 def no_vector(lines):
     """Why a report shows no vector."""
     if verdict(lines) != "error":
-        return f"the verdict is {verdict(lines)}, so there is no wrong vector to show"
+        return (f"the verdict is {verdict(lines)}{why_open(lines)}, so there is no wrong vector to "
+                "show")
     if "rung output none" in lines:
         return ("the report shows no vector, since no single one is wrong whatever the boxes give: "
                 "`why` shows several that are wrong together")

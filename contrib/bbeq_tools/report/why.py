@@ -13,6 +13,7 @@ from bbeq_tools.cli import Fault, Output, run_script
 from bbeq_tools.program import find_program
 from bbeq_tools.report.alike import pin_texts, remedies, sight, told_answers
 from bbeq_tools.report.buses import shown
+from bbeq_tools.report.cared import add_care_words, care_of_report, why_open
 from bbeq_tools.report.least import least
 from bbeq_tools.report.possible import Possible, TooMany
 from bbeq_tools.report.reports import (add_report_words, read_report, vectors as shown_vectors,
@@ -26,8 +27,7 @@ def parse_words():
                    epilog="The program is $BBEQ, or bbeq on the PATH, or the one that was built in "
                    "this repository. Words of bbeq after `--` are handed to it.")
     add_report_words(parser)
-    parser.add_argument("--care", metavar="NAME",
-                        help="the output that says where the two have to agree, as for bbeq")
+    add_care_words(parser)
     parser.add_argument("-o", "--output", metavar="FILE",
                         help="write the vectors there, as a report that `wave` shows")
     parser.add_argument("--runs", action="store_true", help="print each run: how many outputs it "
@@ -154,8 +154,10 @@ def command():
                                    words.implementation]) if words.output else None
     lines = read_report(words.report)
     if verdict(lines) != "error":
-        raise Fault(f"{words.report}: the verdict is {verdict(lines)}, so there is no error to "
-                    "explain")
+        raise Fault(f"{words.report}: the verdict is {verdict(lines)}{why_open(lines)}, so there "
+                    "is no error to explain")
+    words.care = care_of_report("why", words, lines, "vectors count where the invariant {} is 1; "
+                                "whether their states are ever reached is not looked at")
     program = find_program()
     if not program:
         raise Fault("bbeq is not there; run ./bbeq once, or set BBEQ")

@@ -107,7 +107,8 @@ def advice_on(rung):
     except (OSError, StopIteration):
         return []
     section = text.partition("\n## Where the verdict is open\n")[2].partition("\n## ")[0]
-    rows = [line.split("|")[1:4] for line in section.splitlines() if line.startswith("| `rung ")]
+    rows = [line.split("|")[1:4] for line in section.splitlines()
+            if line.startswith(("| `rung ", "| `invariant "))]
     row = next((row for row in rows if f"`{rung}`" in row[0]), rows[0] if rows else ("", "", ""))
     return [advice.strip()
             for advice in re.split(r"(?:^|\s)(?=\d\. )", row[2].strip()) if advice.strip()]

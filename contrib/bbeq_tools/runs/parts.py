@@ -10,7 +10,7 @@ import os
 import subprocess
 import sys
 
-from bbeq_tools.cli import Fault, run_script
+from bbeq_tools.cli import Fault, Misuse, run_script
 from bbeq_tools.program import find_program
 from bbeq_tools.runs.folders import COLUMNS, check_folder, hashes, locked, rows, write_parts
 from bbeq_tools.runs.parting import pair_of
@@ -34,12 +34,19 @@ def parse_words():
                         help="put boxes of one module into one part, as bbeq's --shared needs it")
     parser.add_argument("--care", metavar="NAME", help="keep this output of the specification in "
                         "each part, as bbeq's --care needs it")
+    parser.add_argument("--invariant", metavar="NAME", help="refused, since an invariant is one of "
+                        "the whole specification")
     words = parser.parse_args()
+    if words.invariant is not None:
+        raise Misuse(WHOLE.format(words.invariant))
     if words.outputs is not None and words.outputs < 1:
         parser.error("--outputs is 1 or more")
     return words
 
 
+WHOLE = ("an invariant is one of the whole specification: whether an event keeps it depends on "
+         "registers of all parts. `bbeq SPEC IMPL --invariant {0} --to ternary` says whether it is "
+         "kept; if so, parts with --care {0} are compared at the same vectors")
 # What is told last: but for the number of its inputs and pins the pair fits, and parts have fewer.
 TOO_MANY = "refused pair pins\n"
 

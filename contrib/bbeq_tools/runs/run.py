@@ -20,7 +20,7 @@ from bbeq_tools.runs.program_words import unknown_word
 from bbeq_tools.runs.runs import CLIMB_SECONDS, Runs
 from bbeq_tools.words import Words
 
-REFUSED = ("fill", "make", "rup", "proof")
+REFUSED = ("fill", "make", "rup", "proof", "invariant")
 NOT_AS_LISTED = 7
 GIVEN_BY = {"proved": "by the proved program", "unproved": "by the unproved program",
             "unknown": "by a program from elsewhere"}
