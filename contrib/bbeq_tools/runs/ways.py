@@ -9,10 +9,11 @@ from bbeq_tools.runs.climbs import (MOST_CLAUSES, MOST_NODES, budgets, order_com
                                     wants_clauses)
 
 FIRST_CLAUSES = 20_000
+FEW_CLAUSES = (200_000, 2_000_000)
 FIRST_NODES = 100_000
 CLAUSE_BYTES, NODE_BYTES, TEXT_BYTES = 400, 24, 20  # Of memory, for each byte of the texts too.
 LEAST_BYTES = 50_000_000
-READING, BY_PARTS, BY_ORDER = "reading", "parts", "ordered"
+READING, FEW, BY_PARTS, BY_ORDER = "reading", "few clauses", "parts", "ordered"
 
 # A run: what it is called, its command, how much memory it may take, whether it is no run of the
 # program, so that what it says on standard error is of no use, and whether it is worth telling
@@ -38,9 +39,22 @@ class Request(namedtuple("Request", """program words specification implementatio
             if os.path.exists(path))
 
     def clause_budgets(self):
-        """At once as many clauses as half of the memory has room for: with fewer the run is the
-        same, but may end too early."""
+        """At once as many clauses as half of the memory has room for: with fewer a run takes fewer
+        vectors at once, so it may need more turns, or end too early."""
         return growing(max(FIRST_CLAUSES, self.memory // 2 // CLAUSE_BYTES), self.most_clauses, 100)
+
+    def few_clause_budgets(self):
+        """Far fewer than those; none where there is no box, since vectors are added for boxes."""
+        return [few for few in FEW_CLAUSES
+                if 4 * few <= self.clause_budgets()[0] and self.may_have_boxes()]
+
+    def may_have_boxes(self):
+        """Whether the implementation has a second module, which may be empty."""
+        try:
+            with open(self.implementation, "rb") as file:
+                return file.read().count(b"endmodule") > 1
+        except OSError:
+            return False
 
     def node_budgets(self, is_one):
         """The same where there is one check. Of several the earlier ones should give up soon, since
@@ -66,8 +80,14 @@ def growing(first, most, factor):
             if budget == most or 4 * budget <= most]
 
 
-def by_clauses(request):
-    for clauses in request.clause_budgets():
+def by_few_clauses(request):
+    """`expand` adds vectors while its clauses have room. Where few vectors suffice, to make the
+    clauses of the others takes most of a run."""
+    return (yield from by_clauses(request, request.few_clause_budgets()))
+
+
+def by_clauses(request, budgets=None):
+    for clauses in request.clause_budgets() if budgets is None else budgets:
         answer = yield request.attempt(f"expand with {clauses} clauses",
                                        ("--from=expand", f"--clauses={clauses}"),
                                        clauses * CLAUSE_BYTES)
@@ -184,7 +204,8 @@ def ways_of(request, is_whole):
     the lines on the pair is never joined of parts."""
     found = {READING: by_reading(request), "expand": by_clauses(request),
              "input": by_nodes(request, "input", "input"),
-             "symbolic to output": by_nodes(request, "symbolic", "output")}
+             "symbolic to output": by_nodes(request, "symbolic", "output"),
+             FEW: by_few_clauses(request)}
     if not is_whole:
         found[BY_PARTS] = by_parts(request)
     return {**found, BY_ORDER: by_order(request)}
