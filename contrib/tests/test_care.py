@@ -25,6 +25,40 @@ endmodule
 REGISTER = ("module m(input c, a, b, output reg q); always @(posedge c) q <= a ? 1'bx : b; "
             "endmodule\n")
 
+STATES = """module m(input clk, rst, go, output reg [1:0] y);
+  reg [2:0] s;
+  always @(posedge clk) {next}
+  always @* case (s) 1: y = {{1'b0, go}}; 2: y = 1; 4: y = 2; default: y = 2'b{x}{x}; endcase
+endmodule
+"""
+# Next states, and what becomes of the invariant.
+NEXT = {
+    "one hot": ("if (rst) s <= 1; else case (s) 1: s <= go ? 2 : 1; 2: s <= 4; 4: s <= go ? 1 : 4; "
+                "default: s <= 3'b{x}{x}{x}; endcase", "kept"),
+    "a way out": ("if (rst) s <= 1; else case (s) 1: s <= go ? 2 : 1; 2: s <= 4; 4: s <= go ? 5 : "
+                  "4; default: s <= 3'b{x}{x}{x}; endcase", "broken"),
+    "an input that hides it": ("s <= go & ~s[2] ? 3'b{x}{x}{x} : rst ? 1 : {{s[1:0], s[2]}};",
+                               "broken"),
+    "gates": ("s <= rst ? 1 : {{s[1], s[0], s[2] & ~(s[1] & (s[0] ? 1'b{x} : go)) | 1'b0 ^ s[2] "
+              "& s[0]}};", "kept"),
+}
+# For each state whether the invariant is 1, and whether some inputs bring an x.
+STATE_BENCH = """module bench;
+  reg clk, rst, go; wire [1:0] y, z; wire k; integer state, at; reg bad;
+  rtl one(clk, rst, go, y); m two(clk, rst, go, z, k);
+  initial for (state = 0; state < 8; state = state + 1) begin
+    bad = 0;
+    for (at = 0; at < 4; at = at + 1) begin
+      clk = 0; {rst, go} = at; #1 one.s = state; two.s = state;
+      #1 if (^y === 1'bx) bad = 1;
+      #1 clk = 1;
+      #1 if (^one.s === 1'bx) bad = 1;
+    end
+    clk = 0; #1 two.s = state; #1 $display("%b%b", k, bad);
+  end
+endmodule
+"""
+
 
 class Care(Tries):
     part = "care"
@@ -54,11 +88,36 @@ class Care(Tries):
         run(["iverilog", "-g2005", "-o", program, bench, rtl, made])
         return run(["vvp", "-n", program]).out.split()
 
+    def test_invariant(self):
+        """It is 1 in the states in which no inputs bring an x, and the program says whether they
+        lead to such states alone."""
+        for name, (body, answer) in NEXT.items():
+            text = STATES.replace("{next}", body)
+            source = write(self.folder, "m.v", text.format(x="x"))
+            made = os.path.join(self.folder, "made.v")
+            done = run([script("gates"), "--undef", "invariant", source, "-o", made])
+            self.note(f"gates --undef invariant of {name}", done.status == 0 and "y or the next "
+                      "state of s undefined: compare with --invariant invariant" in done.err,
+                      done.why())
+            rtl = write(self.folder, "rtl.v", read(source).replace("module m(", "module rtl("))
+            program = os.path.join(self.folder, "bench.vvp")
+            run(["iverilog", "-g2005", "-o", program, write(self.folder, "bench.v", STATE_BENCH),
+                 rtl, made])
+            rows = run(["vvp", "-n", program]).out.split()
+            self.note(f"the invariant of {name}", len(rows) == 8 and set(rows) == {"10", "01"},
+                      str(rows))
+            one = os.path.join(self.folder, "one")
+            run([script("gates"), write(self.folder, "one.v", text.format(x="1")), "-o", one])
+            done = bbeq(made, one, "--invariant", "invariant")
+            self.note(f"what bbeq says of {name}", done.out.startswith(f"invariant {answer}\n")
+                      and (done.status == 0) == (answer == "kept"), done.why())
+
     def test_refused(self):
         source = write(self.folder, "m.v", REGISTER)
         done = run([script("gates"), "--undef", "care", source])
         self.note("an undefined value that a register takes", is_told(done, "gates")
-                  and "register q may take" in done.err, done.why())
+                  and "register q may take" in done.err
+                  and "--undef invariant leaves out" in done.err, done.why())
         source = write(self.folder, "m.v", MODULE.format(BODIES["a default"]).replace(
             "^a", "b") .replace("1'bx", "1'b1"))
         done = run([script("gates"), "--undef", "care", source])

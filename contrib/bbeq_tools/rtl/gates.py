@@ -15,7 +15,7 @@ from bbeq_tools.rtl.marks import (mark_modules, mark_undefined, mark_words, name
                                   register_ports)
 from bbeq_tools.rtl.netlist import Netlist
 from bbeq_tools.rtl.sources import UNKNOWN, Sources, load, natural, place, run_yosys
-from bbeq_tools.rtl.undefined import add_care
+from bbeq_tools.rtl.undefined import ADDED, add_care
 from bbeq_tools.rtl.writer import Writer
 from bbeq_tools.words import Words
 
@@ -79,10 +79,12 @@ def parse_words():
     parser.add_argument("--cells", action="append", default=[], metavar="FILE",
                         help="models of the cells of a netlist: a register in one goes by the name "
                         "of the net that the cell drives (needs --top)")
-    parser.add_argument("--undef", choices=("0", "1", "care"), help="the bit that stands for an "
-                        "undefined value (x) or an undriven net; or `care`: of a specification an "
-                        "output more that is 0 where an undefined value reaches an output, for "
-                        "bbeq's --care; without it these are refused")
+    parser.add_argument("--undef", choices=("0", "1", *ADDED), help="the bit that stands for "
+                        "an undefined value (x) or an undriven net; or `care`: of a specification "
+                        "an output more that is 0 where an undefined value reaches an output, for "
+                        "bbeq's --care; or `invariant`: one that is 0 in states in which it may "
+                        "reach an output or a register, for --invariant; without it these are "
+                        "refused")
     parser.add_argument("--parameter", action="append", default=[], metavar="NAME=VALUE",
                         help="set a parameter of the top")
     parser.add_argument("--define", action="append", default=[], metavar="NAME[=VALUE]",
@@ -110,8 +112,8 @@ def parse_words():
     for option, given in (("--parameter", words.parameter), ("--cells", words.cells)):
         if given and not words.top:
             parser.error(f"{option} needs --top")
-    if words.undef == "care" and words.words:
-        parser.error("--undef care is of gates, so it does not go with --words")
+    if words.undef in ADDED and words.words:
+        parser.error(f"--undef {words.undef} is of gates, so it does not go with --words")
     if not all(re.fullmatch(r"\w+(=.*)?", macro) for macro in words.define):
         parser.error("--define needs NAME or NAME=VALUE")
     if not all(re.fullmatch(r"[^=\s]+=\S+", setting) for setting in words.parameter):
@@ -286,7 +288,7 @@ def translate(words, folder):
     run_yosys(script.replace("{words}", ""), folder)
     mapped = load(folder, "mapped.json")
     rename(mapped[top], words.rename)
-    if words.undef == "care":
+    if words.undef in ADDED:
         add_care(top, mapped, words)
     writer = Writer(Netlist(top, mapped, words), words.keep_order, dict(memories(modules, top)))
     lines = list(writer.text(words.files))

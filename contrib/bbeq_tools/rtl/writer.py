@@ -84,7 +84,7 @@ class Writer:
             return f"1'b{self.net.undef}"
         reader = self.told(reader)
         if bit == "x" or self.net.describe(bit).endswith(MARK[1:]):
-            if self.net.undef == "care":  # The care output is 0 where this bit counts.
+            if self.net.undef:  # The output that is added is 0 where this bit counts.
                 return "1'b0"
             if source == UNKNOWN:
                 raise Fault("a value is undefined (x) somewhere, as where an index can go beyond "
