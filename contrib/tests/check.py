@@ -32,7 +32,8 @@ itself makes. `parts` compares what is joined of parts with the program on 40 dr
 $CHECK_PARTS, and `run` asks the hosts that the file $CHECK_HOSTS names, where there is one.
 `words` compares 300 drawn expressions, or $CHECK_WORDS, with what iverilog makes of them, and
 `simulated` what `parts` writes of 10 drawn pairs, or of $CHECK_SIMULATED, as yosys reads it, and
-`events` runs of 60 drawn pairs, or $CHECK_EVENTS, with what bbeq says of them. `invariants` tries
+`events` runs of 60 drawn pairs, or $CHECK_EVENTS, with what bbeq says of them, and `filled_events`
+those of 300 filled ones, or $CHECK_FILLED_EVENTS, with the specification. `invariants` tries
 each event of 200 drawn specifications, or $CHECK_INVARIANTS, and needs python3 alone. With
 $YOSYS_TESTS, a folder with tests of yosys' sources, such as tests/simple, these are tried as well.
 `page_shown` opens pages in headless chromium where that is installed. `units` are the tests of
@@ -43,7 +44,7 @@ SLOW = ("cells", "limits", "made", "refuse")  # Parts of minutes, which --quick 
 LONG = ("page_shown", "ordered", "gates", "hostile", "filled", "documents", "page", "bad", "ended")
 QUICK = {"CHECK_PAIRS": "60", "CHECK_ORDERED": "10", "CHECK_MUTATED": "100",
          "CHECK_FORMULAS": "200", "CHECK_PARTS": "6", "CHECK_WORDS": "50", "CHECK_SIMULATED": "3",
-         "CHECK_EVENTS": "20", "CHECK_INVARIANTS": "40"}
+         "CHECK_EVENTS": "20", "CHECK_FILLED_EVENTS": "20", "CHECK_INVARIANTS": "40"}
 
 
 def classes_in(suite):

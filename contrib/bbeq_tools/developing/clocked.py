@@ -1,7 +1,7 @@
 """Pairs with registers of one to three clocks and of both edges, drawn, a seed for each, in forms
 that a simulator reads as they are. The implementation has up to two boxes; the specification has a
 gate in the place of each, and for one seed of three a mistake elsewhere. A clock is read by
-registers alone."""
+registers alone, or by an output too."""
 import random
 
 GATES = ("and", "or", "xor", "nand", "nor", "xnor")
@@ -12,7 +12,7 @@ class Clocked:
     """A drawn pair: its two texts, its clocks, registers and outputs, and the name of the care
     output of its specification, where it has one."""
 
-    def __init__(self, seed):
+    def __init__(self, seed, reads_clocks=False):
         self.draw = draw = random.Random(f"clocked {seed}")
         self.clocks = [f"c{number}" for number in range(1 + draw.randrange(3))]
         self.registers = [f"q{number}" for number in range(2 + draw.randrange(3))]
@@ -26,6 +26,8 @@ class Clocked:
             self.gates.append((draw.choice(GATES), f"n{number}", *draw.sample(bits[-5:], 2)))
             bits.append(f"n{number}")
         ends = [draw.choice(bits[-4:]) for _ in (*self.registers, *self.outputs)]
+        if reads_clocks:  # An output may, as that of a gated clock does.
+            ends[-1] = f"{ends[-1]} ^ {draw.choice(self.clocks)}"
         self.implementation = self.text("t", self.outputs, ends, self.holes)
         if seed % 3 == 2:
             ends[draw.randrange(len(ends))] = draw.choice(bits)

@@ -215,7 +215,8 @@ def add_care(name, modules, words):
     module["netnames"][care] = {"hide_name": 0, "bits": [bit], "attributes": {}}
     if not is_care:
         say(f"{care} is 0 in states in which some inputs may make {' or '.join(reached)} "
-            f"undefined: compare with --invariant {care}, which finds out whether such states stay away")
+            f"undefined: compare with --invariant {care}, which finds out whether such states "
+            "stay away")
         return
     say(f"{care} is 0 where {', '.join(reached)} would be undefined: compare with --care {care}")
     free = others + ["all next states"] * bool(net.live_flops)
