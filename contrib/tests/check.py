@@ -41,7 +41,8 @@ single modules, and `style` asks ruff, or pycodestyle and pyflakes, and mypy."""
 UNITS = "units"
 SLOW = ("cells", "limits", "made", "refuse")  # Parts of minutes, which --quick leaves out.
 # The longest of the others, which begin where several go at once.
-LONG = ("page_shown", "ordered", "gates", "hostile", "filled", "documents", "page", "bad", "ended")
+LONG = ("page_shown", "filled_events", "ordered", "gates", "hostile", "filled", "documents", "page",
+        "bad", "ended")
 QUICK = {"CHECK_PAIRS": "60", "CHECK_ORDERED": "10", "CHECK_MUTATED": "100",
          "CHECK_FORMULAS": "200", "CHECK_PARTS": "6", "CHECK_WORDS": "50", "CHECK_SIMULATED": "3",
          "CHECK_EVENTS": "20", "CHECK_FILLED_EVENTS": "20", "CHECK_INVARIANTS": "40"}
