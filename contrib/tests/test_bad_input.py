@@ -169,6 +169,9 @@ TOLD = {"an import": (TYPED + "module m import p::*; (input word_t a, output wor
                        "m.sv:3: ", "a packed array of several ranges"),
         "a cast": (TYPED + MODULE.format("p::state_t s; assign y = s; always_comb s = "
                                          "p::state_t'(a);"), "m.sv:7: ", "--sv2v"),
+        "a cast to a type that is not known":
+        (TYPED + MODULE.format("assign y = state_t'(a);"), "m.sv:7: ",
+         "does not read a cast to a type of SystemVerilog: leave it out, or --sv2v"),
         "a pattern": (MODULE.format("logic [1:0] w [2]; assign w = '{a, a}; assign y = w[0];"),
                       "m.sv:3: ", "--sv2v"), "a name of a package":
         (TYPED + MODULE.format("always_comb case (a) BUSY: y = 1; default: y = 0; endcase"),

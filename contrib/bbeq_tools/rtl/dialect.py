@@ -5,11 +5,12 @@ import re
 import subprocess
 
 SV2V = "--sv2v has sv2v turn it into Verilog"
+CAST = "a cast to a type", "leave it out"
 # What stands on a line that is not read, and what to write there.
 UNREAD = ((r"\bimport\b", "an import", "write PACKAGE::NAME for each name"),
           (r"\]\s*\[[^;]*\]\s*\w", "a packed array of several ranges", "give it one range"),
           (r"'\{", "an assignment pattern", "assign each part"),
-          (r"\w'\(", "a cast to a type", "leave it out"),
+          (r"\w'\(", *CAST),
           (r"\b(interface|modport)\b", "an interface", "make its signals ports"),
           (r"\binside\b", "an `inside`", "compare with each value"))
 COMMENT = re.compile(r"//[^\n]*|/\*.*?\*/", re.DOTALL)
@@ -31,10 +32,12 @@ def unread(text):
             line = file.read().splitlines()[int(source.group(2)) - 1]
     except (OSError, IndexError):
         line = ""
-    for form, what, instead in UNREAD:
-        if re.search(form, line):
-            return f"{what} of SystemVerilog: {instead}, or {SV2V}"
-    return f"this of SystemVerilog: {SV2V}"
+    return next((instead_of(what, instead) for form, what, instead in UNREAD
+                 if re.search(form, line)), f"this of SystemVerilog: {SV2V}")
+
+
+def instead_of(what, instead):
+    return f"{what} of SystemVerilog: {instead}, or {SV2V}"
 
 
 def advice(text):
@@ -45,6 +48,9 @@ def advice(text):
                 f"packages: where it stands in one, write PACKAGE::{unknown.group(1)}, or {SV2V}")
     if re.match(r".*\.sv:\d+: syntax error", text):
         return f"{text}; yosys {version()} does not read {unread(text)}"
+    # This it says of a cast where it does not know the type either.
+    if re.match(r".*\.sv:\d+: Static cast with non constant expression", text):
+        return f"{text}; yosys {version()} does not read {instead_of(*CAST)}"
     return text
 
 
