@@ -194,6 +194,13 @@ class Solve(Tries):
                           for line in tries)
                   and any("`ternary`, which needs no diagrams, drew 32 vectors" in line
                           for line in tries), done.why())
+        env, _ = self.program(OPEN.replace("echo rung output", "echo rung symbolic none; echo "
+                                                               "rung output"))
+        done = run([script("solve"), example("carry", "spec.v"), example("carry", "impl.v")],
+                   env=env)
+        self.note("nor more vectors, where `symbolic` has looked at all", done.status == 3
+                  and tried(done) and not any("--patterns" in line for line in tried(done)),
+                  done.why())
 
     def test_killed(self):
         """A run that a signal ends is no answer, and where all end so the status is none of the

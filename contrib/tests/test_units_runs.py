@@ -19,6 +19,7 @@ from bbeq_tools.runs.guard import Guard
 from bbeq_tools.runs.joined import joined, padded
 from bbeq_tools.runs.kept import Job, Kept, answer_of, digest
 from bbeq_tools.runs.portfolio import Portfolio
+from bbeq_tools.runs.untried import Box, box_lines
 from bbeq_tools.runs.ways import Attempt, Request
 from bbeq_tools.words import Words
 
@@ -180,6 +181,16 @@ class Options(unittest.TestCase):
             self.assertEqual(value_of(job.words, "nodes", None), str(taken))
         with self.assertRaises(Fault):
             more_nodes(Job("1", "s", "i", ("--nodes=x",)), None)
+
+
+class Tried(unittest.TestCase):
+    def test_boxes(self):
+        """One box in the place of several is advised where `input` may decide it."""
+        for ins, is_one in ((7, True), (8, False)):
+            lines = list(box_lines([Box("u", "m", 8, 2), Box("v", "n", ins, 2)]))
+            self.assertEqual(any(line.startswith("one box with the 15 input and 4 output pins")
+                                 for line in lines), is_one)
+            self.assertEqual(len(lines), 1 + is_one)
 
 
 class Portfolios(Place):

@@ -9,6 +9,7 @@ from bbeq_tools.runs.ways import BY_PARTS
 from bbeq_tools.verilog.language import read_modules, top_of
 
 PATTERNS, MANY_PATTERNS = "32", 4096
+MOST_ONE_BOX = 15  # Input pins of one box in the place of several that `input` may decide.
 NETLISTS = ("symbolic", "local", "output")  # Checks whose diagrams are those of the netlists.
 
 
@@ -27,8 +28,10 @@ def untried(request, portfolio):
                "does not exclude contents that differ")
     yield from box_lines(boxes)
     drawn = value_of(request.words, "patterns", PATTERNS)
-    if int(drawn) < MANY_PATTERNS and any(f"rung {check} nodes" in report.splitlines()
-                                          for report in reports for check in NETLISTS):
+    wants_diagrams = any(f"rung {check} nodes" in report.splitlines()
+                         for report in reports for check in NETLISTS)
+    # Where `symbolic` has looked at all vectors, drawn ones find no more.
+    if int(drawn) < MANY_PATTERNS and wants_diagrams and not has_ended(portfolio, "symbolic"):
         yield (f"--patterns {MANY_PATTERNS}, with several values of --seed: `ternary`, which needs "
                f"no diagrams, drew {drawn} vectors")
     yield ("a smaller pair: both cut at nets and registers of one name (docs/REPORT.md, \"Fewer "
@@ -38,6 +41,12 @@ def untried(request, portfolio):
 def last_open(turn):
     """The last report of a way that was open, if there is one."""
     return [answer.report for _, answer, _ in turn.found if answer.status == 3][-1:]
+
+
+def has_ended(portfolio, check):
+    """Whether a run on the whole pair had enough for this check, which found no mistake."""
+    return any(f"rung {check} none" in answer.report.splitlines() for turn in portfolio.turns
+               if turn.name != BY_PARTS for _, answer, _ in turn.found)
 
 
 def budget_lines(request, reports):
@@ -101,6 +110,6 @@ def box_lines(boxes):
         yield (f"fewer pins at box {widest.path}: its {widest.ins} input and {widest.outs} output "
                f"pins make a table of 2^{widest.ins} rows, which each input pin less halves")
     one = Box("", "", sum(box.ins for box in boxes), sum(box.outs for box in boxes))
-    if len(boxes) > 1 and one.ins < 64 and one.bits <= MOST_TABLE_BITS:
+    if len(boxes) > 1 and one.ins <= MOST_ONE_BOX and one.bits <= MOST_TABLE_BITS:
         yield (f"one box with the {one.ins} input and {one.outs} output pins of the {len(boxes)} "
                "boxes: `input` may decide it (docs/REPORT.md, \"Make one box of the boxes\")")
