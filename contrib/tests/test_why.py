@@ -45,6 +45,15 @@ endmodule
 module bx(i, j, o); input i, j; output o; endmodule
 module by(i, o); input i; output o; endmodule
 """
+# The box lacks b. At two vectors that differ in b, p and q, b alone tells them apart where p and q
+# are the same, but p can be made so only after q.
+NEAR = """module m(a, p, s, q, b, y); input a, p, s, q, b; output y;
+  assign y = b | ~p & q | a & s;
+endmodule
+"""
+NEAR_BOX = """module m(a, p, s, q, b, y); input a, p, s, q, b; output y; bx u(a, y); endmodule
+module bx(i, o); input i; output o; endmodule
+"""
 # Both boxes have to give a, of which neither has a pin.
 BOTH = "module m(a, y); input a; output y; assign y = 1'b1; endmodule\n"
 BOTH_BOXES = """module m(a, y); input a; output y; wire s, t, p, q;
@@ -157,6 +166,16 @@ class Why(Tries):
         self.note("it names both pins",
                   lines[-1].startswith("give u a pin on a, and v a pin on a: then"), lines)
 
+    def test_alike(self):
+        """Vectors that are given are made alike, so that no pin is named by accident."""
+        files = [write(self.folder, "s.v", NEAR), write(self.folder, "i.v", NEAR_BOX)]
+        report = write(self.folder, "report", "input a=0 p=0 s=0 q=0 b=1\ninput a=0 p=1 s=1 q=1 "
+                       "b=0\nverdict error\n")
+        done = run([script("why"), report, *files])
+        self.note("it names no pin by accident", done.out.splitlines()[-1]
+                  == "give u a pin on b: then some contents are right at all of these vectors",
+                  done.why())
+
     def test_words(self):
         left, right = write(self.folder, "s.v", CARED_WAY), write(self.folder, "i.v", TWO)
         report = write(self.folder, "report", bbeq(left, right, "--care", "k").out)
@@ -192,7 +211,9 @@ class Why(Tries):
         self.note("wave names why where no bit is wrong", "; `why` shows which" in done.out,
                   done.why())
         done = run([script("wave"), shows, *words, "--wrong-only", "--vector", "2"])
-        self.note("wave --wrong-only", "output" not in done.out and done.status == 0, done.why())
+        self.note("wave --wrong-only", "output" not in done.out and "spec" not in done.out
+                  and "No bit is wrong by itself; no contents" in done.out and done.status == 0,
+                  done.why())
         done = run([script("wave"), write(self.folder, "none", "rung input error\nverdict error\n"),
                     *words])
         self.note("wave names why", is_told(done, "wave") and "`why`" in done.err, done.why())

@@ -268,8 +268,8 @@ def bus_rows(rows):
 
 def show(rows, named, wrong_only, by_check):
     """A line for each output and each register, with what is wrong marked; x is what a box leaves
-    open. Several vectors are side by side. Where a check gave them and none is wrong by itself,
-    that is said."""
+    open. Several vectors are side by side. Where nothing is marked, that is said, with what shows
+    more where a check gave the vectors; no table is left empty."""
     table = [["", *["spec", "impl"] * len(rows), ""]]
     if len(rows) > 1:
         table.insert(0, ["", *[word for number in range(1, len(rows) + 1)
@@ -285,10 +285,12 @@ def show(rows, named, wrong_only, by_check):
             table.append([f"{kind} {name}", *[hexadecimal(side) if len(texts) > 1 else side
                                               for bits in values for side in bits], note])
     widths = [max(len(word) for word in column) for column in zip(*table)]
-    for line in table:
+    for line in table if any(line[0] for line in table) else ():
         print("  ".join(word.ljust(width) for word, width in zip(line, widths)).rstrip())
-    if by_check and not any(line[-1] for line in table):
-        print("No bit is wrong by itself; `why` shows which cannot be right together.")
+    if not any(line[-1] for line in table):
+        print("No bit is wrong by itself; "
+              + ("`why` shows which cannot be right together." if by_check else
+                 "no contents of the boxes are right at all of the vectors that `why` shows."))
 
 
 def command():

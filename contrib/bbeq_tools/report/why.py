@@ -8,6 +8,7 @@ the program find some, and leaves out vectors, outputs and differences as long a
 must give, and at last which inputs and registers would tell the vectors apart. Both texts have
 their registers in the top, as those of `gates` have."""
 import tempfile
+from itertools import product
 
 from bbeq_tools.cli import Fault, Output, run_script
 from bbeq_tools.program import find_program
@@ -20,6 +21,9 @@ from bbeq_tools.report.reports import (add_report_words, read_report, vectors as
                                        verdict)
 from bbeq_tools.report.restricted import Restricted
 from bbeq_tools.words import Words
+
+MOST_TRIALS = 400  # To make bits the same in all vectors.
+RUN = 10  # A run of the program takes as long as so many trials.
 
 
 def parse_words():
@@ -94,6 +98,7 @@ class Explained:
             self.draw_near(at)
         self.fewer_vectors()
         self.fewer_outputs()
+        self.draw_together()
         if self.runs.verdict(self.kept, self.vectors) == "repairable":
             raise Fault("bbeq finds contents that are right at vectors at which none are by trial; "
                         "please report this fault with both texts")
@@ -115,6 +120,25 @@ class Explained:
         apart = least([name for name in own if own[name] != first[name] and name in counts],
                       lambda names: self.is_wrong(self.kept, with_own(names)))
         self.vectors = with_own(apart)
+
+    def cost(self):
+        """Of what was tried so far, in trials."""
+        return self.trials + RUN * self.runs.count
+
+    def draw_together(self):
+        """Gives inputs and registers the same bit in all vectors where these stay wrong: a pin on
+        one that still differs is no accident of the vectors."""
+        most, before = self.cost() + MOST_TRIALS, None
+        while self.vectors != before:
+            before, counts = self.vectors, self.possible.names(self.kept)
+            for name, bit in product(self.runs.names, "01"):
+                if len({vector[name] for vector in self.vectors}) == 1:
+                    continue
+                alike = [vector | {name: bit} for vector in self.vectors]
+                if name not in counts or self.cost() < most and self.is_wrong(self.kept, alike):
+                    self.vectors = alike
+            self.fewer_vectors()
+            self.fewer_outputs()
 
 
 def told_name(name):
