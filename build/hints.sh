@@ -92,7 +92,7 @@ hint_refused() {
     'refused impl token line '* | 'refused impl statement line '*) hint_text "$impl" ;;
     'refused pair register '* | 'refused pair port '*)
         say "hint: ${tools}names $spec $impl lists all that one of the two lacks, with likely partners; a register cannot be in a box" ;;
-    'refused pair specbox '*) say "hint: $spec has an empty module, and a specification has none" ;;
+    'refused pair specbox '*) say "hint: $spec has an empty module; the specification, which has none, comes first" ;;
     esac
 }
 

@@ -86,7 +86,8 @@ class Hints(Tries):
         self.try_hint("unread spec", ["nowhere.v", spec], "nowhere.v: No such file or directory")
         self.try_hint("unread impl", [spec, self.folder], f"{self.folder}: Is a directory")
         self.try_hint("open", [spec, implementation, "--to", "local"], "contrib/solve")
-        self.try_hint("specbox", [implementation, implementation], "has an empty module")
+        self.try_hint("specbox", [implementation, spec], "has an empty module; the specification",
+                      "comes first")
         self.try_hint("nothing", [spec, implementation])
 
     def test_alone(self):

@@ -122,7 +122,8 @@ class Solve(Tries):
                            ([example("counter", "spec.v"), example("counter", "unfinished.v")],
                             "of RTL `gates` makes one"), ([spec, example("counter", "impl.v")],
                                                           "`names SPEC IMPL` lists"),
-                           ([implementation, implementation], ""),
+                           ([implementation, spec], "the specification, which has none, comes "
+                                                    "first"),
                            (["--top-spec=other", spec, implementation], "")):
             own, done = bbeq(*words), run([script("solve"), *words])
             self.note(f"solve {' '.join(map(os.path.basename, words))}",
@@ -164,6 +165,7 @@ class Solve(Tries):
         done = run([*words, "--limit", "6"], env=env)
         self.note("solve --limit", done.status == 7 and not done.out
                   and "nothing decided" in done.err and re.search(r" [45] s: ", done.err)
+                  and re.search(r"(?m)^solve:   still running: .*expand with", done.err)
                   and is_gone(self.folder, place), done.why())
 
     def test_open(self):

@@ -103,7 +103,7 @@ class Portfolio:
         self.turns = [Turn(name, way, (slow or {}).get(name)) for name, way in ways.items()]
         self.jobs, self.budget, self.guard = jobs, budget, guard
         self.began = self.told = self.chosen = self.looked = time.monotonic()
-        self.known = ""
+        self.known, self.unfinished = "", []
 
     def solve(self, limit):
         """The turn that has the answer that decides, or None. `limit` is the time at which there
@@ -211,20 +211,26 @@ class Portfolio:
         if now - self.told < TOLD_EACH:
             return
         self.told = now
-        runs = [f"{turn.attempt.label} ({max(now - turn.run.began, 0):.0f} s, "
-                f"{told_bytes(resident(turn.run.group))}{'' if turn.is_running else ', waits'})"
-                for turn in self.turns if turn.run is not None]
-        print(f"solve: {now - self.began:.0f} s: {'; '.join(runs)}", file=sys.stderr, flush=True)
+        runs = "; ".join(self.told_runs(now))
+        print(f"solve: {now - self.began:.0f} s: {runs}", file=sys.stderr, flush=True)
         known = "; ".join(told_found(found) for turn in self.turns for found in turn.told()[-1:])
         if known and known != self.known:
             print(f"solve:   so far {known}", file=sys.stderr, flush=True)
             self.known = known
+
+    def told_runs(self, now):
+        """The runs that have begun and not ended."""
+        return [f"{turn.attempt.label} ({max(now - turn.run.began, 0):.0f} s, "
+                f"{told_bytes(resident(turn.run.group))}{'' if turn.is_running else ', waits'})"
+                for turn in self.turns if turn.run is not None]
 
     def kill(self):
         for turn in self.turns:
             turn.kill()
 
     def close(self):
+        """Ends all runs, and keeps which they were."""
+        self.unfinished = self.told_runs(time.monotonic())
         self.kill()
         for turn in self.turns:
             if turn.run is not None:

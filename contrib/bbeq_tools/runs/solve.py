@@ -121,6 +121,8 @@ def cause(answer, request):
         return f"{path} is no netlist that bbeq reads; of RTL `gates` makes one"
     if words[1:3] in (["pair", "register"], ["pair", "port"]):
         return "`names SPEC IMPL` lists all that one of the two lacks, with likely partners"
+    if words[1:3] == ["pair", "specbox"]:
+        return f"{path} has an empty module; the specification, which has none, comes first"
     return None
 
 
@@ -157,6 +159,8 @@ def tell_open(portfolio, request, why):
     say(f"nothing decided{why}")
     for found in portfolio.found():
         say(f"  {told_found(found)}")
+    if portfolio.unfinished:
+        say(f"  still running: {'; '.join(portfolio.unfinished)}")
     for line in untried(request, portfolio):
         say(f"  try {line}")
 
