@@ -112,6 +112,9 @@ class Solve(Tries):
                       ["--nothing"], ["--make", "4"], ["--nodes", "60000000"]):
             done = run([script("solve"), spec, implementation, *words])
             self.note(f"solve {' '.join(words)}", is_told(done, "solve"), done.why())
+        done = run([script("solve"), "--limt", "5", spec, implementation])
+        self.note("solve names an unknown option alone", is_told(done, "solve")
+                  and "unrecognized arguments: --limt (" in done.err, done.why())
 
     def test_refusals(self):
         spec, implementation = example("carry", "spec.v"), example("carry", "impl.v")
