@@ -1,0 +1,16 @@
+pub mod ReplacedModules
+pub mod ReplacedPorts
+pub mod ReplacedConstructs
+pub mod ReplacedScopes
+pub mod ReplacedRegisters
+pub mod ReplacedWorlds
+pub mod ReplacedFaults
+pub mod ReplacedDesigns
+pub mod MovedDrives
+pub mod ReplacedDrivers
+pub mod DrivenOnce
+pub mod EmptyPorts
+pub mod DrivenReads
+pub mod ReadBits
+pub mod NoLoops
+pub mod Allowed

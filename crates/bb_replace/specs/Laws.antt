@@ -1,0 +1,63 @@
+-- Laws of designs whose boxes are finished by modules.
+use Rattle.std.specs.Prelude.{◌≡◌, ◌↔◌, ℕ, false, List, filter, map, All, Option}
+use Rattle.bb_ast.specs.Syntax.{PlainModule}
+use Rattle.bb_bits.specs.Contents.{Contents}
+use Rattle.bb_design.specs.Hierarchy.{Design, boxes}
+use Rattle.bb_design.specs.Inside.Allowed.{IsAllowed, IsBounded}
+use Rattle.bb_design.specs.Refusals.{IsHierarchy, IsSmallDesign, input_texts, output_texts, register_texts}
+use Rattle.bb_design.specs.NetBits.{top_inputs, top_outputs}
+use Rattle.bb_design.specs.Registers.{registers}
+use Rattle.bb_design.specs.Worlds.{World, Vector, IsWorld, HasVector, outputs_in}
+use Rattle.bb_names.specs.Faults.{IsSound}
+use Rattle.bb_names.specs.Nets.{is_empty}
+use Rattle.bb_equiv.specs.DesignEquivalence.{ContentsMakeEquivalent}
+use Rattle.bb_replace.specs.Laws.Replacement.{AllMayReplace, AreComputed, StandsAlone, is_unfinished}
+use Rattle.bb_replace.specs.Laws.Replacement.{replaced, replaced_design}
+pub mod Replacement
+
+-- a world of a design with modules is one of the design with boxes
+pub record IsWorldToo (modules : List PlainModule) (d : Design) (contents : Contents) (w : World) : Type 0 where
+  pub world : IsWorld d contents w
+  pub vector : (x : Vector) → HasVector (replaced_design modules d) x w ↔ HasVector d x w
+  pub outputs : outputs_in (replaced_design modules d) w ≡ outputs_in d w
+
+-- where contents are those that the modules compute
+abbrev pub ReplacedWorldsAreWorlds : Type 0
+ReplacedWorldsAreWorlds = (modules : List PlainModule) (d : Design) (contents : Contents) (w : World) → IsBounded d
+    → AllMayReplace modules d.text → AreComputed modules d contents → IsWorld (replaced_design modules d) contents w
+    → IsWorldToo modules d contents w
+
+-- where such contents make a design equivalent to a specification, it stays so with the modules; that it has worlds with
+-- them is part of the last law
+abbrev pub ReplacedStayEquivalent : Type 0
+ReplacedStayEquivalent = (care : Option (List ℕ)) (modules : List PlainModule) (spec imp : Design) (contents : Contents)
+    → IsBounded imp → AllMayReplace modules imp.text → AreComputed modules imp contents
+    → ContentsMakeEquivalent care spec imp contents
+    → ContentsMakeEquivalent care spec (replaced_design modules imp) contents
+
+-- a text without faults stays so with modules that stand alone
+abbrev pub ReplacedTextsAreSound : Type 0
+ReplacedTextsAreSound = (modules text : List PlainModule) → AllMayReplace modules text → All StandsAlone modules
+    → IsSound text → IsSound (map (replaced modules) text)
+
+-- a design with modules has the ports and the registers of the design with boxes; the boxes that are left are those for
+-- which there is no module, and no recursion comes with modules
+pub record KeepsInterface (modules : List PlainModule) (d : Design) : Type 0 where
+  pub inputs : top_inputs (replaced_design modules d) ≡ top_inputs d
+  pub outputs : top_outputs (replaced_design modules d) ≡ top_outputs d
+  pub registers : registers (replaced_design modules d) ≡ registers d
+  pub input_names : input_texts (replaced_design modules d) ≡ input_texts d
+  pub output_names : output_texts (replaced_design modules d) ≡ output_texts d
+  pub register_names : register_texts (replaced_design modules d) ≡ register_texts d
+  pub boxes : boxes (replaced_design modules d) ≡ filter (is_unfinished modules) (boxes d)
+  pub hierarchy : IsHierarchy d → IsHierarchy (replaced_design modules d)
+
+abbrev pub ReplacedKeepInterface : Type 0
+ReplacedKeepInterface = (modules : List PlainModule) (d : Design) → IsBounded d → AllMayReplace modules d.text
+    → KeepsInterface modules d
+
+-- a design that is refused for nothing is refused for nothing but its size with modules that stand alone
+abbrev pub ReplacedAreAllowed : Type 0
+ReplacedAreAllowed = (modules : List PlainModule) (d : Design) → AllMayReplace modules d.text → All StandsAlone modules
+    → is_empty d.top ≡ false → IsAllowed d → IsSmallDesign (replaced_design modules d)
+    → IsAllowed (replaced_design modules d)
