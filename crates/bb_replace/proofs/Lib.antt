@@ -14,3 +14,5 @@ pub mod DrivenReads
 pub mod ReadBits
 pub mod NoLoops
 pub mod Allowed
+pub mod Finished
+pub mod ReplacedTops

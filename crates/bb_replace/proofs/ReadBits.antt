@@ -43,7 +43,7 @@ copied_there d x b has here = into_flat (λ (x : Drive). map (λ (c : Bit). (x.b
 pub drives_there : (d : Design) (s : Scope) (x : Drive) → Contains (scopes d) s → Contains (drives_in d.text s) x → Contains (drives d) x
 drives_there d s x has here = subst (λ l. Contains l x) (sym (drives_flat d)) (Contains-append_right (map (driven Free) (top_inputs d)) (flat_map (drives_in d.text) (scopes d)) x (into_flat (drives_in d.text) (scopes d) s x has here))
 
-part_there : (d : Design) (s : Scope) (c : Construct) → Contains (scopes d) s → Contains (constructs_at d.text s) c → Contains {X = Scope × Construct} (parts d) (s, c)
+pub part_there : (d : Design) (s : Scope) (c : Construct) → Contains (scopes d) s → Contains (constructs_at d.text s) c → Contains {X = Scope × Construct} (parts d) (s, c)
 part_there d s c has here = into_flat (λ (s : Scope). map (λ (c : Construct). (s, c)) (constructs_at d.text s)) (scopes d) s (s, c) has (contains-map (λ (c : Construct). (s, c)) (constructs_at d.text s) c here)
 
 read_there : (d : Design) (s : Scope) (c : Construct) (b : Bit) → Contains (scopes d) s → Contains (constructs_at d.text s) c → Contains (read_at (s, c)) b → IsReadBit d b

@@ -1,16 +1,17 @@
 -- Laws of designs whose boxes are finished by modules.
-use Rattle.std.specs.Prelude.{◌≡◌, ◌↔◌, ℕ, false, List, filter, map, All, Option}
+use Rattle.std.specs.Prelude.{◌≡◌, ◌↔◌, ℕ, false, List, [], filter, map, All, Option, None, option_map}
 use Rattle.bb_ast.specs.Syntax.{PlainModule}
 use Rattle.bb_bits.specs.Contents.{Contents}
-use Rattle.bb_design.specs.Hierarchy.{Design, boxes}
+use Rattle.bb_design.specs.Hierarchy.{Design, boxes, top_of}
 use Rattle.bb_design.specs.Inside.Allowed.{IsAllowed, IsBounded}
 use Rattle.bb_design.specs.Refusals.{IsHierarchy, IsSmallDesign, input_texts, output_texts, register_texts}
 use Rattle.bb_design.specs.NetBits.{top_inputs, top_outputs}
 use Rattle.bb_design.specs.Registers.{registers}
-use Rattle.bb_design.specs.Worlds.{World, Vector, IsWorld, HasVector, outputs_in}
+use Rattle.bb_design.specs.Worlds.{World, Vector, FitDesign, IsWorld, HasVector, outputs_in}
 use Rattle.bb_names.specs.Faults.{IsSound}
 use Rattle.bb_names.specs.Nets.{is_empty}
-use Rattle.bb_equiv.specs.DesignEquivalence.{ContentsMakeEquivalent}
+use Rattle.bb_equiv.specs.Comparable.{AreComparable}
+use Rattle.bb_equiv.specs.DesignEquivalence.{AreEquivalentEverywhere, ContentsMakeEquivalent}
 use Rattle.bb_replace.specs.Laws.Replacement.{AllMayReplace, AreComputed, StandsAlone, is_unfinished}
 use Rattle.bb_replace.specs.Laws.Replacement.{replaced, replaced_design}
 pub mod Replacement
@@ -61,3 +62,29 @@ abbrev pub ReplacedAreAllowed : Type 0
 ReplacedAreAllowed = (modules : List PlainModule) (d : Design) → AllMayReplace modules d.text → All StandsAlone modules
     → is_empty d.top ≡ false → IsAllowed d → IsSmallDesign (replaced_design modules d)
     → IsAllowed (replaced_design modules d)
+
+-- a design with modules is finished: it is refused for nothing, has no box and can be compared with the specification,
+-- to which it is equivalent whatever contents boxes would have; and its outputs and next states are everywhere those of
+-- the design whose boxes have these contents
+pub record AreFinished (care : Option (List ℕ)) (modules : List PlainModule) (spec imp : Design) (contents : Contents)
+    : Type 0 where
+  pub allowed : IsAllowed (replaced_design modules imp)
+  pub complete : boxes (replaced_design modules imp) ≡ []
+  pub comparable : AreComparable care spec (replaced_design modules imp)
+  pub agree : (other : Contents) → ContentsMakeEquivalent care spec (replaced_design modules imp) other
+  pub same : AreEquivalentEverywhere None (replaced_design modules imp) imp contents
+
+-- so it is where a module for each box stands alone and computes contents that make the designs equivalent, unless it is
+-- too large
+abbrev pub ModulesFinish : Type 0
+ModulesFinish = (care : Option (List ℕ)) (modules : List PlainModule) (spec imp : Design) (contents : Contents)
+    → IsAllowed spec → IsAllowed imp → is_empty imp.top ≡ false → AllMayReplace modules imp.text
+    → All StandsAlone modules → filter (is_unfinished modules) (boxes imp) ≡ []
+    → IsSmallDesign (replaced_design modules imp) → AreComparable care spec imp → FitDesign imp contents
+    → AreComputed modules imp contents → ContentsMakeEquivalent care spec imp contents
+    → AreFinished care modules spec imp contents
+
+-- the top of a text with modules is what comes in the place of its top
+abbrev pub ReplacedTopsStay : Type 0
+ReplacedTopsStay = (modules text : List PlainModule) (name : Option (List ℕ)) → AllMayReplace modules text
+    → top_of (map (replaced modules) text) name ≡ option_map (replaced modules) (top_of text name)

@@ -1,7 +1,7 @@
 //! Laws of designs whose boxes are finished by modules. Each function has a law as its contract and does nothing.
 
 ghost use Rattle.bb_replace.specs.Laws.{ReplacedWorldsAreWorlds, ReplacedStayEquivalent, ReplacedTextsAreSound};
-ghost use Rattle.bb_replace.specs.Laws.{ReplacedKeepInterface, ReplacedAreAllowed};
+ghost use Rattle.bb_replace.specs.Laws.{ReplacedKeepInterface, ReplacedAreAllowed, ModulesFinish, ReplacedTopsStay};
 
 use bb_design::laws::laws_of_designs;
 
@@ -40,3 +40,20 @@ pub fn replaced_are_allowed()
 {
     laws_of_designs();
 }
+
+/// Modules for all boxes that compute contents which make the designs equivalent finish the design: what is claimed of
+/// a text that is filled with tables holds of one that is filled with modules.
+pub fn modules_finish()
+    ensures { ModulesFinish }
+{
+    laws_of_designs();
+    replaced_worlds_are_worlds();
+    replaced_stay_equivalent();
+    replaced_keep_interface();
+    replaced_are_allowed();
+}
+
+/// Modules change no top, whether it is named or found, since they instantiate nothing.
+pub fn replaced_tops_stay()
+    ensures { ReplacedTopsStay }
+{}
