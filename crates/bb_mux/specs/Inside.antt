@@ -1,0 +1,3 @@
+-- Invariants of the code: no clause of the top call rests on them.
+pub mod Functions
+pub mod Walks
