@@ -27,8 +27,8 @@ use crate::search_result::SearchResult;
 use bb_bits::{NoMemory, Table};
 use bb_miter::{difference, differing_patterns};
 use bb_net::{Net, Pair};
-use bb_subst::fill;
 use bb_subst::laws::filled_are_right;
+use bb_subst::substitute;
 use bb_sym::RungFault;
 use std::alloc::Global;
 
@@ -188,7 +188,7 @@ fn by_filling(
         → FillTooLarge pair.now.spec pair.now.imp (per_box pair.now.kinds tables.now) }
 {
     filled_are_right();
-    let filled = fill(alloc, pair.imp(), tables, pair.kinds())?;
+    let filled = substitute(alloc, pair.imp(), tables, pair.kinds())?;
     let _ = filled.inputs();
     find_counterexample(alloc, pair.spec(), &filled, clauses, seed, wanted)
 }

@@ -55,3 +55,5 @@ places_next (box ∷ boxes) (suc i) l =
 
 pub places_more : (boxes : List Pins) (i : ℕ) → i < length boxes → in_places (take (i + 1) boxes) ≡ in_places (take i boxes) ++ (box_at boxes i).ins
 places_more boxes i l = ap (λ k. in_places (take k boxes)) (plus_one i) ∙ places_next boxes i l
+
+pub ruleset variable_lists = (count_more, fits_more, variables_more)

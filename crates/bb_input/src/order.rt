@@ -42,7 +42,7 @@ pub(crate) fn first_outputs(alloc: Global, boxes: &[BoxPins]) -> Result<Vec<u32>
 }
 
 /// In the same order as `input_places`.
-#[tactic(auto, using(crate::proofs::OrderLemmas::count_more, crate::proofs::OrderLemmas::fits_more, crate::proofs::OrderLemmas::variables_more))]
+#[tactic(auto, using(crate::proofs::OrderLemmas::variable_lists))]
 pub(crate) fn input_variables(alloc: Global, boxes: &[BoxPins]) -> Result<Vec<u32>, NoMemory>
     requires { pin_count boxes.now ≤ 2048 }
     ensures { IfOk result (λ variables. variables.items ≡ in_variables 0 boxes.now) }

@@ -147,7 +147,12 @@ fn costs_are_few()
 
 /// `tables` has one for each sharing class, and `kinds` the class of each box. The netlist is copied and not changed in
 /// place: the search for tables fills it again and again.
-pub fn fill(alloc: Global, net: &Net, tables: &[Table], kinds: &[u32]) -> Result<Net, NoMemory>
+pub fn substitute(
+    alloc: Global,
+    net: &Net,
+    tables: &[Table],
+    kinds: &[u32],
+) -> Result<Net, NoMemory>
     requires tables { FitBoxes (per_box kinds.now tables.now) net.now.boxes }
     requires room { length net.now.cells + table_bits net.now.boxes < 2 ^ 32 }
     ensures filled { IfOk result (λ filled. (at : ℕ → ℕ) × IsFilled net.now (per_box kinds.now tables.now) filled at) }

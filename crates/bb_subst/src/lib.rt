@@ -9,5 +9,5 @@ pub mod laws;
 mod moving;
 mod trees;
 
-pub use filling::fill;
+pub use filling::substitute;
 pub use moving::{moved, place_of};

@@ -2,7 +2,7 @@ use Rattle.std.proofs.Common.{ℕ, List, ◌++◌, map, ap, ap₂, ◌∙◌, ar
 use Rattle.std.specs.Prelude.{slice_index}
 use Rattle.bb_net.specs.Kinds.{per_box}
 use Rattle.bb_subst.proofs.FillingSteps.{begun_is, filled_is, first_long}
-use Rattle.bb_subst.proofs.filling.fill.Goals as goal
+use Rattle.bb_subst.proofs.filling.substitute.Goals as goal
 
 pub start-requires : goal.start-requires
 start-requires c = omega (arith, c.inputs.ensures.inputs, first_long c.args.net.now c.inputs.ensures.kept, c.inputs.ensures.kept.cells_fit)
