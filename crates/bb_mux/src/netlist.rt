@@ -74,6 +74,7 @@ fn with_outs(net: Net, outs: &[u32]) -> Result<Net, NoMemory>
 pub fn netlist_of(alloc: Global, d: &Diagrams, roots: &[Ref], inputs: u32) -> Result<Net, NoMemory>
     requires refs { All (λ r. IsRef d.now.store r.0) roots.now }
     requires depends { All (λ r. DependsOnFirst d.now.store.vars inputs (truth_of d.now.store r.0)) roots.now }
+    requires inputs { inputs ≤ d.now.store.vars }
     requires room { inputs + 2 + 2 * length d.now.store.nodes < 2 ^ 32 }
 
     ensures inputs { IfOk result (λ net. net.inputs ≡ inputs) }

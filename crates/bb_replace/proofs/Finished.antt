@@ -20,7 +20,7 @@ use Rattle.bb_design.specs.Worlds.{FitDesign, HasVector, Holds, IsWorld, Vector,
 use Rattle.bb_equiv.specs.Comparable.{AreClockedTheSame, AreComparable, AreSameTexts, AreSettled, IsClockedByInput, output_values}
 use Rattle.bb_equiv.specs.DesignEquivalence.{AreEquivalentEverywhere, ContentsMakeEquivalent, HaveSameBits}
 use Rattle.bb_replace.specs.Laws.{AreFinished, IsWorldToo, KeepsInterface, ReplacedAreAllowed, ReplacedKeepInterface, ReplacedStayEquivalent, ReplacedWorldsAreWorlds}
-use Rattle.bb_replace.specs.Laws.Replacement.{AllMayReplace, AreComputed, StandsAlone, is_unfinished, replaced_design}
+use Rattle.bb_replace.specs.Laws.Replacement.{AllMayReplace, AreComputed, AreThoseNeeded, StandsAlone, is_unfinished, replaced_design}
 use Rattle.bb_replace.proofs.ReadBits.{part_there}
 use Rattle.bb_replace.proofs.ReplacedRegisters.{below}
 use Rattle.bb_replace.proofs.ReplacedWorlds.{input_text, register_text}
@@ -73,7 +73,7 @@ same_outputs_in d w v e =
         by (r ∷ rs) f = ap₂ (λ b l. (NextState (bit_text d r.bit), b) ∷ l) (grind (arith, f)) (by rs (grind (arith, f)))
 
 module _ (laws : DesignLaws) (worlds : ReplacedWorldsAreWorlds) (equivalent : ReplacedStayEquivalent) (keep : ReplacedKeepInterface) (refused : ReplacedAreAllowed)
-    (care : Option (List ℕ)) (modules : List PlainModule) (spec imp : Design) (contents : Contents) (spec_allowed : IsAllowed spec) (imp_allowed : IsAllowed imp) (stands : is_empty imp.top ≡ false) (may : AllMayReplace modules imp.text) (all : All StandsAlone modules)
+    (care : Option (List ℕ)) (modules : List PlainModule) (spec imp : Design) (contents : Contents) (spec_allowed : IsAllowed spec) (imp_allowed : IsAllowed imp) (stands : is_empty imp.top ≡ false) (may : AllMayReplace modules imp.text) (all : All StandsAlone modules) (needed : AreThoseNeeded modules imp)
     (none : filter (is_unfinished modules) (boxes imp) ≡ []) (small : IsSmallDesign (replaced_design modules imp)) (comparable : AreComparable care spec imp) (fits : FitDesign imp contents) (computed : AreComputed modules imp contents) (makes : ContentsMakeEquivalent care spec imp contents) where
   abbrev new : Design
   new = replaced_design modules imp
@@ -165,4 +165,4 @@ module _ (laws : DesignLaws) (worlds : ReplacedWorldsAreWorlds) (equivalent : Re
       subst (HaveSameBits None (outputs_in new w)) pairs (λ o b all. ((λ h. h), (λ h. h)))
 
   pub finished : AreFinished care modules spec imp contents
-  finished = record { allowed = new_allowed; complete = complete; comparable = comparable_new; agree = agree_new; same = same_new }
+  finished = record { needed = needed; fit = fits; computed = computed; allowed = new_allowed; interface = interface; complete = complete; comparable = comparable_new; agree = agree_new; same = same_new }

@@ -12,7 +12,7 @@ use Rattle.bb_names.specs.Faults.{IsSound}
 use Rattle.bb_names.specs.Nets.{is_empty}
 use Rattle.bb_equiv.specs.Comparable.{AreComparable}
 use Rattle.bb_equiv.specs.DesignEquivalence.{AreEquivalentEverywhere, ContentsMakeEquivalent}
-use Rattle.bb_replace.specs.Laws.Replacement.{AllMayReplace, AreComputed, StandsAlone, is_unfinished}
+use Rattle.bb_replace.specs.Laws.Replacement.{AllMayReplace, AreComputed, AreThoseNeeded, StandsAlone, is_unfinished}
 use Rattle.bb_replace.specs.Laws.Replacement.{replaced, replaced_design}
 pub mod Replacement
 
@@ -63,12 +63,17 @@ ReplacedAreAllowed = (modules : List PlainModule) (d : Design) → AllMayReplace
     → is_empty d.top ≡ false → IsAllowed d → IsSmallDesign (replaced_design modules d)
     → IsAllowed (replaced_design modules d)
 
--- a design with modules is finished: it is refused for nothing, has no box and can be compared with the specification,
--- to which it is equivalent whatever contents boxes would have; and its outputs and next states are everywhere those of
--- the design whose boxes have these contents
+-- a design with modules, one for each empty module that has a box and no others, is finished: it is refused for nothing,
+-- has the ports and registers of the design with boxes, no box, and can be compared with the specification, to which it
+-- is equivalent whatever contents boxes would have; and its outputs and next states are everywhere those of the design
+-- whose boxes have these contents, which fit and are what the modules compute
 pub record AreFinished (care : Option (List ℕ)) (modules : List PlainModule) (spec imp : Design) (contents : Contents)
     : Type 0 where
+  pub needed : AreThoseNeeded modules imp
+  pub fit : FitDesign imp contents
+  pub computed : AreComputed modules imp contents
   pub allowed : IsAllowed (replaced_design modules imp)
+  pub interface : KeepsInterface modules imp
   pub complete : boxes (replaced_design modules imp) ≡ []
   pub comparable : AreComparable care spec (replaced_design modules imp)
   pub agree : (other : Contents) → ContentsMakeEquivalent care spec (replaced_design modules imp) other
@@ -79,7 +84,7 @@ pub record AreFinished (care : Option (List ℕ)) (modules : List PlainModule) (
 abbrev pub ModulesFinish : Type 0
 ModulesFinish = (care : Option (List ℕ)) (modules : List PlainModule) (spec imp : Design) (contents : Contents)
     → IsAllowed spec → IsAllowed imp → is_empty imp.top ≡ false → AllMayReplace modules imp.text
-    → All StandsAlone modules → filter (is_unfinished modules) (boxes imp) ≡ []
+    → All StandsAlone modules → AreThoseNeeded modules imp → filter (is_unfinished modules) (boxes imp) ≡ []
     → IsSmallDesign (replaced_design modules imp) → AreComparable care spec imp → FitDesign imp contents
     → AreComputed modules imp contents → ContentsMakeEquivalent care spec imp contents
     → AreFinished care modules spec imp contents

@@ -2,7 +2,7 @@
 -- 12.1.2), so all boxes of an empty module are finished by one module of its name, with its ports. Other modules stay,
 -- empty or not. What a module gives at its outputs for the bits at its inputs are contents of the boxes that it
 -- finishes.
-use Rattle.std.specs.Prelude.{◌≡◌, ℕ, Bool, true, false, List, [], ◌∷◌, map, All, Contains, Some, if◌then◌else◌, unwrap_or, is_none}
+use Rattle.std.specs.Prelude.{◌≡◌, ◌≢◌, ℕ, Bool, true, false, List, [], ◌∷◌, map, All, AllPairs, Contains, Some, if◌then◌else◌, unwrap_or, is_none}
 use Rattle.bb_ast.specs.Syntax.{PlainBody, Calls, Always, PlainModule}
 use Rattle.bb_bits.specs.Contents.{Contents, row_at}
 use Rattle.bb_names.specs.Declarations.{is_port, port_direction, range_of}
@@ -46,6 +46,12 @@ pub record MayReplace (empty m : PlainModule) : Type 0 where
 abbrev pub AllMayReplace : List PlainModule → List PlainModule → Type 0
 AllMayReplace modules text = (e m : PlainModule) → Contains text e → is_empty e ≡ true → module_named modules e.name ≡ Some m
     → MayReplace e m
+
+-- each is of an empty module that has a box, and there is one of a name, so put behind the text that has no empty ones
+-- they declare no module twice and bring no second top
+pub record AreThoseNeeded (modules : List PlainModule) (d : Design) : Type 0 where
+  pub apart : AllPairs ◌≢◌ (map (λ m. m.name) modules)
+  pub used : All (λ m. (s : Scope) × Contains (boxes d) s × (s.source.name ≡ m.name)) modules
 
 -- a module alone, as a design
 abbrev pub alone : PlainModule → Design
