@@ -1,6 +1,7 @@
 -- No bit is driven twice with modules in place of boxes, where none is in a module alone: outside its ports a copy of a
 -- module drives bits that the design with boxes does not have.
 use Rattle.std.proofs.Common.{◌≡◌, ◌⊎◌, ℕ, Bool, true, false, List, [], ◌∷◌, ◌++◌, map, filter, Contains, Some, inl, inr, refl, sym, ap, ap₂, ◌∙◌, subst, arith, append-nil, true≢false}
+use Rattle.bb_lemmas.proofs.Maps.{map-twice}
 use Rattle.std.specs.Prelude.{option_to_list}
 use Rattle.std.specs.List.{enumerate_from, flat_map, list_any, range_with_len}
 use Rattle.std.proofs.lemmas.List.Elements.{All-contains, Contains-append_left, Contains-append_right}
@@ -21,7 +22,7 @@ use Rattle.bb_design.specs.Laws.{BitsAreThere}
 use Rattle.bb_design.specs.NetBits.{Bit, bits_of_net, input_bits, net_order, output_bits, same_bit, scope_bits, top_inputs}
 use Rattle.bb_design.specs.Refusals.{AreDrivenOnce}
 use Rattle.bb_replace.specs.Laws.Replacement.{AllMayReplace, MayReplace, alone, scope_of, replaced, replaced_design}
-use Rattle.bb_replace.proofs.MovedDrives.{at, flat_map_mapped, mapped_twice}
+use Rattle.bb_replace.proofs.MovedDrives.{at, flat_map_mapped}
 use Rattle.bb_replace.proofs.ReplacedConstructs.{same_constructs}
 use Rattle.bb_replace.proofs.ReplacedDrivers.{Exchanges, alone_bits, bits_driven, bits_moved, distinct_across, distinct_joined, distinct_left, distinct_map, distinct_one, distinct_right, driven_flat, exchanged, from_distinct, one_scope, to_distinct}
 use Rattle.bb_replace.proofs.ReplacedModules.{Place, Stays, Goes, place_for}
@@ -36,7 +37,7 @@ pub net_at : (path : Path) (nets : List NetInfo) → flat_map (bits_of_net path)
 net_at path nets = by nets ∙ sym (flat_map_mapped (bits_of_net []) (at path) nets)
   where
     one : (net : NetInfo) → bits_of_net path net ≡ map (at path) (bits_of_net [] net)
-    one net = sym (mapped_twice (λ (k : ℕ). record { path = []; net = net.name; place = k }) (at path) (range_with_len 0 (range_width net.range)))
+    one net = sym (map-twice (λ (k : ℕ). record { path = []; net = net.name; place = k }) (at path) (range_with_len 0 (range_width net.range)))
 
     by : (nets : List NetInfo) → flat_map (bits_of_net path) nets ≡ flat_map (λ net. map (at path) (bits_of_net [] net)) nets
     by [] = refl

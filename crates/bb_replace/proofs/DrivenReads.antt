@@ -1,6 +1,7 @@
 -- What is read is driven, with modules in place of boxes too: a bit that is read there is read in the design with boxes,
 -- or in the module alone.
 use Rattle.std.proofs.Common.{◌≡◌, ◌⊎◌, ℕ, Bool, true, false, not, List, [], ◌∷◌, ◌++◌, map, filter, Contains, Option, Some, None, inl, inr, refl, sym, ap, ap₂, ◌∙◌, subst, arith}
+use Rattle.std.proofs.lemmas.List.{map-append}
 use Rattle.std.specs.Prelude.{option_to_list}
 use Rattle.std.specs.List.{flat_map, list_any}
 use Rattle.bb_ast.specs.declared.module.Dir.{Dir}
@@ -20,7 +21,6 @@ use Rattle.bb_replace.specs.Laws.Replacement.{scope_of}
 use Rattle.bb_replace.proofs.MovedDrives.{IsPlain, at, flat_map_mapped, source_at}
 use Rattle.bb_replace.proofs.ReplacedDrivers.{distinct_across, distinct_right}
 use Rattle.bb_replace.proofs.ReplacedPorts.{flat_same}
-use Rattle.bb_replace.proofs.ReplacedScopes.{map_joined}
 
 -- what is read by a plain construct is read wherever a copy of the module is
 
@@ -40,8 +40,8 @@ cells_at_path : (path : Path) (cells : List Term) → flat_map (λ cell. flat_ma
 cells_at_path path cells = flat_at path (λ cell. flat_map (bit_itself path) (operand_terms cell)) (λ cell. flat_map (bit_itself []) (operand_terms cell)) (λ cell. flat_at path (bit_itself path) (bit_itself []) (itself_at path) (operand_terms cell)) cells
 
 pub reads_at : (path : Path) (m : PlainModule) (c : Construct) → IsPlain c → read_at (scope_of path m, c) ≡ map (at path) (read_at (scope_of [] m, c))
-reads_at path m (Assignment left right) plain = ap₂ (λ a b. a ++ b) (cells_at_path path (cells_at (scope_of [] m, Assignment left right))) refl ∙ sym (map_joined (at path) (flat_map (λ cell. flat_map (bit_itself []) (operand_terms cell)) (cells_at (scope_of [] m, Assignment left right))) [])
-reads_at path m (GateInstance gate outs ins) plain = ap₂ (λ a b. a ++ b) (cells_at_path path (cells_at (scope_of [] m, GateInstance gate outs ins))) refl ∙ sym (map_joined (at path) (flat_map (λ cell. flat_map (bit_itself []) (operand_terms cell)) (cells_at (scope_of [] m, GateInstance gate outs ins))) [])
+reads_at path m (Assignment left right) plain = ap₂ (λ a b. a ++ b) (cells_at_path path (cells_at (scope_of [] m, Assignment left right))) refl ∙ sym (map-append (at path) (flat_map (λ cell. flat_map (bit_itself []) (operand_terms cell)) (cells_at (scope_of [] m, Assignment left right))) [])
+reads_at path m (GateInstance gate outs ins) plain = ap₂ (λ a b. a ++ b) (cells_at_path path (cells_at (scope_of [] m, GateInstance gate outs ins))) refl ∙ sym (map-append (at path) (flat_map (λ cell. flat_map (bit_itself []) (operand_terms cell)) (cells_at (scope_of [] m, GateInstance gate outs ins))) [])
 reads_at path m (SupplyNet high n) plain = refl
 reads_at path m (Register a) plain = absurd plain
 reads_at path m (InputConnection i pin e) plain = absurd plain

@@ -1,6 +1,8 @@
 -- A combinational module drives the same bits by the same terms wherever a copy of it is: its drives at a path are those
 -- of the module alone, moved there.
 use Rattle.std.proofs.Common.{◌≡◌, ℕ, ◌+◌, List, [], ◌∷◌, ◌++◌, map, length, refl, sym, ap, ap₂, ◌∙◌}
+use Rattle.std.proofs.lemmas.List.{map-append}
+use Rattle.bb_lemmas.proofs.Maps.{map-twice}
 use Rattle.std.specs.List.{flat_map, range_with_len}
 use Rattle.std.proofs.lemmas.List.{length-map}
 use Rattle.bb_ast.specs.Folds.{of_parts}
@@ -17,7 +19,6 @@ use Rattle.bb_design.specs.GateFunctions.{gate_gives, on_terms}
 use Rattle.bb_design.specs.Hierarchy.{Path}
 use Rattle.bb_design.specs.NetBits.{Bit, assigned, bits_from, bits_named, written_bits}
 use Rattle.bb_replace.specs.Laws.Replacement.{scope_of}
-use Rattle.bb_replace.proofs.ReplacedScopes.{map_joined}
 
 -- the bit of the same net and place at a path
 abbrev pub at : Path → Bit → Bit
@@ -31,18 +32,14 @@ source_at path (Box s pin) = Box s pin
 abbrev pub drive_at : Path → Drive → Drive
 drive_at path x = driven (source_at path x.source) (at path x.bit)
 
-pub mapped_twice : {A B C : Type 0} (f : A → B) (g : B → C) (xs : List A) → map g (map f xs) ≡ map (λ x. g (f x)) xs
-mapped_twice f g [] = refl
-mapped_twice f g (x ∷ xs) = ap (λ l. g (f x) ∷ l) (mapped_twice f g xs)
-
 pub flat_map_mapped : {A B C : Type 0} (f : A → List B) (g : B → C) (xs : List A) → map g (flat_map f xs) ≡ flat_map (λ x. map g (f x)) xs
 flat_map_mapped f g [] = refl
-flat_map_mapped f g (x ∷ xs) = map_joined g (f x) (flat_map f xs) ∙ ap (λ l. map g (f x) ++ l) (flat_map_mapped f g xs)
+flat_map_mapped f g (x ∷ xs) = map-append g (f x) (flat_map f xs) ∙ ap (λ l. map g (f x) ++ l) (flat_map_mapped f g xs)
 
 -- bits
 
 from_at : (path : Path) (n : List ℕ) (place count : ℕ) → bits_from path n place count ≡ map (at path) (bits_from [] n place count)
-from_at path n place count = sym (mapped_twice (λ (k : ℕ). record { path = []; net = n; place = k }) (at path) (range_with_len place count))
+from_at path n place count = sym (map-twice (λ (k : ℕ). record { path = []; net = n; place = k }) (at path) (range_with_len place count))
 
 mutual
   pub written_at : (path : Path) (m : PlainModule) (e : Expression) → written_bits (scope_of path m) e ≡ map (at path) (written_bits (scope_of [] m) e)
@@ -63,11 +60,11 @@ mutual
   parts_at path m no_part = refl
   parts_at path m (part e rest) =
       ap₂ (λ a b. a ++ b) (written_at path m e) (parts_at path m rest)
-      ∙ sym (map_joined (at path) (written_bits (scope_of [] m) e) (flat_map (λ bits. bits) (of_parts (λ e a. a) (assigned (scope_of [] m)) rest)))
+      ∙ sym (map-append (at path) (written_bits (scope_of [] m) e) (flat_map (λ bits. bits) (of_parts (λ e a. a) (assigned (scope_of [] m)) rest)))
 
 flat_written : (path : Path) (m : PlainModule) (outs : List Expression) → flat_map (written_bits (scope_of path m)) outs ≡ map (at path) (flat_map (written_bits (scope_of [] m)) outs)
 flat_written path m [] = refl
-flat_written path m (e ∷ outs) = ap₂ (λ a b. a ++ b) (written_at path m e) (flat_written path m outs) ∙ sym (map_joined (at path) (written_bits (scope_of [] m) e) (flat_map (written_bits (scope_of [] m)) outs))
+flat_written path m (e ∷ outs) = ap₂ (λ a b. a ++ b) (written_at path m e) (flat_written path m outs) ∙ sym (map-append (at path) (written_bits (scope_of [] m) e) (flat_map (written_bits (scope_of [] m)) outs))
 
 -- drives
 
@@ -88,14 +85,14 @@ construct_at path m (Assignment left right) plain =
     ap₂ (driven_by path) (written_at path m left) (ap (λ n. low_bits n (made_in (scope_of [] m) right (context_width (scope_of [] m) left right)).bits) (ap length (written_at path m left) ∙ length-map (written_bits (scope_of [] m) left) (at path)))
     ∙ zipped_at path (written_bits (scope_of [] m) left) (assigned_terms (scope_of [] m) left right)
 construct_at path m (GateInstance gate outs ins) plain =
-    ap (map (driven (MadeOf path t))) (flat_written path m outs) ∙ mapped_twice (at path) (driven (MadeOf path t)) (flat_map (written_bits (scope_of [] m)) outs)
-    ∙ sym (mapped_twice (driven (MadeOf [] t)) (drive_at path) (flat_map (written_bits (scope_of [] m)) outs))
+    ap (map (driven (MadeOf path t))) (flat_written path m outs) ∙ map-twice (at path) (driven (MadeOf path t)) (flat_map (written_bits (scope_of [] m)) outs)
+    ∙ sym (map-twice (driven (MadeOf [] t)) (drive_at path) (flat_map (written_bits (scope_of [] m)) outs))
   where
     t : Term
     t = gate_gives on_terms gate (terminal_terms (scope_of [] m) ins)
 construct_at path m (SupplyNet high n) plain =
-    ap (map (driven (MadeOf path (term.Const high)))) (from_at path n 0 (range_width (range_of m n))) ∙ mapped_twice (at path) (driven (MadeOf path (term.Const high))) (bits_named (scope_of [] m) n)
-    ∙ sym (mapped_twice (driven (MadeOf [] (term.Const high))) (drive_at path) (bits_named (scope_of [] m) n))
+    ap (map (driven (MadeOf path (term.Const high)))) (from_at path n 0 (range_width (range_of m n))) ∙ map-twice (at path) (driven (MadeOf path (term.Const high))) (bits_named (scope_of [] m) n)
+    ∙ sym (map-twice (driven (MadeOf [] (term.Const high))) (drive_at path) (bits_named (scope_of [] m) n))
 construct_at path m (Register a) plain = absurd plain
 construct_at path m (InputConnection i pin e) plain = absurd plain
 construct_at path m (OutputConnection i pin e) plain = absurd plain

@@ -2,6 +2,7 @@
 -- the boxes, and at their inputs, twice its level in the design with boxes; inside a box a number between those of its
 -- inputs and those of its outputs, and then its level in the module alone. Along each dependence ranks fall.
 use Rattle.std.proofs.Common.{◌≡◌, ◌⊎◌, ℕ, ◌+◌, ◌*◌, ◌<◌, ◌≤◌, Bool, true, false, List, [], ◌∷◌, ◌++◌, map, max, All, Contains, Option, Some, None, inl, inr, refl, sym, ap, ap₂, ◌∙◌, subst, arith, true≢false}
+use Rattle.std.proofs.lemmas.List.{map-append}
 use Rattle.std.specs.List.{enumerate_from, flat_map, list_any, zip}
 use Rattle.std.proofs.lemmas.List.Elements.{All-contains, Contains-append_cases}
 use Rattle.bb_ast.specs.Syntax.{Expression, PlainModule}
@@ -33,7 +34,7 @@ use Rattle.bb_replace.proofs.ReplacedConstructs.{same_constructs}
 use Rattle.bb_replace.proofs.ReplacedDrivers.{bits_driven, distinct_across, distinct_right, driven_flat, drives_flat, drives_in, drives_moved, plain_there, to_distinct}
 use Rattle.bb_replace.proofs.ReplacedModules.{Place, Stays, Goes, place_for}
 use Rattle.bb_replace.proofs.ReplacedRegisters.{Below, input_path, output_path, scope_path, source_there}
-use Rattle.bb_replace.proofs.ReplacedScopes.{changed, map_joined, scopes_same}
+use Rattle.bb_replace.proofs.ReplacedScopes.{changed, scopes_same}
 
 -- the greatest of the levels of some bits, 0 where there are none
 pub greatest : (Bit → ℕ) → List Bit → ℕ
@@ -84,12 +85,12 @@ below_at : (path : Path) (t : Term) → bits_below path t ≡ map (at path) (bit
 below_at path (Const x) = refl
 below_at path (Net n i) = refl
 below_at path (Not x) = below_at path x
-below_at path (And x y) = ap₂ (λ a b. a ++ b) (below_at path x) (below_at path y) ∙ sym (map_joined (at path) (bits_below [] x) (bits_below [] y))
-below_at path (Or x y) = ap₂ (λ a b. a ++ b) (below_at path x) (below_at path y) ∙ sym (map_joined (at path) (bits_below [] x) (bits_below [] y))
-below_at path (Xor x y) = ap₂ (λ a b. a ++ b) (below_at path x) (below_at path y) ∙ sym (map_joined (at path) (bits_below [] x) (bits_below [] y))
+below_at path (And x y) = ap₂ (λ a b. a ++ b) (below_at path x) (below_at path y) ∙ sym (map-append (at path) (bits_below [] x) (bits_below [] y))
+below_at path (Or x y) = ap₂ (λ a b. a ++ b) (below_at path x) (below_at path y) ∙ sym (map-append (at path) (bits_below [] x) (bits_below [] y))
+below_at path (Xor x y) = ap₂ (λ a b. a ++ b) (below_at path x) (below_at path y) ∙ sym (map-append (at path) (bits_below [] x) (bits_below [] y))
 below_at path (Mux x y z) =
-    ap₂ (λ a b. a ++ b) (ap₂ (λ a b. a ++ b) (below_at path x) (below_at path y) ∙ sym (map_joined (at path) (bits_below [] x) (bits_below [] y))) (below_at path z)
-    ∙ sym (map_joined (at path) (bits_below [] x ++ bits_below [] y) (bits_below [] z))
+    ap₂ (λ a b. a ++ b) (ap₂ (λ a b. a ++ b) (below_at path x) (below_at path y) ∙ sym (map-append (at path) (bits_below [] x) (bits_below [] y))) (below_at path z)
+    ∙ sym (map-append (at path) (bits_below [] x ++ bits_below [] y) (bits_below [] z))
 
 driven_terms : (path : Path) (bits : List Bit) (terms : List Term) (x : Drive) (b : Bit) → Contains (driven_by path bits terms) x → Contains (needed x.source) b → (t : Term) × Contains terms t × Contains (bits_below path t) b
 driven_terms path bits terms x b has need =

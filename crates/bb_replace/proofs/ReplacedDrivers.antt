@@ -1,5 +1,7 @@
 -- The drivers of a design, scope by scope; those of a copy of a module are those of the module alone, moved there.
 use Rattle.std.proofs.Common.{◌≡◌, ◌≢◌, ◌⊎◌, ℕ, zero, suc, Bool, true, false, List, [], ◌∷◌, ◌++◌, map, All, AllPairs, Contains, Option, Some, None, inl, inr, refl, sym, ap, ap₂, ◌∙◌, subst, arith, append-nil}
+use Rattle.std.proofs.lemmas.List.{map-append}
+use Rattle.bb_lemmas.proofs.Maps.{map-twice}
 use Rattle.std.specs.List.{filter_map, flat_map}
 use Rattle.std.proofs.lemmas.List.{get_or_default}
 use Rattle.std.proofs.lemmas.List.Elements.{All-contains, Contains-append_cases, Contains-append_left, Contains-append_right}
@@ -13,11 +15,10 @@ use Rattle.bb_design.specs.Drivers.{Drive, Free, driven, driven_bits, drives, dr
 use Rattle.bb_design.specs.Hierarchy.{Design, Path, Scope, below, children, instances_of, is_top, scopes, too_low}
 use Rattle.bb_design.specs.NetBits.{Bit, top_inputs}
 use Rattle.bb_replace.specs.Laws.Replacement.{IsCombinational, alone, scope_of}
-use Rattle.bb_replace.proofs.MovedDrives.{IsPlain, at, construct_at, drive_at, flat_map_mapped, mapped_twice}
+use Rattle.bb_replace.proofs.MovedDrives.{IsPlain, at, construct_at, drive_at, flat_map_mapped}
 use Rattle.bb_replace.proofs.ReplacedConstructs.{free_constructs}
 use Rattle.bb_replace.proofs.ReplacedModules.{combinational_has_none}
 use Rattle.bb_replace.proofs.ReplacedRegisters.{flat_flat}
-use Rattle.bb_replace.proofs.ReplacedScopes.{map_joined}
 
 -- what is driven in a scope
 abbrev pub drives_in : List PlainModule → Scope → List Drive
@@ -35,7 +36,7 @@ free_bits (b ∷ bits) = ap (λ l. b ∷ l) (free_bits bits)
 
 pub driven_flat : (d : Design) → driven_bits d ≡ top_inputs d ++ flat_map (bits_driven d.text) (scopes d)
 driven_flat d =
-    ap (map (λ (x : Drive). x.bit)) (drives_flat d) ∙ map_joined (λ (x : Drive). x.bit) (map (driven Free) (top_inputs d)) (flat_map (drives_in d.text) (scopes d))
+    ap (map (λ (x : Drive). x.bit)) (drives_flat d) ∙ map-append (λ (x : Drive). x.bit) (map (driven Free) (top_inputs d)) (flat_map (drives_in d.text) (scopes d))
     ∙ ap₂ (λ a b. a ++ b) (free_bits (top_inputs d)) (flat_map_mapped (drives_in d.text) (λ (x : Drive). x.bit) (scopes d))
 
 -- a module alone has one scope
@@ -95,7 +96,7 @@ moved_list : (path : Path) (m : PlainModule) (cs : List Construct) → ((c : Con
 moved_list path m [] plain = refl
 moved_list path m (c ∷ cs) plain =
     ap₂ (λ a b. a ++ b) (construct_at path m c (plain c (contains_here c cs))) (moved_list path m cs (λ x has. plain x (contains_there c cs x has)))
-    ∙ sym (map_joined (drive_at path) (drives_at (scope_of [] m, c)) (flat_map drives_at (map (λ c. (scope_of [] m, c)) cs)))
+    ∙ sym (map-append (drive_at path) (drives_at (scope_of [] m, c)) (flat_map drives_at (map (λ c. (scope_of [] m, c)) cs)))
 
 pub drives_moved : (text : List PlainModule) (path : Path) (m : PlainModule) → is_empty m ≡ false → All (λ item. IsCombinational item.body) m.items → drives_in text (scope_of path m) ≡ map (drive_at path) (drives_in (m ∷ []) (scope_of [] m))
 drives_moved text path m contents items =
@@ -107,8 +108,8 @@ drives_moved text path m contents items =
 
 pub bits_moved : (text : List PlainModule) (path : Path) (m : PlainModule) → is_empty m ≡ false → All (λ item. IsCombinational item.body) m.items → bits_driven text (scope_of path m) ≡ map (at path) (bits_driven (m ∷ []) (scope_of [] m))
 bits_moved text path m contents items =
-    ap (map (λ (x : Drive). x.bit)) (drives_moved text path m contents items) ∙ mapped_twice (drive_at path) (λ (x : Drive). x.bit) (drives_in (m ∷ []) (scope_of [] m))
-    ∙ sym (mapped_twice (λ (x : Drive). x.bit) (at path) (drives_in (m ∷ []) (scope_of [] m)))
+    ap (map (λ (x : Drive). x.bit)) (drives_moved text path m contents items) ∙ map-twice (drive_at path) (λ (x : Drive). x.bit) (drives_in (m ∷ []) (scope_of [] m))
+    ∙ sym (map-twice (λ (x : Drive). x.bit) (at path) (drives_in (m ∷ []) (scope_of [] m)))
 
 -- lists without repetition, both ways to say it
 

@@ -1,6 +1,7 @@
 -- A text without faults stays so with modules in place of empty ones, where the modules have no faults by themselves: a
 -- statement asks of other modules for their ports alone.
 use Rattle.std.proofs.Common.{◌≡◌, ◌⊎◌, ℕ, Bool, true, false, List, [], ◌∷◌, ◌++◌, map, length, option_map, Contains, Option, Some, None, inl, inr, refl, sym, ap, ap₂, ◌∙◌, subst, arith}
+use Rattle.std.proofs.lemmas.List.{map-append}
 use Rattle.std.specs.Prelude.{is_none}
 use Rattle.std.specs.List.{enumerate_from, flat_map, list_any}
 use Rattle.std.proofs.lemmas.List.{length-map}
@@ -19,7 +20,6 @@ use Rattle.bb_lemmas.proofs.Members.{contains_cases, contains_here, contains_the
 use Rattle.bb_replace.specs.Laws.Replacement.{AllMayReplace, IsCombinational, MayReplace, replaced}
 use Rattle.bb_replace.proofs.ReplacedModules.{Place, Stays, Goes, named, place_for, same_named}
 use Rattle.bb_replace.proofs.ReplacedPorts.{flat_same, same_pin, same_pin_at}
-use Rattle.bb_replace.proofs.ReplacedScopes.{map_joined}
 
 -- nothing follows from two lists of nothing but nothing
 both_nil : {A : Type 0} (xs ys : List A) → xs ≡ [] → ys ≡ [] → xs ++ ys ≡ []
@@ -30,7 +30,7 @@ each_quiet : {A B C : Type 0} (f : A → C) (g : List A → A → List B) (h : L
 each_quiet f g h before [] quiet e = refl
 each_quiet f g h before (x ∷ xs) quiet e =
     both_nil (h (map f before) (f x)) (each_from h (map f before ++ f x ∷ []) (map f xs)) (quiet before x (contains_here x xs) (left_nil (g before x) (each_from g (before ++ x ∷ []) xs) e))
-    (subst (λ l. each_from h l (map f xs) ≡ []) (map_joined f before (x ∷ [])) (each_quiet f g h (before ++ x ∷ []) xs (λ earlier y has. quiet earlier y (contains_there x xs y has)) (right_nil (g before x) (each_from g (before ++ x ∷ []) xs) e)))
+    (subst (λ l. each_from h l (map f xs) ≡ []) (map-append f before (x ∷ [])) (each_quiet f g h (before ++ x ∷ []) xs (λ earlier y has. quiet earlier y (contains_there x xs y has)) (right_nil (g before x) (each_from g (before ++ x ∷ []) xs) e)))
 
 each_quiet_same : {A B : Type 0} (g h : List A → A → List B) (before xs : List A) → ((earlier : List A) (x : A) → Contains xs x → g earlier x ≡ [] → h earlier x ≡ []) → each_from g before xs ≡ [] → each_from h before xs ≡ []
 each_quiet_same g h before [] quiet e = refl

@@ -1,6 +1,7 @@
 -- The scopes of a design with modules in place of boxes are its scopes, each a copy of what comes in the place of its
 -- module.
 use Rattle.std.proofs.Common.{◌≡◌, ℕ, zero, suc, List, [], ◌∷◌, ◌++◌, map, option_map, Contains, Option, Some, None, refl, sym, ap, ap₂, ◌∙◌, subst}
+use Rattle.std.proofs.lemmas.List.{map-append}
 use Rattle.std.specs.List.{cons_option, filter_map, flat_map}
 use Rattle.bb_ast.specs.Syntax.{PlainModule}
 use Rattle.bb_names.specs.Sites.{module_named}
@@ -21,14 +22,10 @@ filter_mapped {B = B} {C = C} f g h same (x ∷ xs) = ap₂ cons_option (same x)
     by None = refl
     by (Some y) = refl
 
-pub map_joined : {A B : Type 0} (g : A → B) (xs ys : List A) → map g (xs ++ ys) ≡ map g xs ++ map g ys
-map_joined g [] ys = refl
-map_joined g (x ∷ xs) ys = ap (λ l. g x ∷ l) (map_joined g xs ys)
-
 -- lists one after another, of changed elements
 flat_changed : {A B C D : Type 0} (f : A → List B) (g : B → D) (h : A → C) (k : C → List D) (xs : List A) → ((x : A) → Contains xs x → k (h x) ≡ map g (f x)) → flat_map k (map h xs) ≡ map g (flat_map f xs)
 flat_changed f g h k [] same = refl
-flat_changed f g h k (x ∷ xs) same = ap₂ (λ a b. a ++ b) (same x (contains_here x xs)) (flat_changed f g h k xs (λ y has. same y (contains_there x xs y has))) ∙ sym (map_joined g (f x) (flat_map f xs))
+flat_changed f g h k (x ∷ xs) same = ap₂ (λ a b. a ++ b) (same x (contains_here x xs)) (flat_changed f g h k xs (λ y has. same y (contains_there x xs y has))) ∙ sym (map-append g (f x) (flat_map f xs))
 
 placed : (p : Path) (modules : List PlainModule) (o : Option PlainModule) → option_map (scope_of p) (option_map (replaced modules) o) ≡ option_map (changed modules) (option_map (scope_of p) o)
 placed p modules None = refl

@@ -29,7 +29,7 @@ ReplacedWorldsAreWorlds = (modules : List PlainModule) (d : Design) (contents : 
     → IsWorldToo modules d contents w
 
 -- where such contents make a design equivalent to a specification, it stays so with the modules; that it has worlds with
--- them is part of the last law
+-- them is said by the law that it is allowed
 abbrev pub ReplacedStayEquivalent : Type 0
 ReplacedStayEquivalent = (care : Option (List ℕ)) (modules : List PlainModule) (spec imp : Design) (contents : Contents)
     → IsBounded imp → AllMayReplace modules imp.text → AreComputed modules imp contents

@@ -20,8 +20,8 @@ pub fn replaced_stay_equivalent()
     replaced_worlds_are_worlds();
 }
 
-/// A text without faults has none with modules in place of empty ones that stand alone: a statement asks of
-/// other modules for their ports alone.
+/// A text without faults has none with modules in place of empty ones that stand alone: a statement asks of other
+/// modules for their ports alone.
 pub fn replaced_texts_are_sound()
     ensures { ReplacedTextsAreSound }
 {}
@@ -42,7 +42,7 @@ pub fn replaced_are_allowed()
 }
 
 /// Modules for all boxes that compute contents which make the designs equivalent finish the design: what is claimed of
-/// a text that is filled with tables holds of one that is filled with modules.
+/// the design of a filled text holds of it. No text occurs here.
 pub fn modules_finish()
     ensures { ModulesFinish }
 {
